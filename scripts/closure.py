@@ -67,11 +67,11 @@ def declared(module):
 
 
 def defined(path, name):
-    """The definition of a name, which may be a constructor of it."""
+    """The definition of a name, which may be a constructor of it. None if the file lacks it."""
     those = blocks(path)
     if name not in those:
-        name = next(it for it, block in those.items() if re.search(rf"^ +{name} :", block, re.M))
-    return Definition(path, name, counted(those[name], "--"))
+        name = next((it for it, block in those.items() if re.search(rf"^ +{name} :", block, re.M)), None)
+    return name and Definition(path, name, counted(those[name], "--"))
 
 
 def meant(word, path):

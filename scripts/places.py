@@ -7,11 +7,17 @@ from typing import NamedTuple
 
 from common import crates, is_there, paths, read
 from edit_list import edits_of
-from lists import constant_of, encodings, lists
+from lists import constant_of, encodings, lists, snake_of
 
 # Codecs whose rule, and encoders whose bytes, are in a spec file of another name.
 RULE_OF = {"SingleByte": "OneByte", "XUserDefined": "OneByte"}
 SPEC_OF = {"XUserDefined": "SingleByte"}
+# The crate of a recipe's decoders, where it has one.
+CRATE_OF = {
+    "A": "enc_decoder_single_byte", "B": "enc_decoder_single_byte", "C": "enc_decoder_multi_byte",
+    "D": "enc_decoder_multi_byte",
+}
+POINTERS = "crates/enc_index_pointers/specs/Pointers.antt"
 
 
 class Decoder(NamedTuple):
@@ -55,8 +61,11 @@ def lacking_of(decoder):
     """The places that a decoder lacks, and those that its encoder does."""
     name, codecs, encoder, crate, module = decoder
     if not module:
+        crate, module = next(CRATE_OF.get(it.recipe) for it in lists().codecs if it.decoder == name), snake_of(name)
+    if not crate:
         return ["no file of its name in src/ of a family's crate"]
-    wanted = [f"crates/{crate}/specs/{RULE_OF.get(name, name)}.antt", f"crates/test_codecs/src/codecs/{module}.rt"]
+    wanted = [f"crates/{crate}/src/{module}.rt", f"crates/{crate}/specs/{RULE_OF.get(name, name)}.antt"]
+    wanted.append(f"crates/test_codecs/src/codecs/{module}.rt")
     wanted += [f"crates/test_support/src/samples/{constant_of(it).lower()}.rt" for it in codecs]
     missing = [it for it in wanted if not is_there(it)] + without_edit(crate, f"src/{module}.rt")
     return missing + (lacking_of_encoder(encoder, module) if encoder != "-" else []) + unsaid({
@@ -82,9 +91,26 @@ def lacking_of_encoder(encoder, module):
     return missing + unsaid({"docs/PROVED.md": [rf"`{encoder}Encoder`"]})
 
 
+def lacking_of_lookup(lookup):
+    """The places that a look-up of an index lacks."""
+    test = f"crates/test_codecs/src/indexes/{lookup.module}.rt"
+    return ([] if is_there(test) else [test]) + unsaid({POINTERS: [rf"^{lookup.module}_pointer\b"]})
+
+
+def lacking_lines():
+    """The lines of data/codecs.txt that others need: `pairs` of a codec of recipe C or D, and `lookup` of an index."""
+    paired, looked_up = {it.decoder for it in lists().pairs}, {it.index for it in lists().lookups}
+    encoded = {it.decoder for it in lists().codecs if it.encoder != "-"}
+    unpaired = {it.decoder: None for it in lists().codecs if it.recipe in "CD" and it.decoder not in paired}
+    found = [f"{it}: no line `pairs` in data/codecs.txt" for it in unpaired]
+    plain = [it for it in lists().pairs if it.is_plain and it.decoder in encoded and it.index not in looked_up]
+    return found + [f"{it.decoder}: no line `lookup` of its index in data/codecs.txt" for it in plain]
+
+
 def lacking():
-    """The places that codecs lack, and the encodings that have no text for tests."""
-    found = [f"{decoder.name}: {it}" for decoder in decoders() for it in lacking_of(decoder)]
+    """The places that codecs and look-ups lack, and the encodings that have no text for tests."""
+    found = lacking_lines() + [f"{decoder.name}: {it}" for decoder in decoders() for it in lacking_of(decoder)]
+    found += [f"look-up {lookup.name}: {it}" for lookup in lists().lookups for it in lacking_of_lookup(lookup)]
     sampled = {it.decoder for it in lists().pairs if it.characters}
     texts = (read("data/texts.txt") + read("scripts/command-lines")).lower()
     others = [it.name for it in encodings() if it.codec not in sampled]
