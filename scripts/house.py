@@ -38,10 +38,6 @@ def wide_lines(path, text):
     return found
 
 
-def line_at(text, place):
-    return text.count("\n", 0, place) + 1
-
-
 def parameters(text, at):
     """The number of parameters that follow a place, group by group."""
     number = 0
@@ -60,7 +56,7 @@ def unnamed(path, text):
         for it in LOCAL.finditer(block[0]):
             if len(re.findall(rf"(?<![\w.]){it[1]}(?!\w)", block[0])) > 2:
                 found.append((block.start() + it.start(), f"`{it[1]}` is cited more than once, and has one letter"))
-    return [f"{path}:{line_at(text, place)}: {what}" for place, what in found]
+    return [f"{path}:{text.count(chr(10), 0, place) + 1}: {what}" for place, what in found]
 
 
 def names_out_of_date():

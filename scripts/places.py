@@ -13,11 +13,7 @@ from lists import constant_of, encodings, lists, snake_of
 RULE_OF = {"SingleByte": "OneByte", "XUserDefined": "OneByte"}
 SPEC_OF = {"XUserDefined": "SingleByte"}
 # The crate of a recipe's decoders, where it has one.
-CRATE_OF = {
-    "A": "enc_decoder_single_byte", "B": "enc_decoder_single_byte", "C": "enc_decoder_multi_byte",
-    "D": "enc_decoder_multi_byte",
-}
-POINTERS = "crates/enc_index_pointers/specs/Pointers.antt"
+CRATE_OF = dict.fromkeys("AB", "enc_decoder_single_byte") | dict.fromkeys("CD", "enc_decoder_multi_byte")
 
 
 class Decoder(NamedTuple):
@@ -69,11 +65,7 @@ def lacking_of(decoder):
     wanted += [f"crates/test_support/src/samples/{constant_of(it).lower()}.rt" for it in codecs]
     missing = [it for it in wanted if not is_there(it)] + without_edit(crate, f"src/{module}.rt")
     return missing + (lacking_of_encoder(encoder, module) if encoder != "-" else []) + unsaid({
-        "crates/enc_index/src/codec.rt": [rf"^    {it}\b" for it in codecs],
-        "crates/enc_codec/src/variant.rt": [rf"VariantDecoder::{name}\b"],
-        "crates/enc_codec/specs/Variant.antt": [rf"\b{name}\b"],
         "crates/enc_codec/specs/Codecs.antt": [rf"\bcodec_rule [(]?codec\.{it}\b" for it in codecs],
-        "crates/enc_codec/src/lib.rt": [rf"\b{name}Decoder\b"],
         "crates/enc_encode/specs/Encoders.antt": [rf"\bencoder_facts [(]?codec\.{it}\b" for it in codecs],
         "crates/enc_encode/src/choice.rt": [rf"\bCodec::{it}\b" for it in codecs],
         "docs/PROVED.md": [rf"`{name}Decoder`"],
@@ -94,7 +86,8 @@ def lacking_of_encoder(encoder, module):
 def lacking_of_lookup(lookup):
     """The places that a look-up of an index lacks."""
     test = f"crates/test_codecs/src/indexes/{lookup.module}.rt"
-    return ([] if is_there(test) else [test]) + unsaid({POINTERS: [rf"^{lookup.module}_pointer\b"]})
+    own = {"crates/enc_index_pointers/specs/Pointers.antt": [rf"^{lookup.module}_pointer\b"]}
+    return ([] if is_there(test) else [test]) + unsaid(own)
 
 
 def lacking_lines():
