@@ -1,13 +1,8 @@
 use Rattle.std.proofs.Common.{refl, rules}
 use Rattle.std.specs.String.{string_bytes, string_len}
 use Rattle.enc_stream.proofs.EndOfInputLemmas.{has_finished_by}
-<<<<<<< HEAD
-use Rattle.enc_stream.proofs.OutputFullLemmas.{over_text, reports_none, in_front, capacity_stays}
-use Rattle.enc_stream.proofs.OutputFullLemmas.{four_bytes, still_goes_on}
-=======
 use Rattle.enc_stream.proofs.OutputFullLemmas.{over_text, reports_none, in_front, capacity_stays, four_bytes}
 use Rattle.enc_stream.proofs.OutputFullLemmas.{still_goes_on}
->>>>>>> way
 use Rattle.enc_stream.proofs.decoder.Decoder.decode_to_string.Goals as goal
 
 pub unreported-requires : goal.unreported-requires
