@@ -1,4 +1,4 @@
-use Rattle.std.proofs.Common.{◌≡◌, ◌≤◌, ◌∙◌, ◌++◌, ◌+◌, ap, refl, subst, arith, take}
+use Rattle.std.proofs.Common.{◌∙◌, ◌++◌, ◌+◌, ap, refl, subst, arith, take}
 use Rattle.enc_units.specs.Surrogates.{IsFirstUtf16Char}
 use Rattle.enc_units.proofs.Utf16TextLemmas.{text_then_units, text_one, text_stored}
 use Rattle.enc_units.proofs.WriteLoopLemmas.{rest_is}
