@@ -196,16 +196,6 @@ module _ {Means : List ℕ → ℕ → Type 0} (big : Bool) (mean : AreCodeUnits
         written = w;
       })
 
-  -- the same, where they are stored as words
-  pub gathers_words : (n : ℕ) {src units : List ℕ} (words : List ℕ) {before after : List ℕ} → n ≤ 8
-      → 16 ≤ length src
-      → units ≡ units_of_bytes big (take 16 src) → AreScalars (take n units)
-      → ((k : ℕ) → bytes_of_words (take k words) ≡ units_of_text encode_utf8 (take k units))
-      → after ≡ before ++ bytes_of_words (take n words)
-      → GathersChars encode_utf8 Means src (2 * n) before after
-  gathers_words n words {before} h l are_units are_scalars t w =
-      gathers_units n h l are_units are_scalars (w ∙ ap (λ z. before ++ z) (t n))
-
   -- the same in UTF-16, where all eight are stored as they are
   pub gathers_lanes : (n at : ℕ) {read : ℕ} {src units : List ℕ} (buffer : List ℕ) → n ≤ 8
       → 16 ≤ length src - read

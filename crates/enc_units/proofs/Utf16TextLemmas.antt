@@ -7,7 +7,6 @@ use Rattle.std.proofs.lemmas.Bool.Decides.{nat_tests}
 use Rattle.std.proofs.lemmas.List.{take-take}
 use Rattle.std.specs.Char.{IsScalar, encode_utf8}
 use Rattle.std.specs.Char.Utf16.{utf16_lossy_chars}
-use Rattle.enc_units.specs.CodeUnits.{bytes_of_words}
 use Rattle.enc_units.specs.Mappings.{AreWrittenAsUtf8, WritesMapped}
 use Rattle.enc_units.specs.Output.{AreScalars, units_of_text}
 use Rattle.enc_units.specs.Surrogates.{lossy_unit_char, IsSurrogatePair, IsFirstUtf16Char}
@@ -62,7 +61,7 @@ text_then {us} {front} {more} {a} {n} first others = record {
 }
 
 -- the first n code units, where none is a surrogate
-pub text_units : (n : ℕ) {us units : List ℕ} → n ≤ 8 → 8 ≤ length us → units ≡ take 8 us
+text_units : (n : ℕ) {us units : List ℕ} → n ≤ 8 → 8 ≤ length us → units ≡ take 8 us
     → AreScalars (take n units)
     → AreUtf8OfUnits us n (units_of_text encode_utf8 (take n units))
 text_units n {us} {units} few long are_units are_scalars =
@@ -93,15 +92,14 @@ pub text_stored : {us before bytes after : List ℕ} {a n : ℕ} → AreUtf8OfUn
 text_stored {us} {a = a} {n = n} first others stored =
     subst (AreUtf8OfUnits us (a + n)) (sym stored) (text_then first others)
 
--- in a buffer, where they are stored as words
-pub text_words : (n : ℕ) {us units before after : List ℕ} {a : ℕ} (words : List ℕ)
+-- in a buffer, those of one code unit each
+pub text_then_units : (n : ℕ) {us units before after : List ℕ} {a : ℕ}
     → AreUtf8OfUnits us a before → n ≤ 8 → 8 ≤ length us - a → units ≡ take 8 (drop a us)
     → AreScalars (take n units)
-    → bytes_of_words (take n words) ≡ units_of_text encode_utf8 (take n units)
-    → after ≡ before ++ bytes_of_words (take n words) → AreUtf8OfUnits us (a + n) after
-text_words n {us} {before = before} {a = a} words first few long are_units are_scalars utf8 stored =
+    → after ≡ before ++ units_of_text encode_utf8 (take n units) → AreUtf8OfUnits us (a + n) after
+text_then_units n {us} {a = a} first few long are_units are_scalars stored =
     text_stored first (text_units n few (omega (arith, length-drop a us)) are_units are_scalars)
-    (stored ∙ ap (λ z. before ++ z) utf8)
+    stored
 
 -- they are written to a slice
 pub maps_text : {Means : List ℕ → ℕ → Type 0} {us bytes before after : List ℕ} {at n k : ℕ}

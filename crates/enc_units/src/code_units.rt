@@ -34,7 +34,7 @@ fn units_in(bytes: u8x16, big_endian: bool) -> u16x8
 
 /// Returns whether all of eight code units are ASCII.
 #[inline(always)]
-pub(crate) fn are_ascii_units(units: u16x8) -> bool
+fn are_ascii_units(units: u16x8) -> bool
     ensures { IsTrue result → AreAscii units }
 {
     units.simd_ge(u16x8::splat(0x80)).to_bitmask() == 0
@@ -54,7 +54,7 @@ fn are_scalars(units: u16x8) -> bool
 
 /// Returns how many of eight code units come before the first surrogate.
 #[inline(always)]
-pub(crate) fn units_before_surrogate(units: u16x8) -> usize
+fn units_before_surrogate(units: u16x8) -> usize
     ensures bound { result ≤ 8 }
     ensures scalars { AreScalars (take result units) }
     ensures alone { (n : ℕ) → units_of_text encode_utf16 (take n units) ≡ take n units }
@@ -100,7 +100,7 @@ fn rests(units: u16x8) -> u16x8
 /// Returns the UTF-8 of each code unit as a word: its bytes, the first lowest, and their number in
 /// the highest byte.
 #[inline(always)]
-pub(crate) fn words_of(units: u16x8) -> [u32; 8]
+fn words_of(units: u16x8) -> [u32; 8]
     ensures bound { All (λ word. word / 0x1000000 ≤ 4) result }
     ensures utf8 { (n : ℕ) → bytes_of_words (take n result)
         ≡ units_of_text encode_utf8 (take n units) }
@@ -112,7 +112,7 @@ pub(crate) fn words_of(units: u16x8) -> [u32; 8]
 /// Stores the bytes of the first `len` words after the first `at` bytes of a buffer. Returns their
 /// end.
 #[inline(always)]
-pub(crate) fn store_words(buffer: &mut [u8], at: usize, words: [u32; 8], len: usize) -> usize
+fn store_words(buffer: &mut [u8], at: usize, words: [u32; 8], len: usize) -> usize
     requires room { at + 32 ≤ length buffer.old }
     requires len { len ≤ 8 }
     requires words { All (λ word. word / 0x1000000 ≤ 4) words }
@@ -128,6 +128,31 @@ pub(crate) fn store_words(buffer: &mut [u8], at: usize, words: [u32; 8], len: us
         count += 1;
     }
     end
+}
+
+/// Stores the UTF-8 of the code units before the first surrogate after the first `at` bytes of a
+/// buffer. Returns their number and the end of their UTF-8.
+#[inline(always)]
+pub(crate) fn store_scalars(buffer: &mut [u8], at: usize, units: u16x8) -> (usize, usize)
+    requires { at + 32 ≤ length buffer.old }
+    ensures few { result.0 ≤ 8 }
+    ensures bound { result.1 ≤ at + 32 }
+    ensures len { length buffer.new ≡ length buffer.old }
+    ensures scalars { AreScalars (take result.0 units) }
+    ensures stored { take result.1 buffer.new
+        ≡ take at buffer.old ++ units_of_text encode_utf8 (take result.0 units) }
+{
+    if are_ascii_units(units) {
+        units.cast::<u8>().copy_to_slice(&mut buffer[at..]);
+        return (8, at + 8);
+    }
+    let words = words_of(units);
+    let count = units_before_surrogate(units);
+    if count == 8 {
+        // with a constant length the loop has no branch
+        return (8, store_words(buffer, at, words, 8));
+    }
+    (count, store_words(buffer, at, words, count))
 }
 
 /// Characters of one code unit, and others one by one.
@@ -159,22 +184,12 @@ impl<P: Pieces> Gather for CodeUnits<P> {
         let mut written = 0;
         while written <= most && 32 <= src.len() - read {
             let units = units_in(u8x16::from_slice(&src[read..]), self.big_endian);
-            if are_ascii_units(units) {
-                units.cast::<u8>().copy_to_slice(&mut buffer[written..]);
-                read += 16;
-                written += 8;
-                continue;
-            }
-            let words = words_of(units);
-            let count = units_before_surrogate(units);
-            if count == 8 {
-                // with a constant length the loop has no branch
-                written = store_words(buffer, written, words, 8);
-                read += 16;
-                continue;
-            }
-            written = store_words(buffer, written, words, count);
+            let (count, end) = store_scalars(buffer, written, units);
             read += 2 * count;
+            written = end;
+            if count == 8 {
+                continue;
+            }
             let Some((character, len)) = self.pieces.piece(src, read) else {
                 break;
             };

@@ -5,7 +5,7 @@ ghost use Rattle.std.specs.Char.Utf16.{utf16_lossy_chars};
 ghost use Rattle.enc_units.specs.Mappings.{AreWrittenAsUtf8, WritesMapped};
 ghost use Rattle.enc_units.specs.Utf16Text.{AreUtf8OfUnits};
 
-use crate::code_units::{STEP, are_ascii_units, store_words, units_before_surrogate, words_of};
+use crate::code_units::{STEP, store_scalars};
 use crate::gather::{BUFFER, store_text, utf8_of};
 use crate::mapping::Mapping;
 use crate::utf16_chars::first;
@@ -35,22 +35,12 @@ fn gather_text(buffer: &mut [u8], room: usize, src: &[u16]) -> (usize, usize)
     let mut written = 0;
     while written <= most && 8 <= src.len() - read {
         let units = u16x8::from_slice(&src[read..]);
-        if are_ascii_units(units) {
-            units.cast::<u8>().copy_to_slice(&mut buffer[written..]);
-            read += 8;
-            written += 8;
-            continue;
-        }
-        let words = words_of(units);
-        let count = units_before_surrogate(units);
-        if count == 8 {
-            // with a constant length the loop has no branch
-            written = store_words(buffer, written, words, 8);
-            read += 8;
-            continue;
-        }
-        written = store_words(buffer, written, words, count);
+        let (count, end) = store_scalars(buffer, written, units);
         read += count;
+        written = end;
+        if count == 8 {
+            continue;
+        }
         let Some((character, width)) = first(&src[read..]) else {
             break;
         };
