@@ -2,14 +2,14 @@
 //!
 //! Written by scripts/make-sources from data/templates: change the text there, and not this file.
 
-use enc_decoder::{RawDecoder, TextLengths};
+use enc_decoder::{DecodeOutcome, DecodeStop, ErrorMode, RawDecoder, TextLengths};
 use enc_decoder_iso_2022_jp::Iso2022JpDecoder;
 use enc_decoder_multi_byte::{
     Big5Decoder, EucJpDecoder, EucKrDecoder, Gb18030Decoder, ShiftJisDecoder,
 };
 use enc_decoder_single_byte::{ReplacementDecoder, SingleByteDecoder, XUserDefinedDecoder};
 use enc_decoder_utf::{Utf8Decoder, Utf16Decoder};
-use enc_units::{DecoderResult, Units};
+use enc_units::Units;
 
 /// A decoder of any encoding. It does what the decoder in it does.
 #[derive(Clone, Copy)]
@@ -69,9 +69,9 @@ impl RawDecoder for VariantDecoder {
         src: &[u8],
         out: &mut U,
         last: bool,
-        fault_room: bool,
-    ) -> (DecoderResult, usize) {
-        by_decoder!(self, decoder => decoder.decode(src, out, last, fault_room))
+        mode: ErrorMode,
+    ) -> DecodeStop {
+        by_decoder!(self, decoder => decoder.decode(src, out, last, mode))
     }
 
     fn decode_replacing<U: Units>(
@@ -79,7 +79,7 @@ impl RawDecoder for VariantDecoder {
         src: &[u8],
         out: &mut U,
         last: bool,
-    ) -> (DecoderResult, usize, bool) {
+    ) -> DecodeOutcome {
         by_decoder!(self, decoder => decoder.decode_replacing(src, out, last))
     }
 

@@ -2,24 +2,41 @@
 
 ghost use Rattle.std.specs.Prelude.{◌≡◌, ℕ, ◌+◌, ◌-◌, ◌≤◌, ◌++◌, length};
 ghost use Rattle.enc_decoder.specs.CodecState.{remainder_of};
-ghost use Rattle.enc_decoder.specs.Call.{reaches_end as ends};
+ghost use Rattle.enc_decoder.specs.Call.{DecoderCallInto, reaches_end as ends};
 ghost use Rattle.enc_decoder.specs.Converting.{PrefixedCallInto, ReadsHeldFirst, shifted_result};
-ghost use Rattle.enc_decoder.specs.Replacing.{decode_error_mode};
+ghost use Rattle.enc_decoder.specs.Replacing.{replaces, decode_error_mode};
 
 use crate::RawDecoder;
+use crate::error_mode::{CallOptions, ErrorMode};
+use crate::outcome::{DecodeOutcome, HeldFirstOutcome};
 use enc_units::{DecoderResult, Units};
 
-/// The result of a conversion.
-#[derive(Clone, Copy)]
-pub struct Converted {
-    /// Why it stopped.
-    pub result: DecoderResult,
-    /// The number of held bytes not read.
-    pub left: usize,
-    /// The number of other bytes read.
-    pub read: usize,
-    /// Whether a malformed sequence was replaced.
-    pub replaced: bool,
+/// Decodes a chunk in either error mode. Takes no memory.
+#[inline(always)]
+fn decode_chunk<D: RawDecoder, U: Units>(
+    codec: &mut D,
+    src: &[u8],
+    out: &mut U,
+    options: CallOptions,
+) -> DecodeOutcome
+    ensures call { DecoderCallInto U.units_of (remainder_of (D.state codec.old))
+        (remainder_of (D.state codec.new)) src.now options.last
+        (decode_error_mode (replaces options.mode)) (U.output out.old) (U.output out.new)
+        result.result result.read result.replaced }
+    ensures rule { (D.state codec.new).rule ≡ (D.state codec.old).rule }
+    ensures formulas { D.formulas codec.new ≡ D.formulas codec.old }
+{
+    match options.mode {
+        ErrorMode::Replacement => codec.decode_replacing(src, out, options.last),
+        ErrorMode::Fatal => {
+            let stop = codec.decode(src, out, options.last, ErrorMode::Fatal);
+            DecodeOutcome {
+                result: stop.result,
+                read: stop.read,
+                replaced: false,
+            }
+        }
+    }
 }
 
 /// Decodes the held bytes and then those of `src`, as if they came together. Takes no memory.
@@ -28,13 +45,12 @@ pub fn convert<D: RawDecoder, U: Units>(
     held: &[u8],
     src: &[u8],
     out: &mut U,
-    last: bool,
-    replace: bool,
-) -> Converted
+    options: CallOptions,
+) -> HeldFirstOutcome
     ensures call { PrefixedCallInto U.units_of (remainder_of (D.state codec.old))
-        (remainder_of (D.state codec.new)) (held.now ++ src.now) last (decode_error_mode replace)
-        (U.output out.old) (U.output out.new) result.result
-        (length held.now - result.left + result.read) result.replaced }
+        (remainder_of (D.state codec.new)) (held.now ++ src.now) options.last
+        (decode_error_mode (replaces options.mode)) (U.output out.old) (U.output out.new)
+        result.result (length held.now - result.left + result.read) result.replaced }
     ensures reads { ReadsHeldFirst held.now src.now result.left result.read }
     ensures rule { (D.state codec.new).rule ≡ (D.state codec.old).rule }
     ensures formulas { D.formulas codec.new ≡ D.formulas codec.old }
@@ -42,33 +58,27 @@ pub fn convert<D: RawDecoder, U: Units>(
     let mut had = false;
     if !held.is_empty() {
         let alone = src.is_empty();
-        let (result, given, replaced) = if replace {
-            codec.decode_replacing(held, out, alone & last)
-        } else {
-            let (result, given) = codec.decode(held, out, alone & last, false);
-            (result, given, false)
+        let of_held = CallOptions {
+            last: alone & options.last,
+            mode: options.mode,
         };
-        if alone | (result != DecoderResult::InputEmpty) {
-            return Converted {
-                result,
-                left: held.len() - given,
+        let first = decode_chunk(codec, held, out, of_held);
+        if alone | (first.result != DecoderResult::InputEmpty) {
+            return HeldFirstOutcome {
+                result: first.result,
+                left: held.len() - first.read,
                 read: 0,
-                replaced,
+                replaced: first.replaced,
             };
         }
-        had = replaced;
+        had = first.replaced;
     }
-    let (result, read, replaced) = if replace {
-        codec.decode_replacing(src, out, last)
-    } else {
-        let (result, read) = codec.decode(src, out, last, false);
-        (result, read, false)
-    };
-    Converted {
-        result,
+    let then = decode_chunk(codec, src, out, options);
+    HeldFirstOutcome {
+        result: then.result,
         left: 0,
-        read,
-        replaced: had | replaced,
+        read: then.read,
+        replaced: had | then.replaced,
     }
 }
 

@@ -3,18 +3,22 @@
 #![tactic(auto)]
 
 mod byte_codec;
+mod error_mode;
 mod held_first;
 mod latin1;
 mod machine;
+mod outcome;
 mod pending;
 mod raw_decoder;
 mod replaced;
 mod text_lengths;
 
 pub use byte_codec::{ByteCodec, Emission, HandlerResult, Kind, Text};
-pub use held_first::{Converted, convert, reaches_end, shift_malformed};
+pub use error_mode::{CallOptions, ErrorMode};
+pub use held_first::{convert, reaches_end, shift_malformed};
 pub use latin1::latin1_up_to;
 pub use machine::{report_or_run, run};
+pub use outcome::{DecodeOutcome, DecodeStop, HeldFirstOutcome};
 pub use pending::Pending;
 pub use raw_decoder::RawDecoder;
 pub use replaced::replace_each;

@@ -7,10 +7,13 @@ ghost use Rattle.enc_decoder.specs.CodecState.{remainder_of};
 ghost use Rattle.enc_decoder.specs.CodecLaw.{IsNextEvent, text_chars, lone_fault};
 ghost use Rattle.enc_decoder.specs.declared.machine.NextEvent.TheVariants as comings;
 ghost use Rattle.enc_decoder.specs.Call.{DecoderCallInto, Fatal};
+ghost use Rattle.enc_decoder.specs.Replacing.{replaces};
 ghost use Rattle.enc_decoder.specs.Need.{MeetsDecodeNeedInto};
 ghost use Rattle.enc_decoder.specs.Sequence.{is_malformed as malformed_kind};
 
 use crate::byte_codec::{ByteCodec, Emission, HandlerResult, Kind, Text};
+use crate::error_mode::ErrorMode;
+use crate::outcome::DecodeStop;
 use enc_units::{DecoderResult, Units};
 
 /// The next event of a call.
@@ -121,44 +124,44 @@ fn put_out<U: Units>(out: &mut U, kind: Kind, text: Text) -> bool
     put_text(out, text)
 }
 
-/// Returns whether a sequence is to be reported: it is malformed, and U+FFFD fits or `fault_room`
-/// is false.
-fn is_reported<U: Units>(out: &U, kind: Kind, fault_room: bool) -> bool
+/// Returns whether a sequence is to be reported: it is malformed, and U+FFFD fits if it is to be
+/// written for it.
+fn is_reported<U: Units>(out: &U, kind: Kind, mode: ErrorMode) -> bool
     ensures malformed { IsTrue result → malformed_kind kind ≡ true }
-    ensures room { IsTrue result → fault_room ≡ true →
+    ensures room { IsTrue result → replaces mode ≡ true →
         length (U.units_of 0xFFFD) ≤ (U.output out.now).room }
-    ensures asked { IsFalse result → malformed_kind kind ≡ true → fault_room ≡ true }
+    ensures asked { IsFalse result → malformed_kind kind ≡ true → replaces mode ≡ true }
     ensures full { IsFalse result → malformed_kind kind ≡ true →
         (U.output out.now).room < length (U.units_of 0xFFFD) }
 {
     if !kind.is_malformed() {
         return false;
     }
-    if !fault_room {
-        return true;
+    match mode {
+        ErrorMode::Fatal => true,
+        ErrorMode::Replacement => out.room() >= U::width('\u{FFFD}'),
     }
-    out.room() >= U::width('\u{FFFD}')
 }
 
 /// Decodes by a codec that takes one byte at a time: the loop of every decoder's call.
 ///
-/// It stops when all input is read, the next sequence does not fit, or one is malformed. With
-/// `fault_room` a malformed sequence is reported only if U+FFFD fits, and otherwise the output is
-/// full. Takes no memory.
+/// It stops when all input is read, the next sequence does not fit, or one is malformed. In error
+/// mode "replacement" a malformed sequence is reported only if U+FFFD fits, and otherwise the output
+/// is full. Takes no memory.
 pub fn run<C: ByteCodec, U: Units>(
     codec: &mut C,
     src: &[u8],
     out: &mut U,
     last: bool,
-    fault_room: bool,
-) -> (DecoderResult, usize)
+    mode: ErrorMode,
+) -> DecodeStop
     ensures call { DecoderCallInto U.units_of (remainder_of (C.state codec.old))
-        (remainder_of (C.state codec.new)) src.now last (Fatal fault_room) (U.output out.old)
-        (U.output out.new) result.0 result.1 false }
+        (remainder_of (C.state codec.new)) src.now last (Fatal (replaces mode)) (U.output out.old)
+        (U.output out.new) result.result result.read false }
     ensures rule { (C.state codec.new).rule ≡ (C.state codec.old).rule }
-    ensures need { MeetsDecodeNeedInto U.units_of (Fatal fault_room)
+    ensures need { MeetsDecodeNeedInto U.units_of (Fatal (replaces mode))
         (remainder_of (C.state codec.old)) (remainder_of (C.state codec.new)) src.now last
-        (U.output out.old) (U.output out.new) result.0 result.1 }
+        (U.output out.old) (U.output out.new) result.result result.read }
 {
     let mut state = *codec;
     let mut read = 0;
@@ -170,7 +173,10 @@ pub fn run<C: ByteCodec, U: Units>(
         let shown = match what_comes(state, src, read, last) {
             NextEvent::NeedsInput => {
                 *codec = state;
-                return (DecoderResult::InputEmpty, read);
+                return DecodeStop {
+                    result: DecoderResult::InputEmpty,
+                    read,
+                };
             }
             NextEvent::HoldsByte(next) => {
                 state = next;
@@ -180,13 +186,19 @@ pub fn run<C: ByteCodec, U: Units>(
             NextEvent::Emits(shown) => shown,
         };
         let end = if shown.takes_byte { read + 1 } else { read };
-        if is_reported(out, shown.kind, fault_room) {
+        if is_reported(out, shown.kind, mode) {
             *codec = shown.next;
-            return (DecoderResult::Malformed(shown.len, shown.next.held()), end);
+            return DecodeStop {
+                result: DecoderResult::Malformed(shown.len, shown.next.held()),
+                read: end,
+            };
         }
         if !put_out(out, shown.kind, shown.text) {
             *codec = state;
-            return (DecoderResult::OutputFull, read);
+            return DecodeStop {
+                result: DecoderResult::OutputFull,
+                read,
+            };
         }
         state = shown.next;
         read = end;
@@ -200,17 +212,17 @@ fn run_apart<C: ByteCodec, U: Units>(
     src: &[u8],
     out: &mut U,
     last: bool,
-    fault_room: bool,
-) -> (DecoderResult, usize)
+    mode: ErrorMode,
+) -> DecodeStop
     ensures call { DecoderCallInto U.units_of (remainder_of (C.state codec.old))
-        (remainder_of (C.state codec.new)) src.now last (Fatal fault_room) (U.output out.old)
-        (U.output out.new) result.0 result.1 false }
+        (remainder_of (C.state codec.new)) src.now last (Fatal (replaces mode)) (U.output out.old)
+        (U.output out.new) result.result result.read false }
     ensures rule { (C.state codec.new).rule ≡ (C.state codec.old).rule }
-    ensures need { MeetsDecodeNeedInto U.units_of (Fatal fault_room)
+    ensures need { MeetsDecodeNeedInto U.units_of (Fatal (replaces mode))
         (remainder_of (C.state codec.old)) (remainder_of (C.state codec.new)) src.now last
-        (U.output out.old) (U.output out.new) result.0 result.1 }
+        (U.output out.old) (U.output out.new) result.result result.read }
 {
-    run(codec, src, out, last, fault_room)
+    run(codec, src, out, last, mode)
 }
 
 /// Does the same for a codec whose runs are long code.
@@ -223,19 +235,22 @@ pub fn report_or_run<C: ByteCodec, U: Units>(
     src: &[u8],
     out: &mut U,
     last: bool,
-    fault_room: bool,
-) -> (DecoderResult, usize)
+    mode: ErrorMode,
+) -> DecodeStop
     ensures call { DecoderCallInto U.units_of (remainder_of (C.state codec.old))
-        (remainder_of (C.state codec.new)) src.now last (Fatal fault_room) (U.output out.old)
-        (U.output out.new) result.0 result.1 false }
+        (remainder_of (C.state codec.new)) src.now last (Fatal (replaces mode)) (U.output out.old)
+        (U.output out.new) result.result result.read false }
     ensures rule { (C.state codec.new).rule ≡ (C.state codec.old).rule }
-    ensures need { MeetsDecodeNeedInto U.units_of (Fatal fault_room)
+    ensures need { MeetsDecodeNeedInto U.units_of (Fatal (replaces mode))
         (remainder_of (C.state codec.old)) (remainder_of (C.state codec.new)) src.now last
-        (U.output out.old) (U.output out.new) result.0 result.1 }
+        (U.output out.old) (U.output out.new) result.result result.read }
 {
     let state = *codec;
-    if is_at_lone_fault(state, src, 0) && is_reported(out, Kind::Malformed, fault_room) {
-        return (DecoderResult::Malformed(1, state.held()), 1);
+    if is_at_lone_fault(state, src, 0) && is_reported(out, Kind::Malformed, mode) {
+        return DecodeStop {
+            result: DecoderResult::Malformed(1, state.held()),
+            read: 1,
+        };
     }
-    run_apart(codec, src, out, last, fault_room)
+    run_apart(codec, src, out, last, mode)
 }

@@ -3,6 +3,7 @@
 ghost use Rattle.std.specs.Prelude.{◌≡◌, ◌≤◌, true, false, length};
 ghost use Rattle.enc_decoder.specs.CodecState.{CodecState, remainder_of};
 ghost use Rattle.enc_decoder.specs.Call.{DecoderCallInto, Replacement, Fatal};
+ghost use Rattle.enc_decoder.specs.Replacing.{replaces};
 ghost use Rattle.enc_decoder.specs.Latin1.{AnswersCodecLatin1};
 ghost use Rattle.enc_decoder.specs.RuleLaws.{IsLawfulRule};
 ghost use Rattle.enc_decoder.specs.Taking.{TakesSequences};
@@ -10,6 +11,8 @@ ghost use Rattle.enc_decoder.specs.Need.{MeetsDecodeNeedInto, AreEnoughForCodec}
 ghost use Rattle.enc_decoder.specs.Lengths.{utf_8_length, reporting_length, utf_16_length};
 ghost use Rattle.enc_decoder.specs.declared.text_lengths.TextLengths.{TextLengths};
 
+use crate::error_mode::ErrorMode;
+use crate::outcome::{DecodeOutcome, DecodeStop};
 use crate::text_lengths::TextLengths;
 use enc_units::{DecoderResult, Units};
 
@@ -24,29 +27,30 @@ pub trait RawDecoder: Copy {
     // the formulas for lengths to allocate
     ghost formulas: { Self → TextLengths };
 
-    /// Decodes a chunk, without replacement (Encoding Standard 4.1, error mode "fatal").
+    /// Decodes a chunk up to a malformed sequence, which it reports (Encoding Standard 4.1, "process
+    /// a queue").
     ///
     /// It stops when all of `src` is read, the next sequence does not fit into `out`, or one is
-    /// malformed. With `last` nothing follows `src`. With `fault_room` a malformed sequence is
-    /// reported only if U+FFFD fits into `out`, and otherwise the output is full. Returns why it
-    /// stopped, and the number of bytes read. Takes no memory.
+    /// malformed. With `last` nothing follows `src`. In error mode "replacement", in which the
+    /// caller writes U+FFFD for it, a malformed sequence is reported only if U+FFFD fits into `out`,
+    /// and otherwise the output is full. Takes no memory.
     fn decode<U: Units>(
         &mut self,
         src: &[u8],
         out: &mut U,
         last: bool,
-        fault_room: bool,
-    ) -> (DecoderResult, usize)
+        mode: ErrorMode,
+    ) -> DecodeStop
         ensures call { DecoderCallInto U.units_of (remainder_of (state self.old))
-            (remainder_of (state self.new)) src.now last (Fatal fault_room) (U.output out.old)
-            (U.output out.new) result.0 result.1 false }
+            (remainder_of (state self.new)) src.now last (Fatal (replaces mode)) (U.output out.old)
+            (U.output out.new) result.result result.read false }
         ensures rule { (state self.new).rule ≡ (state self.old).rule }
 
-        // The output is full exactly if the call needs more room than there is. With `fault_room`
-        // it needs that of U+FFFD too.
-        ensures need { MeetsDecodeNeedInto U.units_of (Fatal fault_room)
+        // The output is full exactly if the call needs more room than there is. In error mode
+        // "replacement" it needs that of U+FFFD too.
+        ensures need { MeetsDecodeNeedInto U.units_of (Fatal (replaces mode))
             (remainder_of (state self.old)) (remainder_of (state self.new)) src.now last
-            (U.output out.old) (U.output out.new) result.0 result.1 }
+            (U.output out.old) (U.output out.new) result.result result.read }
         ensures formulas { formulas self.new ≡ formulas self.old }
 
         // A valid sequence is determined by its own bytes, and any other by three more at most, or
@@ -71,20 +75,15 @@ pub trait RawDecoder: Copy {
 
     /// Decodes a chunk, with replacement (Encoding Standard 4.1, error mode "replacement").
     ///
-    /// It stops when all of `src` is read or the next sequence does not fit into `out`. Returns why
-    /// it stopped, the number of bytes read, and whether a sequence was replaced. Takes no memory.
+    /// It stops when all of `src` is read or the next sequence does not fit into `out`. Takes no
+    /// memory.
     ///
     /// A decoder that is one of several leaves the whole call to that one, so that it is not chosen
     /// anew after each malformed sequence.
-    fn decode_replacing<U: Units>(
-        &mut self,
-        src: &[u8],
-        out: &mut U,
-        last: bool,
-    ) -> (DecoderResult, usize, bool)
+    fn decode_replacing<U: Units>(&mut self, src: &[u8], out: &mut U, last: bool) -> DecodeOutcome
         ensures call { DecoderCallInto U.units_of (remainder_of (state self.old))
             (remainder_of (state self.new)) src.now last Replacement (U.output out.old)
-            (U.output out.new) result.0 result.1 result.2 }
+            (U.output out.new) result.result result.read result.replaced }
         ensures rule { (state self.new).rule ≡ (state self.old).rule }
         ensures formulas { formulas self.new ≡ formulas self.old }
         ensures lawful { IsLawfulRule (state self.old).rule }
@@ -93,11 +92,15 @@ pub trait RawDecoder: Copy {
         let mut replaced = false;
         loop {
             let (_, rest) = src.split_at(read);
-            let (result, more) = self.decode(rest, out, last, true);
-            read += more;
-            // one place that makes the tuple: of two, each would copy its padding through memory
-            let DecoderResult::Malformed(_, _) = result else {
-                return (result, read, replaced);
+            let stop = self.decode(rest, out, last, ErrorMode::Replacement);
+            read += stop.read;
+            // one place that makes the outcome: of two, each would copy its padding through memory
+            let DecoderResult::Malformed(_, _) = stop.result else {
+                return DecodeOutcome {
+                    result: stop.result,
+                    read,
+                    replaced,
+                };
             };
             let _ = out.put('\u{FFFD}');
             replaced = true;

@@ -22,13 +22,13 @@ ghost use Rattle.enc_decoder.specs.Taking.{TakesRun};
 
 use crate::replaced_ascii::{ReplacedAscii, has_many_malformed};
 use enc_decoder::{
-    ByteCodec, Emission, HandlerResult, Kind, RawDecoder, Text, TextLengths, latin1_up_to,
+    ByteCodec, DecodeStop, Emission, ErrorMode, HandlerResult, Kind, RawDecoder, Text, TextLengths, latin1_up_to,
     report_or_run,
 };
 use enc_index::DoubleByteIndex;
 use enc_index::indexes::Jis0208Index;
 use enc_units::{
-    DecoderResult, Pieces, Places, Units, numbers_in, places_at, put_run, unshifted_len,
+    Pieces, Places, Units, numbers_in, places_at, put_run, unshifted_len,
 };
 use std::marker::Model;
 use std::simd::prelude::*;
@@ -749,9 +749,9 @@ impl RawDecoder for Iso2022JpDecoder {
         src: &[u8],
         out: &mut U,
         last: bool,
-        fault_room: bool,
-    ) -> (DecoderResult, usize) {
-        report_or_run(self, src, out, last, fault_room)
+        mode: ErrorMode,
+    ) -> DecodeStop {
+        report_or_run(self, src, out, last, mode)
     }
 
     /// In ASCII each byte but 1B is a character or malformed by itself.

@@ -11,11 +11,11 @@ ghost use Rattle.enc_decoder_multi_byte.specs.MultiByte.{ArePrefixes, IsCharPair
 ghost use Rattle.enc_decoder_multi_byte.specs.MultiByte.{multi_byte_rule, IsMalformedFront};
 
 use enc_decoder::{
-    ByteCodec, Emission, HandlerResult, Kind, Pending, RawDecoder, Text, TextLengths, latin1_up_to,
+    ByteCodec, DecodeStop, Emission, ErrorMode, HandlerResult, Kind, Pending, RawDecoder, Text, TextLengths, latin1_up_to,
     replace_each, run,
 };
 use enc_index::DoubleByteIndex;
-use enc_units::{DecoderResult, Pieces, Places, Units, put_run};
+use enc_units::{Pieces, Places, Units, put_run};
 use std::marker::PhantomData;
 use std::simd::prelude::*;
 
@@ -336,10 +336,10 @@ impl<E: MultiByte> RawDecoder for MultiByteDecoder<E> {
         src: &[u8],
         out: &mut U,
         last: bool,
-        fault_room: bool,
-    ) -> (DecoderResult, usize) {
+        mode: ErrorMode,
+    ) -> DecodeStop {
         E::laws();
-        run(self, src, out, last, fault_room)
+        run(self, src, out, last, mode)
     }
 
     /// Where runs of random bytes are long, it takes none.

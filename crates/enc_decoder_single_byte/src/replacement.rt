@@ -2,8 +2,8 @@
 
 ghost use Rattle.std.specs.Prelude.{◌≡◌, true, false};
 
-use enc_decoder::{ByteCodec, Emission, HandlerResult, Kind, RawDecoder, Text, TextLengths, run};
-use enc_units::{DecoderResult, Units};
+use enc_decoder::{ByteCodec, DecodeStop, Emission, ErrorMode, HandlerResult, Kind, RawDecoder, Text, TextLengths, run};
+use enc_units::Units;
 use std::marker::Model;
 
 /// The replacement decoder, for text that cannot be decoded safely (Encoding Standard 14.1).
@@ -92,9 +92,9 @@ impl RawDecoder for ReplacementDecoder {
         src: &[u8],
         out: &mut U,
         last: bool,
-        fault_room: bool,
-    ) -> (DecoderResult, usize) {
-        run(self, src, out, last, fault_room)
+        mode: ErrorMode,
+    ) -> DecodeStop {
+        run(self, src, out, last, mode)
     }
 
     fn held(&self) -> usize {

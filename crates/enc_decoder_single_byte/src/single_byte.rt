@@ -7,9 +7,9 @@ ghost use Rattle.enc_index.specs.Grid.{HasWord};
 ghost use Rattle.enc_index.specs.Runs.{single_byte_runs};
 
 use crate::one_byte::show_byte;
-use enc_decoder::{ByteCodec, Emission, HandlerResult, RawDecoder, TextLengths, latin1_up_to, run};
+use enc_decoder::{ByteCodec, DecodeStop, Emission, ErrorMode, HandlerResult, RawDecoder, TextLengths, latin1_up_to, run};
 use enc_index::SingleByteIndex;
-use enc_units::{DecoderResult, Pieces, Units, put_run};
+use enc_units::{Pieces, Units, put_run};
 
 /// The decoder of a legacy single-byte encoding, by its index (Encoding Standard 9.1).
 ///
@@ -145,9 +145,9 @@ impl RawDecoder for SingleByteDecoder {
         src: &[u8],
         out: &mut U,
         last: bool,
-        fault_room: bool,
-    ) -> (DecoderResult, usize) {
-        run(self, src, out, last, fault_room)
+        mode: ErrorMode,
+    ) -> DecodeStop {
+        run(self, src, out, last, mode)
     }
 
     fn held(&self) -> usize {

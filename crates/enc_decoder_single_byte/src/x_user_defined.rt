@@ -7,8 +7,8 @@ ghost use Rattle.enc_index.specs.Grid.{HasWord};
 
 use crate::one_byte::show_byte;
 use crate::user_defined_words::{USER_DEFINED_UNITS, USER_DEFINED_WORDS};
-use enc_decoder::{ByteCodec, Emission, HandlerResult, RawDecoder, TextLengths, latin1_up_to, run};
-use enc_units::{DecoderResult, Pieces, Units, put_run};
+use enc_decoder::{ByteCodec, DecodeStop, Emission, ErrorMode, HandlerResult, RawDecoder, TextLengths, latin1_up_to, run};
+use enc_units::{Pieces, Units, put_run};
 
 /// The x-user-defined decoder (Encoding Standard 14.5).
 ///
@@ -126,9 +126,9 @@ impl RawDecoder for XUserDefinedDecoder {
         src: &[u8],
         out: &mut U,
         last: bool,
-        fault_room: bool,
-    ) -> (DecoderResult, usize) {
-        run(self, src, out, last, fault_room)
+        mode: ErrorMode,
+    ) -> DecodeStop {
+        run(self, src, out, last, mode)
     }
 
     fn held(&self) -> usize {

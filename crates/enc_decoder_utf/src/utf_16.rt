@@ -8,9 +8,9 @@ ghost use Rattle.enc_decoder_utf.specs.Utf16State.{with_pending, begins_with_lea
 ghost use Rattle.enc_decoder.specs.CodecLaw.{HandlesByte};
 
 use enc_decoder::{
-    ByteCodec, Emission, HandlerResult, Kind, Pending, RawDecoder, Text, TextLengths, run,
+    ByteCodec, DecodeStop, Emission, ErrorMode, HandlerResult, Kind, Pending, RawDecoder, Text, TextLengths, run,
 };
-use enc_units::{DecoderResult, Pieces, Units, put_run};
+use enc_units::{Pieces, Units, put_run};
 use std::marker::Model;
 
 /// The shared UTF-16 decoder (Encoding Standard 14.2), big-endian or little-endian.
@@ -289,9 +289,9 @@ impl RawDecoder for Utf16Decoder {
         src: &[u8],
         out: &mut U,
         last: bool,
-        fault_room: bool,
-    ) -> (DecoderResult, usize) {
-        run(self, src, out, last, fault_room)
+        mode: ErrorMode,
+    ) -> DecodeStop {
+        run(self, src, out, last, mode)
     }
 
     fn held(&self) -> usize {

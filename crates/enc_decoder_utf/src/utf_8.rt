@@ -8,10 +8,10 @@ ghost use Rattle.enc_decoder_utf.specs.Utf8State.{is_incomplete, utf_8_state};
 ghost use Rattle.enc_decoder.specs.CodecLaw.{HandlesByte};
 
 use enc_decoder::{
-    ByteCodec, Emission, HandlerResult, Kind, Pending, RawDecoder, Text, TextLengths, latin1_up_to,
+    ByteCodec, DecodeStop, Emission, ErrorMode, HandlerResult, Kind, Pending, RawDecoder, Text, TextLengths, latin1_up_to,
     replace_each, run,
 };
-use enc_units::{DecoderResult, Units};
+use enc_units::Units;
 use std::marker::Model;
 
 /// The UTF-8 decoder (Encoding Standard 8.1.1).
@@ -315,9 +315,9 @@ impl RawDecoder for Utf8Decoder {
         src: &[u8],
         out: &mut U,
         last: bool,
-        fault_room: bool,
-    ) -> (DecoderResult, usize) {
-        run(self, src, out, last, fault_room)
+        mode: ErrorMode,
+    ) -> DecodeStop {
+        run(self, src, out, last, mode)
     }
 
     #[inline(always)]

@@ -13,7 +13,7 @@ ghost use Rattle.enc_stream.specs.Latin1.{AnswersDecoderLatin1};
 ghost use Rattle.enc_stream.specs.Lengths.{max_length, IsForMode, query_units, IsEnoughRoom};
 ghost use Rattle.enc_stream.specs.declared.lengths.Query.TheVariants as query;
 ghost use Rattle.enc_units.specs.Results.{decoder_result_of};
-ghost use Rattle.enc_decoder.specs.Replacing.{decode_error_mode};
+ghost use Rattle.enc_decoder.specs.Replacing.{replaces, decode_error_mode};
 ghost use Rattle.enc_stream.specs.Decoding.{fresh_decoder, has_finished, start_life};
 ghost use Rattle.enc_stream.specs.Decoding.{AnswersDecodeInto, AnswersDecodeReplacing};
 ghost use Rattle.enc_stream.specs.Decoding.{AnswersDecodeReporting, LeavesFewerBytes};
@@ -25,6 +25,7 @@ use crate::life_cycle::LifeCycle;
 use crate::sniffing::{Sniffed, sniff};
 use crate::text::convert_text;
 use enc_codec::{NewDecoder, RawDecoder, VariantDecoder};
+use enc_decoder::{CallOptions, DecodeOutcome, ErrorMode};
 use enc_names::EncodingId;
 use enc_units::{CoderResult, DecoderResult, StringTail, Units, Utf8Slice, Utf16Slice, clear_rest};
 use std::fmt;
@@ -258,11 +259,12 @@ impl Decoder {
         src: &[u8],
         out: &mut U,
         last: bool,
-        replace: bool,
-    ) -> (DecoderResult, usize, bool)
+        mode: ErrorMode,
+    ) -> DecodeOutcome
         requires { has_finished self.old ≡ false }
-        ensures { AnswersDecodeInto U.units_of (decode_error_mode replace) self.old self.new src.now
-            last (U.output out.old) (U.output out.new) result.0 result.1 result.2 }
+        ensures { AnswersDecodeInto U.units_of (decode_error_mode (replaces mode)) self.old self.new
+            src.now last (U.output out.old) (U.output out.new) result.result result.read
+            result.replaced }
     {
         U::laws();
         let (sniffed, len) = sniff(self.life, src, last);
@@ -270,20 +272,22 @@ impl Decoder {
         match sniffed {
             Sniffed::Open(life) => {
                 self.life = life;
-                return (DecoderResult::InputEmpty, len, false);
+                return DecodeOutcome {
+                    result: DecoderResult::InputEmpty,
+                    read: len,
+                    replaced: false,
+                };
             }
             Sniffed::Mark(encoding) => *self = Decoder::start(encoding, BomHandling::Off),
             Sniffed::Text(life) => self.life = life,
         }
-        let (result, read, replaced) = convert_text(
-            &mut self.life,
-            &mut self.codec,
-            rest,
-            out,
-            last,
-            replace,
-        );
-        (result, len + read, replaced)
+        let options = CallOptions { last, mode };
+        let of_text = convert_text(&mut self.life, &mut self.codec, rest, out, options);
+        DecodeOutcome {
+            result: of_text.result,
+            read: len + of_text.read,
+            replaced: of_text.replaced,
+        }
     }
 
     /// Decodes a chunk of input into UTF-8, with replacement.
@@ -319,8 +323,8 @@ impl Decoder {
             LeavesFewerBytes self.old self.new src.now result.1 }
     {
         let mut out = Utf8Slice::new(dst);
-        let (result, read, replaced) = self.convert(src, &mut out, last, true);
-        (unreported(result), read, out.len(), replaced)
+        let outcome = self.convert(src, &mut out, last, ErrorMode::Replacement);
+        (unreported(outcome.result), outcome.read, out.len(), outcome.replaced)
     }
 
     /// Decodes a chunk of input into UTF-8, without replacement: up to a malformed sequence.
@@ -355,8 +359,8 @@ impl Decoder {
             LeavesFewerBytes self.old self.new src.now result.1 }
     {
         let mut out = Utf8Slice::new(dst);
-        let (result, read, _) = self.convert(src, &mut out, last, false);
-        (result, read, out.len())
+        let outcome = self.convert(src, &mut out, last, ErrorMode::Fatal);
+        (outcome.result, outcome.read, out.len())
     }
 
     /// Decodes a chunk of input into UTF-16, with replacement.
@@ -384,8 +388,8 @@ impl Decoder {
             LeavesFewerBytes self.old self.new src.now result.1 }
     {
         let mut units = Utf16Slice::new(dst);
-        let (result, read, replaced) = self.convert(src, &mut units, last, true);
-        (unreported(result), read, units.len(), replaced)
+        let outcome = self.convert(src, &mut units, last, ErrorMode::Replacement);
+        (unreported(outcome.result), outcome.read, units.len(), outcome.replaced)
     }
 
     /// Decodes a chunk of input into UTF-16, without replacement.
@@ -413,8 +417,8 @@ impl Decoder {
             LeavesFewerBytes self.old self.new src.now result.1 }
     {
         let mut units = Utf16Slice::new(dst);
-        let (result, read, _) = self.convert(src, &mut units, last, false);
-        (result, read, units.len())
+        let outcome = self.convert(src, &mut units, last, ErrorMode::Fatal);
+        (outcome.result, outcome.read, units.len())
     }
 
     /// Decodes a chunk of input over the text in `dst`, with replacement.
@@ -506,8 +510,8 @@ impl Decoder {
             LeavesFewerBytes self.old self.new src.now result.1 }
     {
         let mut tail = StringTail::new(dst);
-        let (result, read, replaced) = self.convert(src, &mut tail, last, true);
-        (unreported(result), read, replaced)
+        let outcome = self.convert(src, &mut tail, last, ErrorMode::Replacement);
+        (unreported(outcome.result), outcome.read, outcome.replaced)
     }
 
     /// Decodes a chunk of input and appends its text to a String, without replacement.
@@ -538,7 +542,7 @@ impl Decoder {
             LeavesFewerBytes self.old self.new src.now result.1 }
     {
         let mut tail = StringTail::new(dst);
-        let (result, read, _) = self.convert(src, &mut tail, last, false);
-        (result, read)
+        let outcome = self.convert(src, &mut tail, last, ErrorMode::Fatal);
+        (outcome.result, outcome.read)
     }
 }

@@ -4,15 +4,15 @@ ghost use Rattle.std.specs.Prelude.{◌≡◌, ℕ, ◌+◌, ◌-◌, ◌≤◌,
 ghost use Rattle.enc_stream.specs.declared.encoding.Encoding.{Encoding};
 ghost use Rattle.enc_names.specs.declared.encoding_id.EncodingId.{EncodingId};
 ghost use Rattle.enc_stream.specs.Encodings.{rule_of};
-ghost use Rattle.enc_decoder.specs.Replacing.{decode_error_mode};
+ghost use Rattle.enc_decoder.specs.Replacing.{replaces, decode_error_mode};
 ghost use Rattle.enc_stream.specs.Decoding.{has_ended, unread_bytes, decoder_state_of};
 ghost use Rattle.enc_stream.specs.Decoding.{HeldBytesMatchCodec, LooksForOwnMark, DecodesInto};
 ghost use Rattle.enc_stream.specs.Sniffing.{HasNoMark};
 
 use crate::life_cycle::LifeCycle;
 use enc_codec::RawDecoder;
-use enc_decoder::{convert, reaches_end, shift_malformed};
-use enc_units::{DecoderResult, Units};
+use enc_decoder::{CallOptions, DecodeOutcome, convert, reaches_end, shift_malformed};
+use enc_units::Units;
 
 /// Returns the held bytes of a byte order mark that the codec has not read. It has `pending` bytes
 /// pending.
@@ -31,17 +31,17 @@ pub(crate) fn convert_text<D: RawDecoder, U: Units>(
     codec: &mut D,
     src: &[u8],
     out: &mut U,
-    last: bool,
-    replace: bool,
-) -> (DecoderResult, usize, bool)
+    options: CallOptions,
+) -> DecodeOutcome
     requires open { has_ended life.old ≡ false }
-    requires text { HasNoMark life.old src.now last }
+    requires text { HasNoMark life.old src.now options.last }
     requires holds { HeldBytesMatchCodec life.old (D.state codec.old) }
     ensures call { (e : Encoding) → rule_of e ≡ (D.state codec.old).rule →
-        DecodesInto U.units_of (decode_error_mode replace)
+        DecodesInto U.units_of (decode_error_mode (replaces options.mode))
         (decoder_state_of e life.old (D.state codec.old))
         (decoder_state_of e life.new (D.state codec.new))
-        src.now last (U.output out.old) (U.output out.new) result.0 result.1 result.2 }
+        src.now options.last (U.output out.old) (U.output out.new) result.result result.read
+        result.replaced }
     ensures rule { (D.state codec.new).rule ≡ (D.state codec.old).rule }
     ensures formulas { D.formulas codec.new ≡ D.formulas codec.old }
     ensures own { (id : EncodingId) → LooksForOwnMark id life.old → LooksForOwnMark id life.new }
@@ -49,27 +49,27 @@ pub(crate) fn convert_text<D: RawDecoder, U: Units>(
 {
     let before = *codec;
     let held = unread(*life, before.held());
-    let done = convert(codec, held, src, out, last, replace);
-    let stop = (
-        shift_malformed(done.result, done.left),
-        done.read,
-        done.replaced,
-    );
-    if reaches_end(last, done.result) {
+    let done = convert(codec, held, src, out, options);
+    let outcome = DecodeOutcome {
+        result: shift_malformed(done.result, done.left),
+        read: done.read,
+        replaced: done.replaced,
+    };
+    if reaches_end(options.last, done.result) {
         *life = LifeCycle::Finished;
-        return stop;
+        return outcome;
     }
     let pending = codec.held() + done.left;
     let untouched = (done.read == 0) & (pending == before.held() + held.len());
     if untouched {
         *codec = before;
-        return stop;
+        return outcome;
     }
     let leaves_bb = (done.read == 0) & ((held.len() == 2) & (pending == 1));
     if leaves_bb {
         *life = LifeCycle::ConvertingWithPendingBb;
-        return stop;
+        return outcome;
     }
     *life = LifeCycle::Converting;
-    stop
+    outcome
 }

@@ -65,8 +65,8 @@ returns-in-Open g c =
     (sym extends.awaits ∙ sniffed.2)
     (awaiting_goes_on _ sniffed.2) sniffed.0))
 
-pub convert_text-result-requires-clause-text : goal.convert_text-result-requires-clause-text
-convert_text-result-requires-clause-text g c = elim c.match-sniffed.branch [
+pub convert_text-of_text-requires-clause-text : goal.convert_text-of_text-requires-clause-text
+convert_text-of_text-requires-clause-text g c = elim c.match-sniffed.branch [
   | in-Mark w ↦
       let fresh : w.self-in-Mark.inside.life ≡ Converting =
       ap (λ (d : DecoderState). d.life) (w.self-in-Mark.view_is ∙ w.start.ensures) in
@@ -98,10 +98,10 @@ invariant_of-self-2 g c =
             own_stays _ _ _ sniffed.0 c.self.invariant.1.1,
           )
     ] in (
-      (rule ∙ sym c.convert_text-result.ensures.rule, c.convert_text-result.ensures.holds),
+      (rule ∙ sym c.convert_text-of_text.ensures.rule, c.convert_text-of_text.ensures.holds),
       (
-        formulas.0 ∙ sym c.convert_text-result.ensures.formulas,
-        c.convert_text-result.ensures.own _ formulas.1,
+        formulas.0 ∙ sym c.convert_text-of_text.ensures.formulas,
+        c.convert_text-of_text.ensures.own _ formulas.1,
       ),
     )
 
@@ -112,7 +112,7 @@ returns g c =
     c.requires (elim c.match-sniffed.branch [
       | in-Mark w ↦
           let completes = rw w.in-Mark.is at c.sniff-sniffed.ensures.sniffed in
-          let rest = rw w.self-inside-is at (c.convert_text-result.ensures.call
+          let rest = rw w.self-inside-is at (c.convert_text-of_text.ensures.call
           w.self-in-Mark.inside.encoding (rw w.self-inside-is w.self-in-Mark.invariant.0.0)) in
           rw (w.self-inside-is, ← c.self.view_is) (after_a_mark _ _ _ c.self.invariant.0.1
           c.sniff-sniffed.ensures.within completes
@@ -120,7 +120,7 @@ returns g c =
           (rw (c.split_at.ensures.back, w.self-in-Mark.view_is, w.start.ensures) at rest))
       | in-Text w ↦
           let sniffed = rw w.in-Text.is at c.sniff-sniffed.ensures.sniffed in
-          let rest = rw w.self-inside-is at (c.convert_text-result.ensures.call
+          let rest = rw w.self-inside-is at (c.convert_text-of_text.ensures.call
           c.self.inside.encoding (rw w.self-inside-is c.self.invariant.0.0)) in
           rw (w.self-inside-is, ← c.self.view_is) (after_text _ _ _ _ c.self.invariant.0.1
           c.sniff-sniffed.ensures.within sniffed.0 refl

@@ -6,17 +6,17 @@ use Rattle.enc_stream.proofs.OutputFullLemmas.{still_goes_on}
 use Rattle.enc_stream.proofs.decoder.Decoder.decode_to_string.Goals as goal
 
 pub unreported-requires : goal.unreported-requires
-unreported-requires c = reports_none four_bytes c.convert-result.ensures
+unreported-requires c = reports_none four_bytes c.convert-outcome.ensures
 
 pub returns-clause-call : goal.returns-clause-call
 returns-clause-call c =
     rw c.unreported.ensures (over_text {text = string_bytes c.args.dst.now} four_bytes
-    c.convert-result.ensures
+    c.convert-outcome.ensures
     (rw c.new-tail.ensures.now refl) refl (rw c.new-tail.ensures.room refl) (search rules))
 
 pub returns-clause-appended : goal.returns-clause-appended
 returns-clause-appended c =
-    in_front c.convert-result.ensures (rw c.new-tail.ensures.now refl) refl (search rules)
+    in_front c.convert-outcome.ensures (rw c.new-tail.ensures.now refl) refl (search rules)
 
 pub returns-clause-read : goal.returns-clause-read
 returns-clause-read c = (returns-clause-call c).decodes.call.within
@@ -29,7 +29,7 @@ returns-clause-progress c = λ on. (returns-clause-call c).progress (still_goes_
 
 pub returns-clause-capacity : goal.returns-clause-capacity
 returns-clause-capacity c =
-    let tail = c.convert-result.new.out in
+    let tail = c.convert-outcome.new.out in
     capacity_stays {len = string_len c.args.dst.now} {len_after = string_len tail.text.now}
-    c.convert-result.ensures (rw c.new-tail.ensures.now (search rules))
+    c.convert-outcome.ensures (rw c.new-tail.ensures.now (search rules))
     (rw c.new-tail.ensures.room refl) (search rules) tail.fits (search rules)

@@ -6,12 +6,12 @@ use Rattle.enc_stream.proofs.decoder.Decoder.decode_to_string_without_replacemen
 
 pub returns-clause-call : goal.returns-clause-call
 returns-clause-call c =
-    reports (over_text {text = string_bytes c.args.dst.now} four_bytes c.convert-result.ensures
+    reports (over_text {text = string_bytes c.args.dst.now} four_bytes c.convert-outcome.ensures
     (rw c.new-tail.ensures.now refl) refl (rw c.new-tail.ensures.room refl) (search rules))
 
 pub returns-clause-appended : goal.returns-clause-appended
 returns-clause-appended c =
-    in_front c.convert-result.ensures (rw c.new-tail.ensures.now refl) refl (search rules)
+    in_front c.convert-outcome.ensures (rw c.new-tail.ensures.now refl) refl (search rules)
 
 pub returns-clause-read : goal.returns-clause-read
 returns-clause-read c = (returns-clause-call c).decodes.call.within
@@ -24,7 +24,7 @@ returns-clause-progress c = (returns-clause-call c).progress
 
 pub returns-clause-capacity : goal.returns-clause-capacity
 returns-clause-capacity c =
-    let tail = c.convert-result.new.out in
+    let tail = c.convert-outcome.new.out in
     capacity_stays {len = string_len c.args.dst.now} {len_after = string_len tail.text.now}
-    c.convert-result.ensures (rw c.new-tail.ensures.now (search rules))
+    c.convert-outcome.ensures (rw c.new-tail.ensures.now (search rules))
     (rw c.new-tail.ensures.room refl) (search rules) tail.fits (search rules)

@@ -4,11 +4,11 @@ use Rattle.enc_stream.proofs.OutputFullLemmas.{over_slice, reports_none, two_uni
 use Rattle.enc_stream.proofs.decoder.Decoder.decode_to_utf16.Goals as goal
 
 pub unreported-requires : goal.unreported-requires
-unreported-requires c = reports_none two_units c.convert-result.ensures
+unreported-requires c = reports_none two_units c.convert-outcome.ensures
 
 pub returns-clause-call : goal.returns-clause-call
 returns-clause-call c =
-    rw c.unreported.ensures (over_slice two_units c.convert-result.ensures
+    rw c.unreported.ensures (over_slice two_units c.convert-outcome.ensures
     (rw c.new-units.ensures.len refl)
     (rw (c.new-units.ensures.now, c.new-units.ensures.len) (omega arith)) (search rules))
 

@@ -5,7 +5,7 @@ use Rattle.enc_stream.proofs.decoder.Decoder.decode_to_utf16_without_replacement
 
 pub returns-clause-call : goal.returns-clause-call
 returns-clause-call c =
-    reports (over_slice two_units c.convert-result.ensures (rw c.new-units.ensures.len refl)
+    reports (over_slice two_units c.convert-outcome.ensures (rw c.new-units.ensures.len refl)
     (rw (c.new-units.ensures.now, c.new-units.ensures.len) (omega arith)) (search rules))
 
 pub returns-clause-read : goal.returns-clause-read

@@ -5,11 +5,11 @@ use Rattle.enc_stream.proofs.OutputFullLemmas.{over_slice, reports_none, four_by
 use Rattle.enc_stream.proofs.decoder.Decoder.decode_to_utf8.Goals as goal
 
 pub unreported-requires : goal.unreported-requires
-unreported-requires c = reports_none four_bytes c.convert-result.ensures
+unreported-requires c = reports_none four_bytes c.convert-outcome.ensures
 
 pub returns-clause-call : goal.returns-clause-call
 returns-clause-call c =
-    rw c.unreported.ensures (over_slice four_bytes c.convert-result.ensures
+    rw c.unreported.ensures (over_slice four_bytes c.convert-outcome.ensures
     (rw c.new-out.ensures.len refl)
     (rw (c.new-out.ensures.now, c.new-out.ensures.len) (omega arith)) (search rules))
 

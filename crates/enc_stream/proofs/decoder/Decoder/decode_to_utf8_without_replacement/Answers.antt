@@ -6,7 +6,7 @@ use Rattle.enc_stream.proofs.decoder.Decoder.decode_to_utf8_without_replacement.
 
 pub returns-clause-call : goal.returns-clause-call
 returns-clause-call c =
-    reports (over_slice four_bytes c.convert-result.ensures (rw c.new-out.ensures.len refl)
+    reports (over_slice four_bytes c.convert-outcome.ensures (rw c.new-out.ensures.len refl)
     (rw (c.new-out.ensures.now, c.new-out.ensures.len) (omega arith)) (search rules))
 
 pub returns-clause-read : goal.returns-clause-read
