@@ -1,0 +1,143 @@
+//! Decoding into strings: over the text of a str, and at the end of a String.
+
+ghost use Rattle.std.specs.Prelude.{◌≡◌, ◌-◌, ◌≤◌, false, length, take, drop};
+ghost use Rattle.std.specs.Char.{encode_utf8};
+ghost use Rattle.std.specs.String.{string_bytes, string_len, string_capacity};
+ghost use Rattle.std.specs.Str.{IsUtf8};
+ghost use Rattle.enc_units.specs.Validity.{IsWellFormedUtf8};
+ghost use Rattle.enc_units.specs.Rest.{without_continuations};
+ghost use Rattle.enc_units.specs.Results.{decoder_result_of};
+ghost use Rattle.enc_decoder.specs.Call.{reaches_end};
+ghost use Rattle.enc_stream.specs.Decoding.{has_finished, LeavesFewerBytes};
+ghost use Rattle.enc_stream.specs.Decoding.{AnswersDecodeReplacing, AnswersDecodeReporting};
+
+use super::{Decoder, unreported};
+use enc_decoder::ErrorMode;
+use enc_units::{CoderResult, DecoderResult, StringTail, clear_rest};
+
+impl Decoder {
+    /// Decodes a chunk of input over the text in `dst`, with replacement.
+    ///
+    /// The same as [`Decoder::decode_to_utf8`], except that all of `dst` is well-formed UTF-8
+    /// afterwards. The text written may end within a character of the old text. Then the rest of
+    /// that character (bytes 0x80 to 0xBF) becomes 00. All later bytes of `dst` are unchanged.
+    ///
+    /// Takes no memory. Conditions: the decoder is not finished, and `dst` is well-formed UTF-8.
+    pub fn decode_to_str(
+        &mut self,
+        src: &[u8],
+        dst: &mut [u8],
+        last: bool,
+    ) -> (CoderResult, usize, usize, bool)
+        requires open { has_finished self.old ≡ false }
+        requires utf8 { IsWellFormedUtf8 dst.old }
+        ensures call { AnswersDecodeReplacing encode_utf8 4 self.old self.new src.now last
+            (length dst.old) result.0 result.1 (take result.2 dst.new) result.3 }
+        ensures read { result.1 ≤ length src.now }
+        ensures written { result.2 ≤ length dst.old }
+        ensures text { IsUtf8 (take result.2 dst.new) }
+        ensures rest { drop result.2 dst.new ≡ without_continuations (drop result.2 dst.old) }
+        ensures utf8 { IsWellFormedUtf8 dst.new }
+        ensures ended { has_finished self.new ≡ reaches_end last (decoder_result_of result.0) }
+        ensures progress { (result.0 ≡ CoderResult.InputEmpty → ⊥) → 4 ≤ length dst.old →
+            LeavesFewerBytes self.old self.new src.now result.1 }
+    {
+        let (result, read, written, replaced) = self.decode_to_utf8(src, dst, last);
+        clear_rest(dst, written);
+        (result, read, written, replaced)
+    }
+
+    /// Decodes a chunk of input over the text in `dst`, without replacement.
+    ///
+    /// The same as [`Decoder::decode_to_utf8_without_replacement`], except that all of `dst` is
+    /// well-formed UTF-8 afterwards, as with [`Decoder::decode_to_str`].
+    ///
+    /// Takes no memory. Conditions: the decoder is not finished, and `dst` is well-formed UTF-8.
+    pub fn decode_to_str_without_replacement(
+        &mut self,
+        src: &[u8],
+        dst: &mut [u8],
+        last: bool,
+    ) -> (DecoderResult, usize, usize)
+        requires open { has_finished self.old ≡ false }
+        requires utf8 { IsWellFormedUtf8 dst.old }
+        ensures call { AnswersDecodeReporting encode_utf8 4 self.old self.new src.now last
+            (length dst.old) result.0 result.1 (take result.2 dst.new) }
+        ensures read { result.1 ≤ length src.now }
+        ensures written { result.2 ≤ length dst.old }
+        ensures text { IsUtf8 (take result.2 dst.new) }
+        ensures rest { drop result.2 dst.new ≡ without_continuations (drop result.2 dst.old) }
+        ensures utf8 { IsWellFormedUtf8 dst.new }
+        ensures ended { has_finished self.new ≡ reaches_end last result.0 }
+        ensures progress { (result.0 ≡ DecoderResult.InputEmpty → ⊥) → 4 ≤ length dst.old →
+            LeavesFewerBytes self.old self.new src.now result.1 }
+    {
+        let (result, read, len) = self.decode_to_utf8_without_replacement(src, dst, last);
+        clear_rest(dst, len);
+        (result, read, len)
+    }
+
+    /// Decodes a chunk of input and appends its text to a String, with replacement.
+    ///
+    /// The same as [`Decoder::decode_to_utf8`] into a slice as long as the String's spare capacity,
+    /// which may be 0. Returns why the call stopped, the number of bytes read from `src`, and
+    /// whether a malformed sequence was replaced.
+    ///
+    /// Appends within the capacity, which does not shrink: takes no memory. Condition: the decoder
+    /// is not finished.
+    pub fn decode_to_string(
+        &mut self,
+        src: &[u8],
+        dst: &mut String,
+        last: bool,
+    ) -> (CoderResult, usize, bool)
+        requires { has_finished self.old ≡ false }
+        ensures call { AnswersDecodeReplacing encode_utf8 4 self.old self.new src.now last
+            (string_capacity dst.old - string_len dst.old) result.0 result.1
+            (drop (length (string_bytes dst.old)) (string_bytes dst.new)) result.2 }
+        ensures read { result.1 ≤ length src.now }
+        ensures appended { take (length (string_bytes dst.old)) (string_bytes dst.new)
+            ≡ string_bytes dst.old }
+        ensures capacity { string_capacity dst.old ≤ string_capacity dst.new }
+        ensures ended { has_finished self.new ≡ reaches_end last (decoder_result_of result.0) }
+        ensures progress { (result.0 ≡ CoderResult.InputEmpty → ⊥) →
+            4 ≤ string_capacity dst.old - string_len dst.old →
+            LeavesFewerBytes self.old self.new src.now result.1 }
+    {
+        let mut tail = StringTail::new(dst);
+        let outcome = self.convert(src, &mut tail, last, ErrorMode::Replacement);
+        (unreported(outcome.result), outcome.read, outcome.replaced)
+    }
+
+    /// Decodes a chunk of input and appends its text to a String, without replacement.
+    ///
+    /// The same as [`Decoder::decode_to_utf8_without_replacement`] into a slice as long as the
+    /// String's spare capacity, which may be 0. Returns why the call stopped, and the number of
+    /// bytes read from `src`.
+    ///
+    /// Appends within the capacity, which does not shrink: takes no memory. Condition: the decoder
+    /// is not finished.
+    pub fn decode_to_string_without_replacement(
+        &mut self,
+        src: &[u8],
+        dst: &mut String,
+        last: bool,
+    ) -> (DecoderResult, usize)
+        requires { has_finished self.old ≡ false }
+        ensures call { AnswersDecodeReporting encode_utf8 4 self.old self.new src.now last
+            (string_capacity dst.old - string_len dst.old) result.0 result.1
+            (drop (length (string_bytes dst.old)) (string_bytes dst.new)) }
+        ensures read { result.1 ≤ length src.now }
+        ensures appended { take (length (string_bytes dst.old)) (string_bytes dst.new)
+            ≡ string_bytes dst.old }
+        ensures capacity { string_capacity dst.old ≤ string_capacity dst.new }
+        ensures ended { has_finished self.new ≡ reaches_end last result.0 }
+        ensures progress { (result.0 ≡ DecoderResult.InputEmpty → ⊥) →
+            4 ≤ string_capacity dst.old - string_len dst.old →
+            LeavesFewerBytes self.old self.new src.now result.1 }
+    {
+        let mut tail = StringTail::new(dst);
+        let outcome = self.convert(src, &mut tail, last, ErrorMode::Fatal);
+        (outcome.result, outcome.read)
+    }
+}
