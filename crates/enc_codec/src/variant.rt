@@ -74,12 +74,7 @@ impl RawDecoder for VariantDecoder {
         by_decoder!(self, decoder => decoder.decode(src, out, last, mode))
     }
 
-    fn decode_replacing<U: Units>(
-        &mut self,
-        src: &[u8],
-        out: &mut U,
-        last: bool,
-    ) -> DecodeOutcome {
+    fn decode_replacing<U: Units>(&mut self, src: &[u8], out: &mut U, last: bool) -> DecodeOutcome {
         by_decoder!(self, decoder => decoder.decode_replacing(src, out, last))
     }
 

@@ -1,7 +1,7 @@
 //! Error modes, and what a call is asked for.
 
 /// An error mode of decoders (Encoding Standard 4.1).
-#[derive(Clone, Copy)]
+#[derive(Clone, Copy, Debug, PartialEq, Eq)]
 pub enum ErrorMode {
     /// U+FFFD is written for each malformed sequence.
     Replacement,

@@ -3,7 +3,7 @@
 use enc_units::DecoderResult;
 
 /// The outcome of a call up to a malformed sequence.
-#[derive(Clone, Copy)]
+#[derive(Clone, Copy, Debug, PartialEq, Eq)]
 pub struct DecodeStop {
     /// Why it stopped.
     pub result: DecoderResult,
@@ -12,7 +12,7 @@ pub struct DecodeStop {
 }
 
 /// The outcome of a call in either error mode.
-#[derive(Clone, Copy)]
+#[derive(Clone, Copy, Debug, PartialEq, Eq)]
 pub struct DecodeOutcome {
     /// Why it stopped.
     pub result: DecoderResult,

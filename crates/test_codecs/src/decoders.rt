@@ -1,7 +1,9 @@
 //! The decoders of codecs by name: their calls without replacement, the bytes that they hold, and
 //! their length queries. The rows are those of the samples.
 
-use enc_codec::{Codec, DecoderResult, NewDecoder, RawDecoder, VariantDecoder};
+use enc_codec::{
+    Codec, DecodeStop, DecoderResult, ErrorMode, NewDecoder, RawDecoder, VariantDecoder,
+};
 use enc_units::Utf8Slice;
 use std::process::Abort;
 use std::test::Fail;
@@ -65,28 +67,34 @@ fn call_with_malformed(
     rt: &impl Abort,
     codec: Codec,
     src: &[u8],
-    (room, fault_room): (usize, bool),
-    want: (DecoderResult, usize),
+    (room, mode): (usize, ErrorMode),
+    want: DecodeStop,
 ) {
     let mut dst = [0; 4];
     assert!(rt; room <= 4);
     let mut out = Utf8Slice::new(&mut dst[..room]);
     let mut decoder = codec.new_decoder();
-    let outcome = decoder.decode(src, &mut out, true, fault_room);
-    assert!(rt; outcome == want, "{src:?} {room} {fault_room}");
+    let stop = decoder.decode(src, &mut out, true, mode);
+    assert!(rt; stop == want, "{src:?} {room} {mode:?}");
     assert!(rt; out.len() == 0);
 }
 
-/// A malformed sequence is reported at its last byte: with `fault_room` where U+FFFD fits, and
-/// without it in any room.
+/// A malformed sequence is reported at its last byte: in "replacement" where U+FFFD fits, and in
+/// "fatal" in any room.
 fn report_malformed(rt: &impl Abort, codec: Codec, src: &[u8]) {
     assert!(rt; 0 < src.len() && src.len() <= 4, "{src:?}");
-    let whole = (DecoderResult::Malformed(src.len() as u8, 0), src.len());
-    let full = (DecoderResult::OutputFull, src.len().saturating_sub(1));
-    call_with_malformed(rt, codec, src, (2, true), full);
-    call_with_malformed(rt, codec, src, (3, true), whole);
-    call_with_malformed(rt, codec, src, (0, false), whole);
-    call_with_malformed(rt, codec, src, (4, false), whole);
+    let whole = DecodeStop {
+        result: DecoderResult::Malformed(src.len() as u8, 0),
+        read: src.len(),
+    };
+    let full = DecodeStop {
+        result: DecoderResult::OutputFull,
+        read: src.len().saturating_sub(1),
+    };
+    call_with_malformed(rt, codec, src, (2, ErrorMode::Replacement), full);
+    call_with_malformed(rt, codec, src, (3, ErrorMode::Replacement), whole);
+    call_with_malformed(rt, codec, src, (0, ErrorMode::Fatal), whole);
+    call_with_malformed(rt, codec, src, (4, ErrorMode::Fatal), whole);
 }
 
 /// The same for each malformed sequence of a sample.
@@ -109,8 +117,8 @@ fn compare_lengths(rt: &impl Abort, codec: Codec, row: &DecoderLengthsRow) {
     let mut decoder = codec.new_decoder();
     let mut buffer = [0; 16];
     let mut out = Utf8Slice::new(&mut buffer);
-    let (result, read, _) = decoder.decode_replacing(bytes, &mut out, false);
-    assert!(rt; (result, read) == (DecoderResult::InputEmpty, bytes.len()));
+    let outcome = decoder.decode_replacing(bytes, &mut out, false);
+    assert!(rt; (outcome.result, outcome.read) == (DecoderResult::InputEmpty, bytes.len()));
     let answers = (
         decoder.max_utf8_buffer_length(more),
         decoder.max_utf8_buffer_length_without_replacement(more),

@@ -2,7 +2,7 @@
 //! has its row in `single_byte_tables`.
 
 use crate::codecs::single_byte_tables::TABLES;
-use enc_codec::{DecoderResult, RawDecoder, SingleByteDecoder, SingleByteIndex};
+use enc_codec::{DecoderResult, ErrorMode, RawDecoder, SingleByteDecoder, SingleByteIndex};
 use enc_units::Utf8Slice;
 use encoding_rs::{CoderResult, Encoding, IBM866, WINDOWS_1252, WINDOWS_1257};
 use std::process::Abort;
@@ -101,12 +101,12 @@ fn the_decoder_reports_an_unmapped_byte(rt: HostRuntime) {
     let mut dst = [0; 16];
     let mut decoder = SingleByteDecoder::new(SingleByteIndex::Windows1257);
     let mut out = Utf8Slice::new(&mut dst);
-    let fault = decoder.decode(src, &mut out, true, false);
-    assert!(rt; fault == (DecoderResult::Malformed(1, 0), 5));
+    let fault = decoder.decode(src, &mut out, true, ErrorMode::Fatal);
+    assert!(rt; (fault.result, fault.read) == (DecoderResult::Malformed(1, 0), 5));
     assert!(rt; out.len() == 6);
     assert!(rt; decoder.held() == 0);
-    let end = decoder.decode(&src[5..], &mut out, true, false);
-    assert!(rt; end == (DecoderResult::InputEmpty, 1));
+    let end = decoder.decode(&src[5..], &mut out, true, ErrorMode::Fatal);
+    assert!(rt; (end.result, end.read) == (DecoderResult::InputEmpty, 1));
     assert!(rt; out.len() == 8);
     assert!(rt; &dst[..8] == "abc€ä".as_bytes());
 }

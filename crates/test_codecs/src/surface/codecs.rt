@@ -31,8 +31,8 @@ fn decode_in_parts<D: RawDecoder>(rt: &impl Abort, start: D) {
     let mut decoder: D = start;
     let mut dst: [u8; 8] = [0; 8];
     let mut out = Utf8Slice::new(&mut dst);
-    let answer: (DecoderResult, usize) = decoder.decode(b"\xE2", &mut out, false, false);
-    assert!(rt; answer == (DecoderResult::InputEmpty, 1));
+    let stop: DecodeStop = decoder.decode(b"\xE2", &mut out, false, ErrorMode::Fatal);
+    assert!(rt; (stop.result, stop.read) == (DecoderResult::InputEmpty, 1));
     let held: usize = decoder.held();
     let utf_8: Option<usize> = decoder.max_utf8_buffer_length(2);
     let reporting: Option<usize> = decoder.max_utf8_buffer_length_without_replacement(2);
@@ -44,12 +44,9 @@ fn decode_in_parts<D: RawDecoder>(rt: &impl Abort, start: D) {
         decoder.latin1_byte_compatible_up_to(b"ab"),
     );
     assert!(rt; latin1 == (Some(2), None));
-    let answer: (DecoderResult, usize, bool) = decoder.decode_replacing(
-        b"\x82\xAC\xFF",
-        &mut out,
-        true,
-    );
-    assert!(rt; answer == (DecoderResult::InputEmpty, 3, true));
+    let outcome: DecodeOutcome = decoder.decode_replacing(b"\x82\xAC\xFF", &mut out, true);
+    let (result, read, replaced) = (outcome.result, outcome.read, outcome.replaced);
+    assert!(rt; (result, read, replaced) == (DecoderResult::InputEmpty, 3, true));
     assert!(rt; &dst[..6] == "€\u{FFFD}".as_bytes());
 }
 
@@ -64,18 +61,18 @@ fn a_malformed_byte_is_reported_with_room_for_its_character(rt: HostRuntime) {
     let mut decoder = Utf8Decoder::new();
     let mut dst: [u8; 2] = [0; 2];
     let mut out = Utf8Slice::new(&mut dst);
-    let with_room = decoder.decode(b"\xFF", &mut out, true, true);
-    assert!(rt; with_room == (DecoderResult::OutputFull, 0));
-    let without = decoder.decode(b"\xFF", &mut out, true, false);
-    assert!(rt; without == (DecoderResult::Malformed(1, 0), 1));
+    let with_room = decoder.decode(b"\xFF", &mut out, true, ErrorMode::Replacement);
+    assert!(rt; (with_room.result, with_room.read) == (DecoderResult::OutputFull, 0));
+    let without = decoder.decode(b"\xFF", &mut out, true, ErrorMode::Fatal);
+    assert!(rt; (without.result, without.read) == (DecoderResult::Malformed(1, 0), 1));
 }
 
 /// Decodes some bytes by a new decoder: this is their text.
 fn decode_text<D: RawDecoder>(rt: &impl Abort, mut decoder: D, bytes: &[u8], text: &str) {
     let mut dst: [u8; 8] = [0; 8];
     let mut out = Utf8Slice::new(&mut dst);
-    let answer = decoder.decode(bytes, &mut out, true, false);
-    assert!(rt; answer == (DecoderResult::InputEmpty, bytes.len()));
+    let stop = decoder.decode(bytes, &mut out, true, ErrorMode::Fatal);
+    assert!(rt; (stop.result, stop.read) == (DecoderResult::InputEmpty, bytes.len()));
     assert!(rt; out.len() == text.len());
     assert!(rt; dst.as_slice().starts_with(text.as_bytes()));
 }

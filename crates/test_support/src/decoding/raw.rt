@@ -5,7 +5,7 @@ use crate::cases::{Case, expect};
 use crate::decoding::outputs::written_part;
 use crate::decoding::raw_calls::call;
 use crate::decoding::rows::{Cut, Input, MOST_ROOM, REPLACEMENT_CHARACTER, chunks_of, split};
-use enc_decoder::RawDecoder;
+use enc_decoder::{ErrorMode, RawDecoder};
 use enc_units::DecoderResult;
 use std::alloc::Global;
 use std::test::Fail;
@@ -38,8 +38,8 @@ struct Progress<'a> {
     case: Case<'a>,
     /// The room in which the input reaches its end.
     enough: usize,
-    /// A malformed sequence is reported only if U+FFFD fits.
-    fault_room: bool,
+    /// In "replacement" a malformed sequence is reported only if U+FFFD fits.
+    mode: ErrorMode,
     read: usize,
     /// The number of bytes read whose sequences were put out or reported. The others are pending.
     done: usize,
@@ -97,7 +97,7 @@ fn compare_full(progress: &Progress<'_>, left: usize) -> Result<(), Fail> {
     let is_malformed = !progress.malformed.is_empty()
         && to_come.starts_with(REPLACEMENT_CHARACTER.as_bytes());
     let may_stop = if is_malformed {
-        progress.fault_room && left < REPLACEMENT_CHARACTER.len()
+        progress.mode == ErrorMode::Replacement && left < REPLACEMENT_CHARACTER.len()
     } else {
         left < progress.enough && left < to_come.len()
     };
@@ -130,7 +130,8 @@ fn compare_stop(
         DecoderResult::OutputFull => compare_full(progress, outcome.left),
         DecoderResult::Malformed(len, after) => {
             let fits = REPLACEMENT_CHARACTER.len() <= outcome.left;
-            expect(fits || !progress.fault_room, "a report without room", &case)?;
+            let may_report = fits || progress.mode == ErrorMode::Fatal;
+            expect(may_report, "a report without room", &case)?;
             take_report(progress, len as usize, after as usize)
         }
     }
@@ -154,7 +155,7 @@ fn make_call(
     let case = progress.case;
     let mut buffer = [0; MOST_ROOM];
     let room = room.min(MOST_ROOM);
-    let answer = call(decoder, offer, &mut buffer[..room], progress.fault_room);
+    let answer = call(decoder, offer, &mut buffer[..room], progress.mode);
     let (result, read, written, left) = answer;
     expect(
         written.saturating_add(left) == room,
@@ -253,7 +254,7 @@ fn compare_each_cut(
 }
 
 /// Runs an input through every cut, by copies of a new decoder: with rooms 0 to 9 and room enough,
-/// and with room kept for U+FFFD and without. The name is that of the encoding.
+/// and in each error mode. The name is that of the encoding.
 pub(crate) fn compare_raw_cuts(
     alloc: Global,
     (name, decoder): (&'static str, impl RawDecoder),
@@ -266,11 +267,11 @@ pub(crate) fn compare_raw_cuts(
             room,
         };
         expect(decoder.held() == 0, "a new decoder holds bytes", &case)?;
-        for fault_room in [false, true] {
+        for mode in [ErrorMode::Fatal, ErrorMode::Replacement] {
             let progress = Progress {
                 case,
                 enough: input.room,
-                fault_room,
+                mode,
                 read: 0,
                 done: 0,
                 text: input.text,

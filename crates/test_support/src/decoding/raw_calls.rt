@@ -3,22 +3,22 @@
 
 use crate::cases::{Case, expect, expect_bytes};
 use crate::decoding::outputs::written_part;
-use enc_decoder::RawDecoder;
+use enc_decoder::{DecodeStop, ErrorMode, RawDecoder};
 use enc_units::{DecoderResult, Units, Utf8Slice};
 use std::test::Fail;
 
 /// The answer of a call: why it stopped, bytes read, bytes written, and the room that it left.
 pub(crate) type RawAnswer = (DecoderResult, usize, usize, usize);
 
-/// Makes a call. With `fault_room` a malformed sequence is reported only if U+FFFD fits.
+/// Makes a call up to a malformed sequence.
 pub(crate) fn call(
     decoder: &mut impl RawDecoder,
     (src, last): (&[u8], bool),
     dst: &mut [u8],
-    fault_room: bool,
+    mode: ErrorMode,
 ) -> RawAnswer {
     let mut out = Utf8Slice::new(dst);
-    let (result, read) = decoder.decode(src, &mut out, last, fault_room);
+    let DecodeStop { result, read } = decoder.decode(src, &mut out, last, mode);
     (result, read, out.len(), out.room())
 }
 
@@ -39,7 +39,7 @@ pub fn make_call(
         room: ROOM,
     };
     let mut dst = [0; ROOM];
-    let (result, read, written, _) = call(decoder, (src, last), &mut dst, false);
+    let (result, read, written, _) = call(decoder, (src, last), &mut dst, ErrorMode::Fatal);
     expect(
         (result, read, decoder.held()) == want,
         "another answer",
