@@ -8,7 +8,7 @@ ghost use Rattle.enc_decoder.specs.Replacing.{replaces, decode_error_mode};
 
 use crate::RawDecoder;
 use crate::error_mode::{CallOptions, ErrorMode};
-use crate::outcome::{DecodeOutcome, HeldFirstOutcome};
+use crate::outcome::{DecoderOutcome, HeldFirstOutcome};
 use enc_units::{DecoderResult, Units};
 
 /// Decodes a chunk in either error mode. Takes no memory.
@@ -18,7 +18,7 @@ fn decode_chunk<D: RawDecoder, U: Units>(
     src: &[u8],
     out: &mut U,
     options: CallOptions,
-) -> DecodeOutcome
+) -> DecoderOutcome
     ensures call { DecoderCallInto U.units_of (remainder_of (D.state codec.old))
         (remainder_of (D.state codec.new)) src.now options.last
         (decode_error_mode (replaces options.mode)) (U.output out.old) (U.output out.new)
@@ -30,7 +30,7 @@ fn decode_chunk<D: RawDecoder, U: Units>(
         ErrorMode::Replacement => codec.decode_replacing(src, out, options.last),
         ErrorMode::Fatal => {
             let stop = codec.decode(src, out, options.last, ErrorMode::Fatal);
-            DecodeOutcome {
+            DecoderOutcome {
                 result: stop.result,
                 read: stop.read,
                 replaced: false,

@@ -18,7 +18,7 @@ pub use error_mode::{CallOptions, ErrorMode};
 pub use held_first::{convert, reaches_end, shift_malformed};
 pub use latin1::latin1_up_to;
 pub use machine::{report_or_run, run};
-pub use outcome::{DecodeOutcome, DecodeStop, HeldFirstOutcome};
+pub use outcome::{DecoderOutcome, DecoderStop, HeldFirstOutcome};
 pub use pending::Pending;
 pub use raw_decoder::RawDecoder;
 pub use replaced::replace_each;

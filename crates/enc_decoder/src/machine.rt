@@ -13,7 +13,7 @@ ghost use Rattle.enc_decoder.specs.Sequence.{is_malformed as malformed_kind};
 
 use crate::byte_codec::{ByteCodec, Emission, HandlerResult, Kind, Text};
 use crate::error_mode::ErrorMode;
-use crate::outcome::DecodeStop;
+use crate::outcome::DecoderStop;
 use enc_units::{DecoderResult, Units};
 
 /// The next event of a call.
@@ -154,7 +154,7 @@ pub fn run<C: ByteCodec, U: Units>(
     out: &mut U,
     last: bool,
     mode: ErrorMode,
-) -> DecodeStop
+) -> DecoderStop
     ensures call { DecoderCallInto U.units_of (remainder_of (C.state codec.old))
         (remainder_of (C.state codec.new)) src.now last (Fatal (replaces mode)) (U.output out.old)
         (U.output out.new) result.result result.read false }
@@ -173,7 +173,7 @@ pub fn run<C: ByteCodec, U: Units>(
         let shown = match what_comes(state, src, read, last) {
             NextEvent::NeedsInput => {
                 *codec = state;
-                return DecodeStop {
+                return DecoderStop {
                     result: DecoderResult::InputEmpty,
                     read,
                 };
@@ -188,14 +188,14 @@ pub fn run<C: ByteCodec, U: Units>(
         let end = if shown.takes_byte { read + 1 } else { read };
         if is_reported(out, shown.kind, mode) {
             *codec = shown.next;
-            return DecodeStop {
+            return DecoderStop {
                 result: DecoderResult::Malformed(shown.len, shown.next.held()),
                 read: end,
             };
         }
         if !put_out(out, shown.kind, shown.text) {
             *codec = state;
-            return DecodeStop {
+            return DecoderStop {
                 result: DecoderResult::OutputFull,
                 read,
             };
@@ -213,7 +213,7 @@ fn run_apart<C: ByteCodec, U: Units>(
     out: &mut U,
     last: bool,
     mode: ErrorMode,
-) -> DecodeStop
+) -> DecoderStop
     ensures call { DecoderCallInto U.units_of (remainder_of (C.state codec.old))
         (remainder_of (C.state codec.new)) src.now last (Fatal (replaces mode)) (U.output out.old)
         (U.output out.new) result.result result.read false }
@@ -236,7 +236,7 @@ pub fn report_or_run<C: ByteCodec, U: Units>(
     out: &mut U,
     last: bool,
     mode: ErrorMode,
-) -> DecodeStop
+) -> DecoderStop
     ensures call { DecoderCallInto U.units_of (remainder_of (C.state codec.old))
         (remainder_of (C.state codec.new)) src.now last (Fatal (replaces mode)) (U.output out.old)
         (U.output out.new) result.result result.read false }
@@ -247,7 +247,7 @@ pub fn report_or_run<C: ByteCodec, U: Units>(
 {
     let state = *codec;
     if is_at_lone_fault(state, src, 0) && is_reported(out, Kind::Malformed, mode) {
-        return DecodeStop {
+        return DecoderStop {
             result: DecoderResult::Malformed(1, state.held()),
             read: 1,
         };

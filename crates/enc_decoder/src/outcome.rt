@@ -4,7 +4,7 @@ use enc_units::DecoderResult;
 
 /// The outcome of a call up to a malformed sequence.
 #[derive(Clone, Copy, Debug, PartialEq, Eq)]
-pub struct DecodeStop {
+pub struct DecoderStop {
     /// Why it stopped.
     pub result: DecoderResult,
     /// The number of bytes read.
@@ -13,7 +13,7 @@ pub struct DecodeStop {
 
 /// The outcome of a call in either error mode.
 #[derive(Clone, Copy, Debug, PartialEq, Eq)]
-pub struct DecodeOutcome {
+pub struct DecoderOutcome {
     /// Why it stopped.
     pub result: DecoderResult,
     /// The number of bytes read.

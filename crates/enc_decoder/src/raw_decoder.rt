@@ -12,7 +12,7 @@ ghost use Rattle.enc_decoder.specs.Lengths.{utf_8_length, reporting_length, utf_
 ghost use Rattle.enc_decoder.specs.declared.text_lengths.TextLengths.{TextLengths};
 
 use crate::error_mode::ErrorMode;
-use crate::outcome::{DecodeOutcome, DecodeStop};
+use crate::outcome::{DecoderOutcome, DecoderStop};
 use crate::text_lengths::TextLengths;
 use enc_units::{DecoderResult, Units};
 
@@ -40,7 +40,7 @@ pub trait RawDecoder: Copy {
         out: &mut U,
         last: bool,
         mode: ErrorMode,
-    ) -> DecodeStop
+    ) -> DecoderStop
         ensures call { DecoderCallInto U.units_of (remainder_of (state self.old))
             (remainder_of (state self.new)) src.now last (Fatal (replaces mode)) (U.output out.old)
             (U.output out.new) result.result result.read false }
@@ -80,7 +80,7 @@ pub trait RawDecoder: Copy {
     ///
     /// A decoder that is one of several leaves the whole call to that one, so that it is not chosen
     /// anew after each malformed sequence.
-    fn decode_replacing<U: Units>(&mut self, src: &[u8], out: &mut U, last: bool) -> DecodeOutcome
+    fn decode_replacing<U: Units>(&mut self, src: &[u8], out: &mut U, last: bool) -> DecoderOutcome
         ensures call { DecoderCallInto U.units_of (remainder_of (state self.old))
             (remainder_of (state self.new)) src.now last Replacement (U.output out.old)
             (U.output out.new) result.result result.read result.replaced }
@@ -96,7 +96,7 @@ pub trait RawDecoder: Copy {
             read += stop.read;
             // one place that makes the outcome: of two, each would copy its padding through memory
             let DecoderResult::Malformed(_, _) = stop.result else {
-                return DecodeOutcome {
+                return DecoderOutcome {
                     result: stop.result,
                     read,
                     replaced,

@@ -22,14 +22,12 @@ ghost use Rattle.enc_decoder.specs.Taking.{TakesRun};
 
 use crate::replaced_ascii::{ReplacedAscii, has_many_malformed};
 use enc_decoder::{
-    ByteCodec, DecodeStop, Emission, ErrorMode, HandlerResult, Kind, RawDecoder, Text, TextLengths, latin1_up_to,
-    report_or_run,
+    ByteCodec, DecoderStop, Emission, ErrorMode, HandlerResult, Kind, RawDecoder, Text,
+    TextLengths, latin1_up_to, report_or_run,
 };
 use enc_index::DoubleByteIndex;
 use enc_index::indexes::Jis0208Index;
-use enc_units::{
-    Pieces, Places, Units, numbers_in, places_at, put_run, unshifted_len,
-};
+use enc_units::{Pieces, Places, Units, numbers_in, places_at, put_run, unshifted_len};
 use std::marker::Model;
 use std::simd::prelude::*;
 
@@ -750,7 +748,7 @@ impl RawDecoder for Iso2022JpDecoder {
         out: &mut U,
         last: bool,
         mode: ErrorMode,
-    ) -> DecodeStop {
+    ) -> DecoderStop {
         report_or_run(self, src, out, last, mode)
     }
 

@@ -11,8 +11,8 @@ ghost use Rattle.enc_decoder_multi_byte.specs.MultiByte.{ArePrefixes, IsCharPair
 ghost use Rattle.enc_decoder_multi_byte.specs.MultiByte.{multi_byte_rule, IsMalformedFront};
 
 use enc_decoder::{
-    ByteCodec, DecodeStop, Emission, ErrorMode, HandlerResult, Kind, Pending, RawDecoder, Text, TextLengths, latin1_up_to,
-    replace_each, run,
+    ByteCodec, DecoderStop, Emission, ErrorMode, HandlerResult, Kind, Pending, RawDecoder, Text,
+    TextLengths, latin1_up_to, replace_each, run,
 };
 use enc_index::DoubleByteIndex;
 use enc_units::{Pieces, Places, Units, put_run};
@@ -337,7 +337,7 @@ impl<E: MultiByte> RawDecoder for MultiByteDecoder<E> {
         out: &mut U,
         last: bool,
         mode: ErrorMode,
-    ) -> DecodeStop {
+    ) -> DecoderStop {
         E::laws();
         run(self, src, out, last, mode)
     }

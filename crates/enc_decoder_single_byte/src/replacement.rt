@@ -2,7 +2,10 @@
 
 ghost use Rattle.std.specs.Prelude.{◌≡◌, true, false};
 
-use enc_decoder::{ByteCodec, DecodeStop, Emission, ErrorMode, HandlerResult, Kind, RawDecoder, Text, TextLengths, run};
+use enc_decoder::{
+    ByteCodec, DecoderStop, Emission, ErrorMode, HandlerResult, Kind, RawDecoder, Text,
+    TextLengths, run,
+};
 use enc_units::Units;
 use std::marker::Model;
 
@@ -93,7 +96,7 @@ impl RawDecoder for ReplacementDecoder {
         out: &mut U,
         last: bool,
         mode: ErrorMode,
-    ) -> DecodeStop {
+    ) -> DecoderStop {
         run(self, src, out, last, mode)
     }
 

@@ -7,7 +7,10 @@ ghost use Rattle.enc_index.specs.Grid.{HasWord};
 ghost use Rattle.enc_index.specs.Runs.{single_byte_runs};
 
 use crate::one_byte::show_byte;
-use enc_decoder::{ByteCodec, DecodeStop, Emission, ErrorMode, HandlerResult, RawDecoder, TextLengths, latin1_up_to, run};
+use enc_decoder::{
+    ByteCodec, DecoderStop, Emission, ErrorMode, HandlerResult, RawDecoder, TextLengths,
+    latin1_up_to, run,
+};
 use enc_index::SingleByteIndex;
 use enc_units::{Pieces, Units, put_run};
 
@@ -146,7 +149,7 @@ impl RawDecoder for SingleByteDecoder {
         out: &mut U,
         last: bool,
         mode: ErrorMode,
-    ) -> DecodeStop {
+    ) -> DecoderStop {
         run(self, src, out, last, mode)
     }
 

@@ -8,7 +8,8 @@ ghost use Rattle.enc_decoder_utf.specs.Utf16State.{with_pending, begins_with_lea
 ghost use Rattle.enc_decoder.specs.CodecLaw.{HandlesByte};
 
 use enc_decoder::{
-    ByteCodec, DecodeStop, Emission, ErrorMode, HandlerResult, Kind, Pending, RawDecoder, Text, TextLengths, run,
+    ByteCodec, DecoderStop, Emission, ErrorMode, HandlerResult, Kind, Pending, RawDecoder, Text,
+    TextLengths, run,
 };
 use enc_units::{Pieces, Units, put_run};
 use std::marker::Model;
@@ -290,7 +291,7 @@ impl RawDecoder for Utf16Decoder {
         out: &mut U,
         last: bool,
         mode: ErrorMode,
-    ) -> DecodeStop {
+    ) -> DecoderStop {
         run(self, src, out, last, mode)
     }
 

@@ -8,8 +8,8 @@ ghost use Rattle.enc_decoder_utf.specs.Utf8State.{is_incomplete, utf_8_state};
 ghost use Rattle.enc_decoder.specs.CodecLaw.{HandlesByte};
 
 use enc_decoder::{
-    ByteCodec, DecodeStop, Emission, ErrorMode, HandlerResult, Kind, Pending, RawDecoder, Text, TextLengths, latin1_up_to,
-    replace_each, run,
+    ByteCodec, DecoderStop, Emission, ErrorMode, HandlerResult, Kind, Pending, RawDecoder, Text,
+    TextLengths, latin1_up_to, replace_each, run,
 };
 use enc_units::Units;
 use std::marker::Model;
@@ -316,7 +316,7 @@ impl RawDecoder for Utf8Decoder {
         out: &mut U,
         last: bool,
         mode: ErrorMode,
-    ) -> DecodeStop {
+    ) -> DecoderStop {
         run(self, src, out, last, mode)
     }
 

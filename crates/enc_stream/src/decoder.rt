@@ -20,7 +20,7 @@ use crate::life_cycle::LifeCycle;
 use crate::sniffing::{Sniffed, sniff};
 use crate::text::convert_text;
 use enc_codec::VariantDecoder;
-use enc_decoder::{CallOptions, DecodeOutcome, ErrorMode};
+use enc_decoder::{CallOptions, DecoderOutcome, ErrorMode};
 use enc_units::{CoderResult, DecoderResult, Units, Utf8Slice, Utf16Slice};
 pub(crate) use start::whole_length;
 use std::fmt;
@@ -86,7 +86,7 @@ impl Decoder {
         out: &mut U,
         last: bool,
         mode: ErrorMode,
-    ) -> DecodeOutcome
+    ) -> DecoderOutcome
         requires { has_finished self.old ≡ false }
         ensures { AnswersDecodeInto U.units_of (decode_error_mode (replaces mode)) self.old self.new
             src.now last (U.output out.old) (U.output out.new) result.result result.read
@@ -98,7 +98,7 @@ impl Decoder {
         match sniffed {
             Sniffed::Open(life) => {
                 self.life = life;
-                return DecodeOutcome {
+                return DecoderOutcome {
                     result: DecoderResult::InputEmpty,
                     read: len,
                     replaced: false,
@@ -109,7 +109,7 @@ impl Decoder {
         }
         let options = CallOptions { last, mode };
         let of_text = convert_text(&mut self.life, &mut self.codec, rest, out, options);
-        DecodeOutcome {
+        DecoderOutcome {
             result: of_text.result,
             read: len + of_text.read,
             replaced: of_text.replaced,

@@ -11,7 +11,7 @@ ghost use Rattle.enc_stream.specs.Sniffing.{HasNoMark};
 
 use crate::life_cycle::LifeCycle;
 use enc_codec::RawDecoder;
-use enc_decoder::{CallOptions, DecodeOutcome, convert, reaches_end, shift_malformed};
+use enc_decoder::{CallOptions, DecoderOutcome, convert, reaches_end, shift_malformed};
 use enc_units::Units;
 
 /// Returns the held bytes of a byte order mark that the codec has not read. It has `pending` bytes
@@ -32,7 +32,7 @@ pub(crate) fn convert_text<D: RawDecoder, U: Units>(
     src: &[u8],
     out: &mut U,
     options: CallOptions,
-) -> DecodeOutcome
+) -> DecoderOutcome
     requires open { has_ended life.old ≡ false }
     requires text { HasNoMark life.old src.now options.last }
     requires holds { HeldBytesMatchCodec life.old (D.state codec.old) }
@@ -50,7 +50,7 @@ pub(crate) fn convert_text<D: RawDecoder, U: Units>(
     let before = *codec;
     let held = unread(*life, before.held());
     let done = convert(codec, held, src, out, options);
-    let outcome = DecodeOutcome {
+    let outcome = DecoderOutcome {
         result: shift_malformed(done.result, done.left),
         read: done.read,
         replaced: done.replaced,

@@ -2,7 +2,7 @@
 //! their length queries. The rows are those of the samples.
 
 use enc_codec::{
-    Codec, DecodeStop, DecoderResult, ErrorMode, NewDecoder, RawDecoder, VariantDecoder,
+    Codec, DecoderResult, DecoderStop, ErrorMode, NewDecoder, RawDecoder, VariantDecoder,
 };
 use enc_units::Utf8Slice;
 use std::process::Abort;
@@ -68,7 +68,7 @@ fn call_with_malformed(
     codec: Codec,
     src: &[u8],
     (room, mode): (usize, ErrorMode),
-    want: DecodeStop,
+    want: DecoderStop,
 ) {
     let mut dst = [0; 4];
     assert!(rt; room <= 4);
@@ -83,11 +83,11 @@ fn call_with_malformed(
 /// "fatal" in any room.
 fn report_malformed(rt: &impl Abort, codec: Codec, src: &[u8]) {
     assert!(rt; 0 < src.len() && src.len() <= 4, "{src:?}");
-    let whole = DecodeStop {
+    let whole = DecoderStop {
         result: DecoderResult::Malformed(src.len() as u8, 0),
         read: src.len(),
     };
-    let full = DecodeStop {
+    let full = DecoderStop {
         result: DecoderResult::OutputFull,
         read: src.len().saturating_sub(1),
     };

@@ -31,7 +31,7 @@ fn decode_in_parts<D: RawDecoder>(rt: &impl Abort, start: D) {
     let mut decoder: D = start;
     let mut dst: [u8; 8] = [0; 8];
     let mut out = Utf8Slice::new(&mut dst);
-    let stop: DecodeStop = decoder.decode(b"\xE2", &mut out, false, ErrorMode::Fatal);
+    let stop: DecoderStop = decoder.decode(b"\xE2", &mut out, false, ErrorMode::Fatal);
     assert!(rt; (stop.result, stop.read) == (DecoderResult::InputEmpty, 1));
     let held: usize = decoder.held();
     let utf_8: Option<usize> = decoder.max_utf8_buffer_length(2);
@@ -44,7 +44,7 @@ fn decode_in_parts<D: RawDecoder>(rt: &impl Abort, start: D) {
         decoder.latin1_byte_compatible_up_to(b"ab"),
     );
     assert!(rt; latin1 == (Some(2), None));
-    let outcome: DecodeOutcome = decoder.decode_replacing(b"\x82\xAC\xFF", &mut out, true);
+    let outcome: DecoderOutcome = decoder.decode_replacing(b"\x82\xAC\xFF", &mut out, true);
     let (result, read, replaced) = (outcome.result, outcome.read, outcome.replaced);
     assert!(rt; (result, read, replaced) == (DecoderResult::InputEmpty, 3, true));
     assert!(rt; &dst[..6] == "€\u{FFFD}".as_bytes());

@@ -3,7 +3,7 @@
 
 use crate::cases::{Case, expect, expect_bytes};
 use crate::decoding::outputs::written_part;
-use enc_decoder::{DecodeStop, ErrorMode, RawDecoder};
+use enc_decoder::{DecoderStop, ErrorMode, RawDecoder};
 use enc_units::{DecoderResult, Units, Utf8Slice};
 use std::test::Fail;
 
@@ -18,7 +18,7 @@ pub(crate) fn call(
     mode: ErrorMode,
 ) -> RawAnswer {
     let mut out = Utf8Slice::new(dst);
-    let DecodeStop { result, read } = decoder.decode(src, &mut out, last, mode);
+    let DecoderStop { result, read } = decoder.decode(src, &mut out, last, mode);
     (result, read, out.len(), out.room())
 }
 
