@@ -2,7 +2,7 @@
 //!
 //! Written by scripts/make-sources from data/templates: change the text there, and not this file.
 
-use enc_decoder::{DecoderOutcome, DecoderStop, ErrorMode, RawDecoder, TextLengths};
+use enc_decoder::{CallOptions, DecoderOutcome, DecoderStop, ErrorMode, RawDecoder, TextLengths};
 use enc_decoder_iso_2022_jp::Iso2022JpDecoder;
 use enc_decoder_multi_byte::{
     Big5Decoder, EucJpDecoder, EucKrDecoder, Gb18030Decoder, ShiftJisDecoder,
@@ -74,13 +74,13 @@ impl RawDecoder for VariantDecoder {
         by_decoder!(self, decoder => decoder.decode(src, out, last, mode))
     }
 
-    fn decode_replacing<U: Units>(
+    fn decode_in_mode<U: Units>(
         &mut self,
         src: &[u8],
         out: &mut U,
-        last: bool,
+        options: CallOptions,
     ) -> DecoderOutcome {
-        by_decoder!(self, decoder => decoder.decode_replacing(src, out, last))
+        by_decoder!(self, decoder => decoder.decode_in_mode(src, out, options))
     }
 
     fn held(&self) -> usize {

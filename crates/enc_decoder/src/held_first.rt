@@ -2,42 +2,14 @@
 
 ghost use Rattle.std.specs.Prelude.{◌≡◌, ℕ, ◌+◌, ◌-◌, ◌≤◌, ◌++◌, length};
 ghost use Rattle.enc_decoder.specs.CodecState.{remainder_of};
-ghost use Rattle.enc_decoder.specs.Call.{DecoderCallInto, reaches_end as ends};
+ghost use Rattle.enc_decoder.specs.Call.{reaches_end as ends};
 ghost use Rattle.enc_decoder.specs.Converting.{PrefixedCallInto, ReadsHeldFirst, shifted_result};
 ghost use Rattle.enc_decoder.specs.Replacing.{replaces, decode_error_mode};
 
 use crate::RawDecoder;
-use crate::error_mode::{CallOptions, ErrorMode};
-use crate::outcome::{DecoderOutcome, HeldFirstOutcome};
+use crate::error_mode::CallOptions;
+use crate::outcome::HeldFirstOutcome;
 use enc_units::{DecoderResult, Units};
-
-/// Decodes a chunk in either error mode. Takes no memory.
-#[inline(always)]
-fn decode_chunk<D: RawDecoder, U: Units>(
-    codec: &mut D,
-    src: &[u8],
-    out: &mut U,
-    options: CallOptions,
-) -> DecoderOutcome
-    ensures call { DecoderCallInto U.units_of (remainder_of (D.state codec.old))
-        (remainder_of (D.state codec.new)) src.now options.last
-        (decode_error_mode (replaces options.mode)) (U.output out.old) (U.output out.new)
-        result.result result.read result.replaced }
-    ensures rule { (D.state codec.new).rule ≡ (D.state codec.old).rule }
-    ensures formulas { D.formulas codec.new ≡ D.formulas codec.old }
-{
-    match options.mode {
-        ErrorMode::Replacement => codec.decode_replacing(src, out, options.last),
-        ErrorMode::Fatal => {
-            let stop = codec.decode(src, out, options.last, ErrorMode::Fatal);
-            DecoderOutcome {
-                result: stop.result,
-                read: stop.read,
-                replaced: false,
-            }
-        }
-    }
-}
 
 /// Decodes the held bytes and then those of `src`, as if they came together. Takes no memory.
 pub fn convert<D: RawDecoder, U: Units>(
@@ -62,7 +34,7 @@ pub fn convert<D: RawDecoder, U: Units>(
             last: alone & options.last,
             mode: options.mode,
         };
-        let first = decode_chunk(codec, held, out, of_held);
+        let first = codec.decode_in_mode(held, out, of_held);
         if alone | (first.result != DecoderResult::InputEmpty) {
             return HeldFirstOutcome {
                 result: first.result,
@@ -73,7 +45,7 @@ pub fn convert<D: RawDecoder, U: Units>(
         }
         had = first.replaced;
     }
-    let then = decode_chunk(codec, src, out, options);
+    let then = codec.decode_in_mode(src, out, options);
     HeldFirstOutcome {
         result: then.result,
         left: 0,

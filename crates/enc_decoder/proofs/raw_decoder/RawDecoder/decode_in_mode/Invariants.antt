@@ -1,12 +1,12 @@
 use Rattle.std.proofs.Common.{◌≡◌, ◌+◌, ◌-◌, length}
 use Rattle.enc_decoder.specs.CodecState.{remainder_of}
 use Rattle.enc_decoder.proofs.ReplacingLemmas.{Turning}
-use Rattle.enc_decoder.proofs.raw_decoder.RawDecoder.decode_replacing.Given as goal
+use Rattle.enc_decoder.proofs.raw_decoder.RawDecoder.decode_in_mode.Given as goal
 
 abbrev pub invariant-loop-out : goal.invariant-loop-out
 invariant-loop-out g l = record {
   turning : Turning g.U.Units.units_of (remainder_of (g.Self.RawDecoder.state l.initial.self)) l.src
-      l.last (g.U.Units.output l.initial.out) (g.U.Units.output l.out) l.read
+      l.options.last (g.U.Units.output l.initial.out) (g.U.Units.output l.out) l.read
       (remainder_of (g.Self.RawDecoder.state l.self)) l.replaced;
   rule : (g.Self.RawDecoder.state l.self).rule ≡ (g.Self.RawDecoder.state l.initial.self).rule;
   formulas : g.Self.RawDecoder.formulas l.self ≡ g.Self.RawDecoder.formulas l.initial.self;
