@@ -146,7 +146,7 @@ class Claims:
 
 def unknown(text):
     """The names in a text that no source and no spec has, and no crate."""
-    files = paths("crates/*/src/*.rt") + paths("crates/*/specs/*.antt")
+    files = paths("crates/*/src/**/*.rt") + paths("crates/*/specs/*.antt")
     known = set(crates()).union(*(re.findall(r"\w+", read(it)) for it in files))
     names = re.findall(r"`([A-Za-z_]\w*(?:::\w+)*)`", text)
     return [it for it in dict.fromkeys(names) if not known.issuperset(it.split("::"))]

@@ -10,7 +10,7 @@ from common import crates, differing, paths, read
 from edit_list import edits_of, equal_of
 from lists import encodings, labels_of
 from places import decoders
-from sources import headline, is_written, lines_of, specs_of, tests_of
+from sources import executable_lines, headline, is_written, lines_of, specs_of, tests_of
 
 FROM, TO = "<!-- scripts/documents writes from here -->", "<!-- to here -->"
 # The folders of sources, by their names in docs/VERIFY.md, with the text beside the number of each.
@@ -60,6 +60,8 @@ def of_verify():
     less = f"without clause `run` {lines - call[0]} and {types - call[1]}; for UTF-8 alone {core[0]} and {core[1]}"
     of_encoding = closure.sizes_under(closure.ENCODE_RUN, "encode_run")
     edits, tests = sum(len(edits_of(it)) for it in crates()), sum(tests_of(it) for it in crates())
+    by_hand = [it for it in paths("crates/*/src/**/*.rt") if not is_written(it) and not it.startswith("crates/test_")]
+    executable, proofs = sum(map(executable_lines, by_hand)), lines_in("proofs", False)[0]
     in_folders = {name: (*lines_in(folder, False), said) for name, (folder, said) in FOLDERS.items()}
     return table([
         ("definitions under `decode_run`", f"{lines} lines, and {types} of types", less),
@@ -67,6 +69,7 @@ def of_verify():
         ("runs of the indexes: pointers and code points", closure.runs(), "`crates/enc_index/src/data/`"),
         *((f"{name} in all", f"{every} lines, {written} in files that scripts write", said)
           for name, (every, written, said) in in_folders.items()),
+        ("executable lines by hand", executable, f"proofs have {proofs / executable:.2f} lines for each"),
         ("functions that state a contract", f"{len(clauses)}, by {sum(clauses)} clauses", "`src/`"),
         ("edits; tests", f"{edits}; {tests}, of {lines_in('src', True)[0]} lines",
          "[GATE.md](GATE.md), which also has the time of the gate"),

@@ -5,10 +5,10 @@ import re
 from common import paths, read
 from sources import blocks, end_of_group, is_written
 
-# The most lines of a file, and the most columns of a line, and of an import.
-MOST_LINES, MOST_COLUMNS, MOST_OF_IMPORTS = 799, 100, 120
-# The most parameters of a lemma, and of a module, each by itself, and the most `_` side by side.
-MOST_PARAMETERS, MOST_HOLES = 19, 5
+# The most lines of a file, and of a proof's, and the most columns of a line, and of an import.
+MOST_LINES, MOST_OF_PROOFS, MOST_COLUMNS, MOST_OF_IMPORTS = 799, 400, 100, 120
+# The most parameters of a function, and of a lemma or a module, each by itself, and the most `_` side by side.
+MOST_OF_FUNCTIONS, MOST_PARAMETERS, MOST_HOLES = 5, 9, 5
 # The most names that two spec files may share.
 MOST_SHARED = 11
 
@@ -16,6 +16,9 @@ HOLES = re.compile(rf"(?<=\s)_(?:\s+_){{{MOST_HOLES},}}(?=[\s,)\]])")
 # The head of a lemma or a module, and a group of its parameters.
 HEAD = re.compile(r"^ *(?:module _|(?:pub )?[^\s:({]+ :)(?=\s+[({])", re.M)
 GROUP = re.compile(r"\s*(?:→\s*)?[({]([^(){}:]+):")
+# The head of a function up to its parameters, and a bracket with none in it.
+FUNCTION = re.compile(r"\bfn \w+(?:<[^(]*>)?\(")
+INNER = re.compile(r"[(<[{][^()<>[\]{}]*[])>}]")
 LOCAL = re.compile(r"\blet (\w)(?: :| =)")
 IMPORT = re.compile(r" *(?:pub |ghost |unfoldable )*use ")
 # `rt fmt` writes these in one line.
@@ -47,6 +50,18 @@ def parameters(text, at):
     return number
 
 
+def long_heads(path, text):
+    """The functions that have too many parameters."""
+    found = []
+    for it in FUNCTION.finditer(text):
+        inner, parts = None, text[it.end():end_of_group(text, it.end()) - 1].replace("->", "")
+        while parts != inner:
+            inner, parts = parts, INNER.sub("", parts)
+        if sum(bool(part.strip()) for part in parts.split(",")) > MOST_OF_FUNCTIONS:
+            found.append(f"{path}:{text.count(chr(10), 0, it.start()) + 1}: more than {MOST_OF_FUNCTIONS} parameters")
+    return found
+
+
 def unnamed(path, text):
     """Places of a proof where names are wanted: `_` side by side, many parameters, facts of one letter cited twice."""
     found = [(it.start(), "six `_` or more side by side") for it in HOLES.finditer(text)]
@@ -76,6 +91,8 @@ def broken_rules():
     found = []
     for path in sources():
         text = read(path)
-        found += [f"{path}: more than {MOST_LINES} lines"] * (text.count("\n") > MOST_LINES)
-        found += wide_lines(path, text) + (unnamed(path, text) if "/proofs/" in path else [])
+        proof = "/proofs/" in path
+        most = MOST_OF_PROOFS if proof else MOST_LINES
+        found += [f"{path}: more than {most} lines"] * (text.count("\n") > most)
+        found += wide_lines(path, text) + (unnamed(path, text) if proof else long_heads(path, text))
     return found

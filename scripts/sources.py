@@ -6,6 +6,8 @@ import re
 from common import paths, read
 
 HEAD = re.compile(r"(?:(?:abbrev|unfoldable|pub|record|data) )+(?!mod |use )([^\s:({]+)")
+CLAUSE = re.compile(r"^ *(?:requires|ensures)\b[^{\n]*\{", re.M)
+GHOST = re.compile(r"^ *(?:pub |ghost )*(?:use|mod|ghost) [^;]*;", re.M)
 IMPORTS = re.compile(r"^(?:pub |ghost )*use [^{\n]*(?:\{[^}]*\})?.*$|^pub mod .*$", re.M)
 
 
@@ -51,6 +53,14 @@ def counted(block, comment):
 def lines_of(path):
     """The lines of a file that are neither blank nor a comment nor an import."""
     return counted(IMPORTS.sub("", read(path)), "--" if path.endswith(".antt") else "//")
+
+
+def executable_lines(path):
+    """The lines of a file of code that are neither blank, comments, imports, contracts nor ghost."""
+    text, code, at = re.sub(r"^ *//.*", "", read(path), flags=re.M), "", 0
+    for it in CLAUSE.finditer(text):
+        code, at = code + text[at:it.start()], end_of_group(text, it.end())
+    return counted(GHOST.sub("", code + text[at:]), "//")
 
 
 def is_written(path):
