@@ -2,7 +2,7 @@
 //!
 //! Written by scripts/make-sources from data/templates: change the text there, and not this file.
 
-use enc_decoder::{CallOptions, DecoderOutcome, DecoderStop, ErrorMode, RawDecoder, TextLengths};
+use enc_decoder::{DecoderOutcome, DecoderStop, ErrorMode, RawDecoder, TextLengths};
 use enc_decoder_iso_2022_jp::Iso2022JpDecoder;
 use enc_decoder_multi_byte::{
     Big5Decoder, EucJpDecoder, EucKrDecoder, Gb18030Decoder, ShiftJisDecoder,
@@ -78,9 +78,10 @@ impl RawDecoder for VariantDecoder {
         &mut self,
         src: &[u8],
         out: &mut U,
-        options: CallOptions,
+        last: bool,
+        mode: ErrorMode,
     ) -> DecoderOutcome {
-        by_decoder!(self, decoder => decoder.decode_in_mode(src, out, options))
+        by_decoder!(self, decoder => decoder.decode_in_mode(src, out, last, mode))
     }
 
     fn held(&self) -> usize {

@@ -30,11 +30,7 @@ pub fn convert<D: RawDecoder, U: Units>(
     let mut had = false;
     if !held.is_empty() {
         let alone = src.is_empty();
-        let of_held = CallOptions {
-            last: alone & options.last,
-            mode: options.mode,
-        };
-        let first = codec.decode_in_mode(held, out, of_held);
+        let first = codec.decode_in_mode(held, out, alone & options.last, options.mode);
         if alone | (first.result != DecoderResult::InputEmpty) {
             return HeldFirstOutcome {
                 result: first.result,
@@ -45,7 +41,7 @@ pub fn convert<D: RawDecoder, U: Units>(
         }
         had = first.replaced;
     }
-    let then = codec.decode_in_mode(src, out, options);
+    let then = codec.decode_in_mode(src, out, options.last, options.mode);
     HeldFirstOutcome {
         result: then.result,
         left: 0,

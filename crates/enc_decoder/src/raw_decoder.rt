@@ -11,7 +11,7 @@ ghost use Rattle.enc_decoder.specs.Need.{MeetsDecodeNeedInto, AreEnoughForCodec}
 ghost use Rattle.enc_decoder.specs.Lengths.{utf_8_length, reporting_length, utf_16_length};
 ghost use Rattle.enc_decoder.specs.declared.text_lengths.TextLengths.{TextLengths};
 
-use crate::error_mode::{CallOptions, ErrorMode};
+use crate::error_mode::ErrorMode;
 use crate::outcome::{DecoderOutcome, DecoderStop};
 use crate::text_lengths::TextLengths;
 use enc_units::{DecoderResult, Units};
@@ -84,20 +84,21 @@ pub trait RawDecoder: Copy {
         &mut self,
         src: &[u8],
         out: &mut U,
-        options: CallOptions,
+        last: bool,
+        mode: ErrorMode,
     ) -> DecoderOutcome
         ensures call { DecoderCallInto U.units_of (remainder_of (state self.old))
-            (remainder_of (state self.new)) src.now options.last
-            (decode_error_mode (replaces options.mode)) (U.output out.old) (U.output out.new)
+            (remainder_of (state self.new)) src.now last
+            (decode_error_mode (replaces mode)) (U.output out.old) (U.output out.new)
             result.result result.read result.replaced }
         ensures rule { (state self.new).rule ≡ (state self.old).rule }
         ensures formulas { formulas self.new ≡ formulas self.old }
         ensures lawful { IsLawfulRule (state self.old).rule }
     {
-        match options.mode {
+        match mode {
             ErrorMode::Replacement => (),
             ErrorMode::Fatal => {
-                let stop = self.decode(src, out, options.last, ErrorMode::Fatal);
+                let stop = self.decode(src, out, last, ErrorMode::Fatal);
                 return DecoderOutcome {
                     result: stop.result,
                     read: stop.read,
@@ -109,7 +110,7 @@ pub trait RawDecoder: Copy {
         let mut replaced = false;
         loop {
             let (_, rest) = src.split_at(read);
-            let part = self.decode(rest, out, options.last, ErrorMode::Replacement);
+            let part = self.decode(rest, out, last, ErrorMode::Replacement);
             read += part.read;
             // one place that makes the outcome: of two, each would copy its padding through memory
             let DecoderResult::Malformed(_, _) = part.result else {

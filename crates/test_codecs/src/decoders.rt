@@ -2,8 +2,7 @@
 //! their length queries. The rows are those of the samples.
 
 use enc_codec::{
-    CallOptions, Codec, DecoderResult, DecoderStop, ErrorMode, NewDecoder, RawDecoder,
-    VariantDecoder,
+    Codec, DecoderResult, DecoderStop, ErrorMode, NewDecoder, RawDecoder, VariantDecoder,
 };
 use enc_units::Utf8Slice;
 use std::process::Abort;
@@ -118,11 +117,7 @@ fn compare_lengths(rt: &impl Abort, codec: Codec, row: &DecoderLengthsRow) {
     let mut decoder = codec.new_decoder();
     let mut buffer = [0; 16];
     let mut out = Utf8Slice::new(&mut buffer);
-    let options = CallOptions {
-        last: false,
-        mode: ErrorMode::Replacement,
-    };
-    let outcome = decoder.decode_in_mode(bytes, &mut out, options);
+    let outcome = decoder.decode_in_mode(bytes, &mut out, false, ErrorMode::Replacement);
     assert!(rt; (outcome.result, outcome.read) == (DecoderResult::InputEmpty, bytes.len()));
     let answers = (
         decoder.max_utf8_buffer_length(more),

@@ -44,11 +44,12 @@ fn decode_in_parts<D: RawDecoder>(rt: &impl Abort, start: D) {
         decoder.latin1_byte_compatible_up_to(b"ab"),
     );
     assert!(rt; latin1 == (Some(2), None));
-    let options = CallOptions {
-        last: true,
-        mode: ErrorMode::Replacement,
-    };
-    let outcome: DecoderOutcome = decoder.decode_in_mode(b"\x82\xAC\xFF", &mut out, options);
+    let outcome: DecoderOutcome = decoder.decode_in_mode(
+        b"\x82\xAC\xFF",
+        &mut out,
+        true,
+        ErrorMode::Replacement,
+    );
     let (result, read, replaced) = (outcome.result, outcome.read, outcome.replaced);
     assert!(rt; (result, read, replaced) == (DecoderResult::InputEmpty, 3, true));
     assert!(rt; &dst[..6] == "€\u{FFFD}".as_bytes());

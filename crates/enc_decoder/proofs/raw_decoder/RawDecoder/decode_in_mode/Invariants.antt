@@ -6,7 +6,7 @@ use Rattle.enc_decoder.proofs.raw_decoder.RawDecoder.decode_in_mode.Given as goa
 abbrev pub invariant-loop-out : goal.invariant-loop-out
 invariant-loop-out g l = record {
   turning : Turning g.U.Units.units_of (remainder_of (g.Self.RawDecoder.state l.initial.self)) l.src
-      l.options.last (g.U.Units.output l.initial.out) (g.U.Units.output l.out) l.read
+      l.last (g.U.Units.output l.initial.out) (g.U.Units.output l.out) l.read
       (remainder_of (g.Self.RawDecoder.state l.self)) l.replaced;
   rule : (g.Self.RawDecoder.state l.self).rule ≡ (g.Self.RawDecoder.state l.initial.self).rule;
   formulas : g.Self.RawDecoder.formulas l.self ≡ g.Self.RawDecoder.formulas l.initial.self;
