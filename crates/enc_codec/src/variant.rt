@@ -74,14 +74,13 @@ impl RawDecoder for VariantDecoder {
         by_decoder!(self, decoder => decoder.decode(src, out, last, mode))
     }
 
-    fn decode_in_mode<U: Units>(
+    fn decode_replacing<U: Units>(
         &mut self,
         src: &[u8],
         out: &mut U,
         last: bool,
-        mode: ErrorMode,
     ) -> DecoderOutcome {
-        by_decoder!(self, decoder => decoder.decode_in_mode(src, out, last, mode))
+        by_decoder!(self, decoder => decoder.decode_replacing(src, out, last))
     }
 
     fn held(&self) -> usize {

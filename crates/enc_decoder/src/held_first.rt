@@ -7,9 +7,26 @@ ghost use Rattle.enc_decoder.specs.Converting.{PrefixedCallInto, ReadsHeldFirst,
 ghost use Rattle.enc_decoder.specs.Replacing.{replaces, decode_error_mode};
 
 use crate::RawDecoder;
-use crate::error_mode::CallOptions;
-use crate::outcome::HeldFirstOutcome;
+use crate::error_mode::{CallOptions, ErrorMode};
+use crate::outcome::{DecoderOutcome, HeldFirstOutcome};
 use enc_units::{DecoderResult, Units};
+
+/// A call of a decoder in either error mode.
+macro_rules! decode_in_mode {
+    ($codec:expr, $src:expr, $out:expr, $last:expr, $mode:expr) => {
+        match $mode {
+            ErrorMode::Replacement => $codec.decode_replacing($src, $out, $last),
+            ErrorMode::Fatal => {
+                let stop = $codec.decode($src, $out, $last, ErrorMode::Fatal);
+                DecoderOutcome {
+                    result: stop.result,
+                    read: stop.read,
+                    replaced: false,
+                }
+            }
+        }
+    };
+}
 
 /// Decodes the held bytes and then those of `src`, as if they came together. Takes no memory.
 pub fn convert<D: RawDecoder, U: Units>(
@@ -30,7 +47,7 @@ pub fn convert<D: RawDecoder, U: Units>(
     let mut had = false;
     if !held.is_empty() {
         let alone = src.is_empty();
-        let first = codec.decode_in_mode(held, out, alone & options.last, options.mode);
+        let first = decode_in_mode!(codec, held, out, alone & options.last, options.mode);
         if alone | (first.result != DecoderResult::InputEmpty) {
             return HeldFirstOutcome {
                 result: first.result,
@@ -41,7 +58,7 @@ pub fn convert<D: RawDecoder, U: Units>(
         }
         had = first.replaced;
     }
-    let then = codec.decode_in_mode(src, out, options.last, options.mode);
+    let then = decode_in_mode!(codec, src, out, options.last, options.mode);
     HeldFirstOutcome {
         result: then.result,
         left: 0,

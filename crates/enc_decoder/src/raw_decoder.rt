@@ -2,8 +2,8 @@
 
 ghost use Rattle.std.specs.Prelude.{◌≡◌, ◌≤◌, true, false, length};
 ghost use Rattle.enc_decoder.specs.CodecState.{CodecState, remainder_of};
-ghost use Rattle.enc_decoder.specs.Call.{DecoderCallInto, Fatal};
-ghost use Rattle.enc_decoder.specs.Replacing.{replaces, decode_error_mode};
+ghost use Rattle.enc_decoder.specs.Call.{DecoderCallInto, Replacement, Fatal};
+ghost use Rattle.enc_decoder.specs.Replacing.{replaces};
 ghost use Rattle.enc_decoder.specs.Latin1.{AnswersCodecLatin1};
 ghost use Rattle.enc_decoder.specs.RuleLaws.{IsLawfulRule};
 ghost use Rattle.enc_decoder.specs.Taking.{TakesSequences};
@@ -73,49 +73,31 @@ pub trait RawDecoder: Copy {
         0
     }
 
-    /// Decodes a chunk in either error mode (Encoding Standard 4.1, "process a queue").
+    /// Decodes a chunk, with replacement (Encoding Standard 4.1, error mode "replacement").
     ///
-    /// It stops when all of `src` is read, the next sequence does not fit into `out`, or, without
-    /// replacement, one is malformed. Takes no memory.
+    /// It stops when all of `src` is read or the next sequence does not fit into `out`. Takes no
+    /// memory.
     ///
     /// A decoder that is one of several leaves the whole call to that one, so that it is not chosen
     /// anew after each malformed sequence.
-    fn decode_in_mode<U: Units>(
-        &mut self,
-        src: &[u8],
-        out: &mut U,
-        last: bool,
-        mode: ErrorMode,
-    ) -> DecoderOutcome
+    fn decode_replacing<U: Units>(&mut self, src: &[u8], out: &mut U, last: bool) -> DecoderOutcome
         ensures call { DecoderCallInto U.units_of (remainder_of (state self.old))
-            (remainder_of (state self.new)) src.now last
-            (decode_error_mode (replaces mode)) (U.output out.old) (U.output out.new)
-            result.result result.read result.replaced }
+            (remainder_of (state self.new)) src.now last Replacement (U.output out.old)
+            (U.output out.new) result.result result.read result.replaced }
         ensures rule { (state self.new).rule ≡ (state self.old).rule }
         ensures formulas { formulas self.new ≡ formulas self.old }
         ensures lawful { IsLawfulRule (state self.old).rule }
     {
-        match mode {
-            ErrorMode::Replacement => (),
-            ErrorMode::Fatal => {
-                let stop = self.decode(src, out, last, ErrorMode::Fatal);
-                return DecoderOutcome {
-                    result: stop.result,
-                    read: stop.read,
-                    replaced: false,
-                };
-            }
-        }
         let mut read = 0;
         let mut replaced = false;
         loop {
             let (_, rest) = src.split_at(read);
-            let part = self.decode(rest, out, last, ErrorMode::Replacement);
-            read += part.read;
+            let stop = self.decode(rest, out, last, ErrorMode::Replacement);
+            read += stop.read;
             // one place that makes the outcome: of two, each would copy its padding through memory
-            let DecoderResult::Malformed(_, _) = part.result else {
+            let DecoderResult::Malformed(_, _) = stop.result else {
                 return DecoderOutcome {
-                    result: part.result,
+                    result: stop.result,
                     read,
                     replaced,
                 };

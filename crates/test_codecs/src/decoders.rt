@@ -117,7 +117,7 @@ fn compare_lengths(rt: &impl Abort, codec: Codec, row: &DecoderLengthsRow) {
     let mut decoder = codec.new_decoder();
     let mut buffer = [0; 16];
     let mut out = Utf8Slice::new(&mut buffer);
-    let outcome = decoder.decode_in_mode(bytes, &mut out, false, ErrorMode::Replacement);
+    let outcome = decoder.decode_replacing(bytes, &mut out, false);
     assert!(rt; (outcome.result, outcome.read) == (DecoderResult::InputEmpty, bytes.len()));
     let answers = (
         decoder.max_utf8_buffer_length(more),

@@ -44,12 +44,7 @@ fn decode_in_parts<D: RawDecoder>(rt: &impl Abort, start: D) {
         decoder.latin1_byte_compatible_up_to(b"ab"),
     );
     assert!(rt; latin1 == (Some(2), None));
-    let outcome: DecoderOutcome = decoder.decode_in_mode(
-        b"\x82\xAC\xFF",
-        &mut out,
-        true,
-        ErrorMode::Replacement,
-    );
+    let outcome: DecoderOutcome = decoder.decode_replacing(b"\x82\xAC\xFF", &mut out, true);
     let (result, read, replaced) = (outcome.result, outcome.read, outcome.replaced);
     assert!(rt; (result, read, replaced) == (DecoderResult::InputEmpty, 3, true));
     assert!(rt; &dst[..6] == "€\u{FFFD}".as_bytes());

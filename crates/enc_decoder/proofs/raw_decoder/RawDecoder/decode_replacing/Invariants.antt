@@ -1,7 +1,7 @@
 use Rattle.std.proofs.Common.{◌≡◌, ◌+◌, ◌-◌, length}
 use Rattle.enc_decoder.specs.CodecState.{remainder_of}
 use Rattle.enc_decoder.proofs.ReplacingLemmas.{Turning}
-use Rattle.enc_decoder.proofs.raw_decoder.RawDecoder.decode_in_mode.Given as goal
+use Rattle.enc_decoder.proofs.raw_decoder.RawDecoder.decode_replacing.Given as goal
 
 abbrev pub invariant-loop-out : goal.invariant-loop-out
 invariant-loop-out g l = record {

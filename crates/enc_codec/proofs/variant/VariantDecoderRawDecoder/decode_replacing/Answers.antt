@@ -1,0 +1,11 @@
+-- Written by scripts/make-sources from data/templates: change the text there, and not this file.
+use Rattle.enc_codec.proofs.variant.VariantDecoderRawDecoder.decode_replacing.Goals as goal
+
+pub returns-in-Big5-clause-lawful : goal.returns-in-Big5-clause-lawful
+returns-in-Big5-clause-lawful g c = rw c.in-Big5.is c.decode_replacing-in-Big5.ensures.lawful
+
+pub returns-in-EucKr-clause-lawful : goal.returns-in-EucKr-clause-lawful
+returns-in-EucKr-clause-lawful g c = rw c.in-EucKr.is c.decode_replacing-in-EucKr.ensures.lawful
+
+pub returns-in-ShiftJis-clause-lawful : goal.returns-in-ShiftJis-clause-lawful
+returns-in-ShiftJis-clause-lawful g c = rw c.in-ShiftJis.is c.decode_replacing-in-ShiftJis.ensures.lawful
