@@ -4,11 +4,11 @@ use Rattle.std.proofs.Common.{◌∙◌, sym, arith, append_assoc}
 use Rattle.enc_decoder.specs.declared.byte_codec.Kind.TheVariants.{Valid, Skipped, Malformed, RepeatedEscape}
 use Rattle.enc_decoder.specs.declared.byte_codec.Text.TheVariants.{Nothing, One}
 use Rattle.enc_decoder.specs.declared.byte_codec.HandlerResult.TheVariants.{Emit}
-use Rattle.enc_decoder_iso_2022_jp.specs.declared.iso_2022_jp.CharacterSet.{CharacterSet}
-use Rattle.enc_decoder_iso_2022_jp.specs.declared.iso_2022_jp.Intermediate.{Intermediate}
-use Rattle.enc_decoder_iso_2022_jp.specs.declared.iso_2022_jp.Escape.{Escape}
-use Rattle.enc_decoder_iso_2022_jp.specs.declared.iso_2022_jp.Escape.TheVariants.{ToAscii, ToRoman, ToKatakana}
-use Rattle.enc_decoder_iso_2022_jp.specs.declared.iso_2022_jp.Escape.TheVariants.{ToJis0208Of1978, ToJis0208Of1983}
+use Rattle.enc_decoder_iso_2022_jp.specs.declared.character_set.CharacterSet.{CharacterSet}
+use Rattle.enc_decoder_iso_2022_jp.specs.declared.escape.Intermediate.{Intermediate}
+use Rattle.enc_decoder_iso_2022_jp.specs.declared.escape.Escape.{Escape}
+use Rattle.enc_decoder_iso_2022_jp.specs.declared.escape.Escape.TheVariants.{ToAscii, ToRoman, ToKatakana}
+use Rattle.enc_decoder_iso_2022_jp.specs.declared.escape.Escape.TheVariants.{ToJis0208Of1978, ToJis0208Of1983}
 use Rattle.enc_decoder_iso_2022_jp.specs.declared.iso_2022_jp.Held.{Held}
 use Rattle.enc_decoder_iso_2022_jp.specs.declared.iso_2022_jp.Held.TheVariants.{GivenBack, Lead, Whole, Started}
 use Rattle.enc_decoder.specs.Segmentation.{sequences_of, one_byte_head}

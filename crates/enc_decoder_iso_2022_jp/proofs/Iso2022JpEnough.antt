@@ -7,8 +7,8 @@ use Rattle.enc_decoder.specs.Segmentation.{Head, one_byte_head}
 use Rattle.enc_decoder.specs.CodecState.{CodecState}
 use Rattle.enc_decoder.specs.Need.{AreEnoughForCodec, IsBmpText}
 use Rattle.enc_decoder.proofs.EnoughLemmas.{HasFewUnits, few_by_single_bytes, multi_byte_enough, basic_by, none_basic}
-use Rattle.enc_decoder_iso_2022_jp.specs.declared.iso_2022_jp.CharacterSet.{CharacterSet}
-use Rattle.enc_decoder_iso_2022_jp.specs.declared.iso_2022_jp.CharacterSet.TheVariants.{Ascii, Roman, Katakana, Jis0208}
+use Rattle.enc_decoder_iso_2022_jp.specs.declared.character_set.CharacterSet.{CharacterSet}
+use Rattle.enc_decoder_iso_2022_jp.specs.declared.character_set.CharacterSet.TheVariants.{Ascii, Roman, Katakana, Jis0208}
 use Rattle.enc_decoder_iso_2022_jp.specs.Iso2022Jp.{set_of, escape_head, is_lead_byte, lead_byte_head, one_byte_char}
 use Rattle.enc_decoder_iso_2022_jp.specs.Iso2022Jp.{two_byte_char, two_byte_head, iso_2022_jp_rule as jp_rule}
 use Rattle.enc_decoder_iso_2022_jp.proofs.Iso2022JpRule.{iso_2022_jp_is_lawful}

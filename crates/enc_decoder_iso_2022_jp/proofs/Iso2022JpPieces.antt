@@ -13,12 +13,12 @@ use Rattle.enc_units.proofs.PiecesLemmas.{puts_wider}
 use Rattle.enc_units.specs.Mappings.{AreWrittenAsThemselves}
 use Rattle.enc_units.specs.Validity.{AreIso2022JpAscii}
 use Rattle.enc_decoder.specs.declared.byte_codec.Kind.TheVariants.{Skipped}
-use Rattle.enc_decoder_iso_2022_jp.specs.declared.iso_2022_jp.CharacterSet.{CharacterSet}
-use Rattle.enc_decoder_iso_2022_jp.specs.declared.iso_2022_jp.CharacterSet.TheVariants.{Ascii, Roman, Katakana, Jis0208}
-use Rattle.enc_decoder_iso_2022_jp.specs.declared.iso_2022_jp.Intermediate.{Intermediate}
-use Rattle.enc_decoder_iso_2022_jp.specs.declared.iso_2022_jp.Escape.{Escape}
-use Rattle.enc_decoder_iso_2022_jp.specs.declared.iso_2022_jp.Escape.TheVariants.{ToAscii, ToRoman, ToKatakana}
-use Rattle.enc_decoder_iso_2022_jp.specs.declared.iso_2022_jp.Escape.TheVariants.{ToJis0208Of1978, ToJis0208Of1983}
+use Rattle.enc_decoder_iso_2022_jp.specs.declared.character_set.CharacterSet.{CharacterSet}
+use Rattle.enc_decoder_iso_2022_jp.specs.declared.character_set.CharacterSet.TheVariants.{Ascii, Roman, Katakana, Jis0208}
+use Rattle.enc_decoder_iso_2022_jp.specs.declared.escape.Intermediate.{Intermediate}
+use Rattle.enc_decoder_iso_2022_jp.specs.declared.escape.Escape.{Escape}
+use Rattle.enc_decoder_iso_2022_jp.specs.declared.escape.Escape.TheVariants.{ToAscii, ToRoman, ToKatakana}
+use Rattle.enc_decoder_iso_2022_jp.specs.declared.escape.Escape.TheVariants.{ToJis0208Of1978, ToJis0208Of1983}
 use Rattle.enc_decoder.specs.Sequence.{Sequence}
 use Rattle.enc_decoder.specs.Segmentation.{sequences_of}
 use Rattle.enc_decoder_iso_2022_jp.specs.Iso2022Jp.{set_number, designated_set, is_lead_byte, one_byte_char}

@@ -12,7 +12,7 @@ use Rattle.enc_decoder.specs.Taking.{IsReplacedChar}
 use Rattle.enc_decoder.proofs.FirstSequenceLemmas.{true_or_false}
 use Rattle.enc_decoder.proofs.PieceLemmas.{one_of}
 use Rattle.enc_decoder.proofs.SegmentationLemmas.{sequences_of-head}
-use Rattle.enc_decoder_iso_2022_jp.specs.declared.iso_2022_jp.CharacterSet.TheVariants.{Ascii}
+use Rattle.enc_decoder_iso_2022_jp.specs.declared.character_set.CharacterSet.TheVariants.{Ascii}
 use Rattle.enc_decoder_iso_2022_jp.specs.declared.replaced_bytes.TheConstants.{REPLACED_WORDS, REPLACED_UNITS}
 use Rattle.enc_decoder_iso_2022_jp.specs.Iso2022Jp.{set_number, ascii_char, one_byte_char, is_lead_byte}
 use Rattle.enc_decoder_iso_2022_jp.specs.Iso2022Jp.{iso_2022_jp_rule as jp_rule}

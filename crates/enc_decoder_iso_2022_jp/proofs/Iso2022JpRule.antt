@@ -6,8 +6,8 @@ use Rattle.std.proofs.Common.{◌++◌, length, take, drop, refl, ap, ◌∙◌,
 use Rattle.std.proofs.lemmas.Bool.Decides.{nat_tests}
 use Rattle.std.specs.Option.{is_some}
 use Rattle.enc_decoder.specs.declared.byte_codec.Kind.TheVariants.{Valid, Skipped}
-use Rattle.enc_decoder_iso_2022_jp.specs.declared.iso_2022_jp.CharacterSet.{CharacterSet}
-use Rattle.enc_decoder_iso_2022_jp.specs.declared.iso_2022_jp.CharacterSet.TheVariants.{Ascii, Jis0208}
+use Rattle.enc_decoder_iso_2022_jp.specs.declared.character_set.CharacterSet.{CharacterSet}
+use Rattle.enc_decoder_iso_2022_jp.specs.declared.character_set.CharacterSet.TheVariants.{Ascii, Jis0208}
 use Rattle.enc_decoder.specs.Segmentation.{Head, one_byte_head}
 use Rattle.enc_decoder.specs.Remainder.{AreBytes}
 use Rattle.enc_decoder.specs.Latin1.{HasNoByteSequences}

@@ -3,7 +3,7 @@ use Rattle.std.proofs.Common.{◌≡◌, ℕ, Bool, true, false, eqb, Option, So
 use Rattle.std.proofs.Common.{ap, ◌∙◌, sym, subst, append_assoc, inl, inr}
 use Rattle.std.proofs.lemmas.List.{take-append-drop}
 use Rattle.std.specs.Option.{is_some}
-use Rattle.enc_decoder_iso_2022_jp.specs.declared.iso_2022_jp.CharacterSet.{CharacterSet}
+use Rattle.enc_decoder_iso_2022_jp.specs.declared.character_set.CharacterSet.{CharacterSet}
 use Rattle.enc_decoder.specs.Sequence.{Sequence, sequence_bytes, set_after}
 use Rattle.enc_decoder.specs.Segmentation.{Head, head_sequence, sequences_of, one_byte_head, malformed_head}
 use Rattle.enc_decoder_iso_2022_jp.specs.Iso2022Jp.{set_number, set_of, set_of_escape_bytes, designated_set}
