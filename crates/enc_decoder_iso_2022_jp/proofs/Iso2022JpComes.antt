@@ -23,16 +23,12 @@ use Rattle.enc_decoder.proofs.SegmentationLemmas.{sequences_of-head}
 use Rattle.enc_decoder.proofs.EmissionLemmas.{shows_with, shows_before}
 use Rattle.enc_decoder_iso_2022_jp.proofs.Iso2022JpLemmas.{set_of_number, lead_first, alone_first, lead_alone}
 use Rattle.enc_decoder_iso_2022_jp.proofs.Iso2022JpLemmas.{lead_and_trail, skipped_escape, repeated_escape}
-use Rattle.enc_decoder_iso_2022_jp.proofs.Iso2022JpLemmas.{designated_by, high_is_none, high_leads_none}
+use Rattle.enc_decoder_iso_2022_jp.proofs.Iso2022JpLemmas.{designated_by, has_escape_bytes, high_is_none, high_leads_none}
 use Rattle.enc_decoder_iso_2022_jp.proofs.Iso2022JpLemmas.{high_is_no_escape}
 use Rattle.enc_decoder_iso_2022_jp.proofs.Iso2022JpUndetermined.{undetermined}
 
 three : (e : Escape) → 3 ≡ length (escape_bytes e)
-three ToAscii = refl
-three ToRoman = refl
-three ToKatakana = refl
-three ToJis0208Of1978 = refl
-three ToJis0208Of1983 = refl
+three e = rw (has_escape_bytes e).bytes refl
 
 -- bytes after those that follow a whole escape sequence or none
 pub escape_and_bytes-append : (before : Option Escape) (x y : List ℕ)

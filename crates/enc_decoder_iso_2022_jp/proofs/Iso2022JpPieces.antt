@@ -31,8 +31,8 @@ use Rattle.enc_decoder.proofs.SegmentationLemmas.{sequences_of-head}
 use Rattle.enc_decoder.proofs.TakingLemmas.{front, follows_second, takes_both, takes_none}
 use Rattle.enc_decoder.proofs.PieceLemmas.{takes_pieces, takes_replaced, three_of}
 use Rattle.enc_decoder.proofs.FirstSequenceLemmas.{true_or_false}
-use Rattle.enc_decoder_iso_2022_jp.proofs.Iso2022JpLemmas.{skipped_escape}
-use Rattle.enc_decoder_iso_2022_jp.proofs.Iso2022JpRule.{is_escape_byte, other_front}
+use Rattle.enc_decoder_iso_2022_jp.proofs.Iso2022JpLemmas.{is_escape_byte, has_escape_bytes, skipped_escape}
+use Rattle.enc_decoder_iso_2022_jp.proofs.EscapeLookahead.{other_front}
 use Rattle.enc_decoder_iso_2022_jp.proofs.Iso2022JpComes.{alone, pair}
 
 -- 1B is no character, and ends none
@@ -110,11 +110,7 @@ skipped e = record {
 
 three_first : (e : Escape) (z : List ℕ) → (take 3 (escape_bytes e ++ z) ≡ escape_bytes e)
     × (drop 3 (escape_bytes e ++ z) ≡ z)
-three_first ToAscii z = (refl, refl)
-three_first ToRoman z = (refl, refl)
-three_first ToKatakana z = (refl, refl)
-three_first ToJis0208Of1978 z = (refl, refl)
-three_first ToJis0208Of1983 z = (refl, refl)
+three_first e z = rw (has_escape_bytes e).bytes (refl, refl)
 
 -- the escape sequence of three bytes in front, if they are one
 pub stands_alone : (src : List ℕ) (i : Intermediate) (found : Option Escape) → 3 < length src
