@@ -1,6 +1,6 @@
 -- The first sequence by ISO-2022-JP's rule for each kind of first bytes.
 use Rattle.std.proofs.Common.{◌≡◌, ℕ, ◌≤◌, Bool, true, false, eqb, Option, Some, None, List, [], ◌∷◌, ◌++◌, drop}
-use Rattle.std.proofs.Common.{refl, ap, ◌∙◌, arith}
+use Rattle.std.proofs.Common.{refl, ap, ◌∙◌, sym, arith, inl, inr}
 use Rattle.std.proofs.lemmas.Bool.{le-ltb}
 use Rattle.std.proofs.lemmas.Bool.Decides.{nat_tests}
 use Rattle.std.specs.Option.{is_some}
@@ -16,6 +16,7 @@ use Rattle.enc_decoder_iso_2022_jp.specs.Iso2022Jp.{escape_head, ascii_char, kat
 use Rattle.enc_decoder_iso_2022_jp.specs.Iso2022Jp.{is_jis0208_byte, two_byte_char, two_byte_head, lead_byte_head}
 use Rattle.enc_decoder_iso_2022_jp.specs.Iso2022Jp.{iso_2022_jp_rule as jp_rule}
 use Rattle.enc_decoder_iso_2022_jp.specs.Iso2022JpState.{escape_bytes, escape_set, cuts_off_lead}
+use Rattle.enc_decoder.proofs.FirstSequenceLemmas.{true_or_false}
 use Rattle.enc_decoder.proofs.SegmentationLemmas.{sequences_of-head}
 
 pub set_of_number : (s : CharacterSet) → set_of (set_number s) ≡ s
@@ -29,6 +30,15 @@ differs a b n = grind (arith, nat_tests)
 
 pub is_escape_byte : (a : ℕ) → eqb a 0x1B ≡ true → a ≡ 0x1B
 is_escape_byte a e = grind (arith, nat_tests)
+
+-- a byte for which something is found, where none is for 1B
+pub found_for_other : {A : Type 0} (found : ℕ → Option A) (b : ℕ) (x : A) → found 0x1B ≡ None
+    → found b ≡ Some x → eqb b 0x1B ≡ false
+found_for_other found b x none is_found = elim (true_or_false (eqb b 0x1B)) [
+  | inl escape ↦ (let none_is_found : None ≡ Some x =
+      sym none ∙ ap found (sym (is_escape_byte b escape)) ∙ is_found in absurd (cc))
+  | inr other ↦ other
+]
 
 pub lead_in_jis0208 : (s : CharacterSet) (b : ℕ) → is_lead_byte s b ≡ true
     → is_jis0208_byte b ≡ true

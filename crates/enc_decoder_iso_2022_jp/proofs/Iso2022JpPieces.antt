@@ -31,7 +31,7 @@ use Rattle.enc_decoder.proofs.SegmentationLemmas.{sequences_of-head}
 use Rattle.enc_decoder.proofs.TakingLemmas.{front, follows_second, takes_both, takes_none}
 use Rattle.enc_decoder.proofs.PieceLemmas.{takes_pieces, takes_replaced, three_of}
 use Rattle.enc_decoder.proofs.FirstSequenceLemmas.{true_or_false}
-use Rattle.enc_decoder_iso_2022_jp.proofs.Iso2022JpLemmas.{is_escape_byte, has_escape_bytes, skipped_escape}
+use Rattle.enc_decoder_iso_2022_jp.proofs.Iso2022JpLemmas.{found_for_other, has_escape_bytes, skipped_escape}
 use Rattle.enc_decoder_iso_2022_jp.proofs.EscapeLookahead.{other_front}
 use Rattle.enc_decoder_iso_2022_jp.proofs.Iso2022JpComes.{alone, pair}
 
@@ -48,23 +48,6 @@ none_after : (lead : ℕ) → two_byte_char lead 0x1B ≡ None
 unfolding two_byte_char
 none_after lead = refl
 
-none_some : (c : ℕ) → None ≡ Some c → ⊥
-none_some c e = cc
-
-other_alone : (s : CharacterSet) (b c : ℕ) → one_byte_char s b ≡ Some c → eqb b 0x1B ≡ false
-other_alone s b c e = elim (true_or_false (eqb b 0x1B)) [
-  | inl t ↦ absurd (none_some c
-      (sym (none_alone s) ∙ ap (one_byte_char s) (sym (is_escape_byte b t)) ∙ e))
-  | inr n ↦ n
-]
-
-other_after : (lead b c : ℕ) → two_byte_char lead b ≡ Some c → eqb b 0x1B ≡ false
-other_after lead b c e = elim (true_or_false (eqb b 0x1B)) [
-  | inl t ↦ absurd (none_some c
-      (sym (none_after lead) ∙ ap (two_byte_char lead) (sym (is_escape_byte b t)) ∙ e))
-  | inr n ↦ n
-]
-
 -- a byte that is a character, and two
 
 pub alone_piece : (s : CharacterSet) (b c : ℕ) → one_byte_char s b ≡ Some c
@@ -72,14 +55,14 @@ pub alone_piece : (s : CharacterSet) (b c : ℕ) → one_byte_char s b ≡ Some 
     → IsWholeChar jp_rule (set_number s) (b ∷ []) c
 alone_piece s b c is_char l y =
     sequences_of-head jp_rule (set_number s) b y _
-    (alone s b (Some c) (sym is_char) l (other_alone s b c is_char) y)
+    (alone s b (Some c) (sym is_char) l (found_for_other (one_byte_char s) b c (none_alone s) is_char) y)
 
 pub pair_piece : (s : CharacterSet) (lead b c : ℕ) → two_byte_char lead b ≡ Some c
     → is_lead_byte s lead ≡ true
     → IsWholeChar jp_rule (set_number s) (lead ∷ b ∷ []) c
 pair_piece s lead b c is_char l y =
     sequences_of-head jp_rule (set_number s) lead (b ∷ y) _
-    (pair s lead b (Some c) (sym is_char) l (other_after lead b c is_char) y)
+    (pair s lead b (Some c) (sym is_char) l (found_for_other (two_byte_char lead) b c (none_after lead) is_char) y)
 
 -- bytes that stand for themselves in ASCII
 
@@ -215,13 +198,12 @@ takes_in_ascii {units_of} {c} {src} {front} m {n} {before} {after} in_ascii is_f
     (takes_replaced (jp_state (state_with_held Ascii None)) refl (puts_wider m is_front puts))
 
 -- A run is taken, and another after it.
-pub takes_run_after : {units_of : ℕ → List ℕ} {c m n : Iso2022JpState} {src rest : List ℕ}
-    {read more : ℕ}
-    {before mid after : Output} → rest ≡ drop read src
-    → TakesRun units_of jp_state c m src read before mid
-    → TakesRun units_of jp_state m n rest more mid after
-    → TakesRun units_of jp_state c n src (read + more) before after
-takes_run_after {units_of} {c} {m} {n} {src} {rest} {read} {more} {before} {mid} {after} rest_is
-    first_run next_run =
-    takes_both units_of jp_state c m n src read more before mid after rest rest_is first_run
-    next_run
+module _ {units_of : ℕ → List ℕ} {c : Iso2022JpState} {src : List ℕ} {before : Output} where
+  pub takes_run_after : {m n : Iso2022JpState} {rest : List ℕ} {read more : ℕ} {mid after : Output}
+      → rest ≡ drop read src
+      → TakesRun units_of jp_state c m src read before mid
+      → TakesRun units_of jp_state m n rest more mid after
+      → TakesRun units_of jp_state c n src (read + more) before after
+  takes_run_after {m} {n} {rest} {read} {more} {mid} {after} rest_is first_run next_run =
+      takes_both units_of jp_state c m n src read more before mid after rest rest_is first_run
+      next_run

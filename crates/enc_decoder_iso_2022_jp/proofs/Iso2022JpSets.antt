@@ -13,7 +13,7 @@ use Rattle.enc_decoder_iso_2022_jp.specs.Iso2022JpLaws.{later_set_or, last_desig
 use Rattle.enc_decoder_iso_2022_jp.specs.Iso2022JpLaws.{SetsAreOfLastEscapes}
 use Rattle.enc_decoder.proofs.SegmentationLemmas.{sequences_of-cons, sequences_of-nil}
 use Rattle.enc_decoder.proofs.FirstSequenceLemmas.{true_or_false}
-use Rattle.enc_decoder_iso_2022_jp.proofs.Iso2022JpLemmas.{is_escape_byte, lead_is_no_escape}
+use Rattle.enc_decoder_iso_2022_jp.proofs.Iso2022JpLemmas.{found_for_other, lead_is_no_escape}
 use Rattle.enc_decoder_iso_2022_jp.proofs.EscapeLookahead.{other_front}
 use Rattle.enc_decoder_iso_2022_jp.proofs.Iso2022JpForms.{holds_of_first}
 
@@ -46,29 +46,13 @@ no_third a = elim (true_or_false (eqb a 0x28)) [
   ]
 ]
 
-none_named : (s : CharacterSet) → None ≡ Some s → ⊥
-none_named s e = cc
-
-named_second : (a c : ℕ) (s : CharacterSet) → set_of_escape_bytes a c ≡ Some s → eqb a 0x1B ≡ false
-named_second a c s e = elim (true_or_false (eqb a 0x1B)) [
-  | inl t ↦ absurd (none_named s (ap (λ x. set_of_escape_bytes x c) (sym (is_escape_byte a t)) ∙ e))
-  | inr n ↦ n
-]
-
-named_third : (a c : ℕ) (s : CharacterSet) → set_of_escape_bytes a c ≡ Some s → eqb c 0x1B ≡ false
-named_third a c s e = elim (true_or_false (eqb c 0x1B)) [
-  | inl t ↦ absurd (none_named s
-      (sym (no_third a) ∙ ap (set_of_escape_bytes a) (sym (is_escape_byte c t)) ∙ e))
-  | inr n ↦ n
-]
-
 whole_escape : (a c : ℕ) (s : CharacterSet) (w : List ℕ) → set_of_escape_bytes a c ≡ Some s
     → last_designated_set (0x1B ∷ a ∷ c ∷ w) ≡ later_set_or (last_designated_set w) (Some s)
 unfolding last_designated_set
 whole_escape a c s w names_set =
     ap (λ o. later_set_or o (set_of_escape_bytes a c))
-    (other_byte a (c ∷ w) (named_second a c s names_set)
-    ∙ other_byte c w (named_third a c s names_set))
+    (other_byte a (c ∷ w) (found_for_other (λ x. set_of_escape_bytes x c) a s refl names_set)
+    ∙ other_byte c w (found_for_other (set_of_escape_bytes a) c s (no_third a) names_set))
     ∙ ap (later_set_or (last_designated_set w)) names_set
 
 number_after : (set : ℕ) (o : Option CharacterSet) (s : CharacterSet)
