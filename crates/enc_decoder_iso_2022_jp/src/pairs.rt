@@ -29,7 +29,6 @@ pub(crate) fn char_of_pair(lead: u8, byte: u8) -> Option<char>
 pub(crate) fn pair_places(first: u8x16, second: u8x16) -> u16x16
     ensures { ArePairPlaces jis0208_shape IsJis0208Pair result first second }
 {
-    Jis0208Index::laws();
     let rows = numbers_in(first, 0x21, 0x7E, 0, u8x16::splat(120));
     let columns = numbers_in(second, 0x21, 0x7E, 0, u8x16::splat(94));
     places_at(rows, columns, 95)
