@@ -83,7 +83,4 @@ impl DoubleByte for Big5 {
         let columns = numbers_in(second, 0x40, 0x7E, 0, upper);
         places_at(rows, columns, 158)
     }
-
-    #[tactic(auto, using(crate::proofs::Laws::Big5::pairs))]
-    fn laws() {}
 }

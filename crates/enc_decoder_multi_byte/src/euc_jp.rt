@@ -124,7 +124,4 @@ impl MultiByte for EucJp {
         let columns = numbers_in(second, 0xA1, 0xFE, 0, u8x16::splat(94));
         places_at(rows, columns, 95)
     }
-
-    #[tactic(auto, using(crate::proofs::Laws::EucJp::laws))]
-    fn laws() {}
 }

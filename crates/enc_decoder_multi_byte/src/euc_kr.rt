@@ -54,7 +54,4 @@ impl DoubleByte for EucKr {
         let columns = numbers_in(second, 0x41, 0xFE, 0, u8x16::splat(190));
         places_at(rows, columns, 191)
     }
-
-    #[tactic(auto, using(crate::proofs::Laws::EucKr::pairs))]
-    fn laws() {}
 }

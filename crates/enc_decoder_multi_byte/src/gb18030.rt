@@ -169,7 +169,4 @@ impl MultiByte for Gb18030 {
         let columns = numbers_in(second, 0x40, 0x7E, 0, upper);
         places_at(rows, columns, 191)
     }
-
-    #[tactic(auto, using(crate::proofs::Laws::Gb18030::laws))]
-    fn laws() {}
 }

@@ -85,7 +85,4 @@ impl DoubleByte for ShiftJis {
         let columns = numbers_in(second, 0x40, 0x7E, 0, middle);
         places_at(rows, columns, 190)
     }
-
-    #[tactic(auto, using(crate::proofs::Laws::ShiftJis::pairs))]
-    fn laws() {}
 }

@@ -1,5 +1,6 @@
 -- Encodings in which each byte stands alone: what a byte shows, and the laws of their rules.
-use Rattle.std.proofs.Common.{◌≡◌, ℕ, Option, Some, None, List, [], ◌∷◌, drop, refl, ap, ◌∙◌, sym, arith, inl}
+use Rattle.std.proofs.Common.{◌≡◌, ℕ, ◌<◌, Option, Some, None, List, [], ◌∷◌, drop, refl, ap, ◌∙◌, sym, arith, inl}
+use Rattle.std.proofs.lemmas.Bool.{cond-true, lt-ltb}
 use Rattle.enc_decoder.specs.declared.byte_codec.Kind.TheVariants.{Valid, Malformed}
 use Rattle.enc_decoder.specs.declared.byte_codec.Text.TheVariants.{One}
 use Rattle.enc_decoder.specs.Segmentation.{Head, head_sequence, sequences_of, one_byte_head}
@@ -107,6 +108,13 @@ unfolding one_byte_rule
 one_byte_has_texts character set b z e = has_text set (character b) e
 
 -- an ASCII byte is a character by itself
+
+pub single_byte_ascii : (runs : List (ℕ × ℕ × ℕ)) (b : ℕ) → b < 0x80
+    → single_byte_char runs b ≡ Some b
+single_byte_ascii runs b is_ascii = cond-true _ _ _ (lt-ltb b 0x80 is_ascii)
+
+pub x_user_defined_ascii : (b : ℕ) → b < 0x80 → x_user_defined_char b ≡ Some b
+x_user_defined_ascii b is_ascii = cond-true _ _ _ (lt-ltb b 0x80 is_ascii)
 
 pub single_byte_has_bytes : (runs : List (ℕ × ℕ × ℕ))
     → ¬ (HasNoByteSequences (one_byte_rule (single_byte_char runs)))

@@ -10,7 +10,7 @@ pub returns-in-Complete : goal.returns-in-Complete
 returns-in-Complete g c =
     let one_longer = length-append (bytes_of_pending c.args.self.pending) (c.args.byte ∷ []) in
     let len_is = c.len-len.ensures in
-    rw c.complete.ensures.is (shows_byte_with g.E.MultiByte.prefix c.laws.ensures
+    rw c.complete.ensures.is (shows_byte_with g.E.MultiByte.prefix c.shown_first.ensures.lawful
     (λ d. multi_byte_state g.E.MultiByte.prefix (bytes_of_pending d.pending))
     c.args.self c.complete.result.next _ refl c.args.byte (c.in_default.ensures.incomplete refl)
     (settles_complete g.E.MultiByte.prefix
@@ -23,11 +23,11 @@ returns-in-Complete g c =
 
 pub returns-in-Malformed : goal.returns-in-Malformed
 returns-in-Malformed g c =
-    rw c.malformed.ensures.is (shows_byte g.E.MultiByte.prefix c.laws.ensures
+    rw c.malformed.ensures.is (shows_byte g.E.MultiByte.prefix c.shown_first.ensures.lawful
     (λ d. multi_byte_state g.E.MultiByte.prefix (bytes_of_pending d.pending))
     c.args.self c.malformed.result.next _ refl c.args.byte _ (rw c.len.ensures refl)
     (c.in_default.ensures.incomplete refl)
-    (settles_malformed g.E.MultiByte.prefix c.laws.ensures
+    (settles_malformed g.E.MultiByte.prefix c.shown_first.ensures.lawful
     (bytes_of_pending c.args.self.pending ++ c.args.byte ∷ []) c.in-Malformed.len
     (sym c.classify.ensures ∙ c.in-Malformed.is))
     (at_most_three c.args.self.pending) refl
@@ -36,7 +36,7 @@ returns-in-Malformed g c =
 
 pub returns-in-Incomplete : goal.returns-in-Incomplete
 returns-in-Incomplete g c =
-    waits g.E.MultiByte.prefix c.laws.ensures
+    waits g.E.MultiByte.prefix c.shown_first.ensures.lawful
     (λ d. multi_byte_state g.E.MultiByte.prefix (bytes_of_pending d.pending))
     c.args.self _ _ refl c.args.byte (c.in_default.ensures.incomplete refl)
     (sym c.classify.ensures ∙ c.in-Incomplete.is)
