@@ -14,7 +14,7 @@ use Rattle.enc_units.specs.Places.{number_in}
 use Rattle.enc_decoder_multi_byte.specs.DoubleByte.{text_of_char, IsLeadPair}
 use Rattle.enc_decoder_multi_byte.specs.Big5.{is_big5_lead, is_big5_trail, big5_pair_pointer, big5_pointer_text}
 use Rattle.enc_decoder_multi_byte.specs.Big5.{big5_pair_text}
-use Rattle.enc_decoder_multi_byte.proofs.PlaceNumbers.{lead_row, few_leads}
+use Rattle.enc_decoder_multi_byte.proofs.PlaceNumbers.{range_number, number_below}
 
 abbrev big5_number : ℕ → ℕ
 big5_number b = b - cond (nat_lt b 0x7F) 0x40 0x62
@@ -46,7 +46,7 @@ pub place : (a b : ℕ) {row column place : ℕ}
     → IsPlaceOf big5_shape (IsLeadPair is_big5_lead big5_pair_text a b) place
 place a b r k p =
     pair_place big5_shape has_no_more (is_big5_lead a) (is_big5_trail b) (a - 0x81) (big5_number b)
-    (r ∙ lead_row a) (k ∙ big5_column b) p (few_leads a) (big5_small b)
+    (r ∙ range_number 0x81 0xFE a 126) (k ∙ big5_column b) p (number_below 0x81 0xFE 126 a (omega arith)) (big5_small b)
     (λ c lead trail has. (
       lead,
       cond-true (is_big5_trail b) (big5_pointer_text (big5_pair_pointer a b)) None trail
