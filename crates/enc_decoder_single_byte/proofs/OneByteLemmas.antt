@@ -10,7 +10,7 @@ use Rattle.enc_decoder.specs.RuleLaws.{HasTexts, HasLookahead, IsSmallText, HasS
 use Rattle.enc_decoder.specs.RuleLaws.{IsLawfulRule}
 use Rattle.enc_decoder_single_byte.specs.OneByte.{one_byte_rule, one_byte_step, single_byte_char, x_user_defined_char}
 use Rattle.enc_decoder_single_byte.specs.OneByteState.{one_byte_state}
-use Rattle.enc_decoder.proofs.SegmentationLemmas.{sequences_of-cons}
+use Rattle.enc_decoder.proofs.SegmentationLemmas.{sequences_of-head}
 use Rattle.enc_decoder.proofs.EmissionLemmas.{shows_with}
 use Rattle.enc_decoder.specs.Taking.{IsWholeChar}
 use Rattle.enc_decoder.specs.Latin1.{HasNoByteSequences}
@@ -29,10 +29,7 @@ module _ (character : ℕ → Option ℕ) where
       → sequences_of (one_byte_rule character) 0 (b ∷ z)
       ≡ head_sequence h b z ∷ sequences_of (one_byte_rule character) h.set (drop h.more z)
   first b found h e f z =
-      sequences_of-cons (one_byte_rule character) 0 b z
-      ∙ ap (λ (t : Head). head_sequence t b z
-      ∷ sequences_of (one_byte_rule character) t.set (drop t.more z))
-      (head_is 0 b z found e ∙ f)
+      sequences_of-head (one_byte_rule character) 0 b z h (head_is 0 b z found e ∙ f)
 
   -- a byte shows its character, or that it is malformed
   pub one_byte_acts : {C : Type 0} (state : C → CodecState) (c : C)
@@ -62,7 +59,7 @@ module _ (character : ℕ → Option ℕ) where
       has_bytes_by (one_byte_rule character) b [] (ap (λ (t : Head). t.kind) is_head)
       (ap (λ (t : Head). t.more) is_head)
 
-  no_more : (set : ℕ) (found : Option ℕ) → (one_byte_head set found).more ≡ 0
+  pub no_more : (set : ℕ) (found : Option ℕ) → (one_byte_head set found).more ≡ 0
   no_more set (Some a) = refl
   no_more set None = refl
 
@@ -75,11 +72,8 @@ module _ (character : ℕ → Option ℕ) where
       → IsDeterminedWithin (one_byte_rule character) set b z 0
   unfolding one_byte_rule
   determined_by_itself set b z =
-      record {
-        there = (let none_more = no_more set (character b) in omega arith);
-        same = λ y.
-            refl;
-      }
+      let none_more = no_more set (character b) in
+      record { there = omega arith; same = λ y. refl }
 
   has_lookahead : HasLookahead (one_byte_rule character)
   has_lookahead = record {
