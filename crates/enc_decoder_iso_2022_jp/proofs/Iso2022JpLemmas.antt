@@ -59,10 +59,10 @@ lead_is_no_escape s b e = in_jis0208 b (lead_in_jis0208 s b e)
 -- sequence
 
 ascii_is_low : (b : ℕ) → 0x80 ≤ b → ascii_char b ≡ None
-ascii_is_low b h = rw (le-ltb b 0x80 h) refl
+ascii_is_low b is_high = rw (le-ltb b 0x80 is_high) refl
 
 katakana_is_low : (b : ℕ) → 0x80 ≤ b → katakana_char b ≡ None
-katakana_is_low b h = grind (arith, nat_tests)
+katakana_is_low b is_high = grind (arith, nat_tests)
 
 pub high_is_none : (s : CharacterSet) (b : ℕ) → 0x80 ≤ b → one_byte_char s b ≡ None
 unfolding one_byte_char
@@ -74,17 +74,17 @@ high_is_none Katakana b is_high = katakana_is_low b is_high
 high_is_none Jis0208 b is_high = refl
 
 high_in_jis0208 : (b : ℕ) → 0x80 ≤ b → is_jis0208_byte b ≡ false
-high_in_jis0208 b h = grind (arith, nat_tests)
+high_in_jis0208 b is_high = grind (arith, nat_tests)
 
 pub high_leads_none : (s : CharacterSet) (b : ℕ) → 0x80 ≤ b → is_lead_byte s b ≡ false
 unfolding is_lead_byte
-high_leads_none Ascii b h = refl
-high_leads_none Roman b h = refl
-high_leads_none Katakana b h = refl
-high_leads_none Jis0208 b h = high_in_jis0208 b h
+high_leads_none Ascii b is_high = refl
+high_leads_none Roman b is_high = refl
+high_leads_none Katakana b is_high = refl
+high_leads_none Jis0208 b is_high = high_in_jis0208 b is_high
 
 pub high_is_no_escape : (b : ℕ) → 0x80 ≤ b → eqb b 0x1B ≡ false
-high_is_no_escape b h = differs b 0x1B (λ e. omega arith)
+high_is_no_escape b is_high = differs b 0x1B (λ e. omega arith)
 
 -- the first sequence
 
@@ -93,13 +93,13 @@ pub escape_first : (set : ℕ) (z : List ℕ) (found : Option CharacterSet) (ano
     → is_some (designated_set (drop 2 z)) ≡ another
     → jp_rule set 0x1B z ≡ escape_head set found another
 unfolding jp_rule
-escape_first set z found another e f =
-    ap (λ o. escape_head set o (is_some (designated_set (drop 2 z)))) e
-    ∙ ap (escape_head set found) f
+escape_first set z found another designates followed =
+    ap (λ o. escape_head set o (is_some (designated_set (drop 2 z)))) designates
+    ∙ ap (escape_head set found) followed
 
 pub no_escape_first : (set : ℕ) (z : List ℕ) → designated_set (0x1B ∷ z) ≡ None
     → jp_rule set 0x1B z ≡ malformed_head set 0
-no_escape_first set z e = escape_first set z None _ e refl
+no_escape_first set z none_begins = escape_first set z None _ none_begins refl
 
 pub lead_first : (set b : ℕ) (z : List ℕ) → is_lead_byte (set_of set) b ≡ true
     → jp_rule set b z ≡ lead_byte_head set b z
@@ -110,7 +110,7 @@ pub alone_first : (set b : ℕ) (z : List ℕ) → is_lead_byte (set_of set) b �
     → eqb b 0x1B ≡ false
     → jp_rule set b z ≡ one_byte_head set (one_byte_char (set_of set) b)
 unfolding jp_rule
-alone_first set b z l e = rw (e, l) refl
+alone_first set b z no_lead no_escape = rw (no_escape, no_lead) refl
 
 -- a lead byte that is malformed alone, and one with the byte after it
 

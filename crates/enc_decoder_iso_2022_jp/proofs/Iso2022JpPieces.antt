@@ -53,16 +53,16 @@ none_after lead = refl
 pub alone_piece : (s : CharacterSet) (b c : ℕ) → one_byte_char s b ≡ Some c
     → is_lead_byte s b ≡ false
     → IsWholeChar jp_rule (set_number s) (b ∷ []) c
-alone_piece s b c is_char l y =
+alone_piece s b c is_char no_lead y =
     sequences_of-head jp_rule (set_number s) b y _
-    (alone s b (Some c) (sym is_char) l (found_for_other (one_byte_char s) b c (none_alone s) is_char) y)
+    (alone s b (Some c) (sym is_char) no_lead (found_for_other (one_byte_char s) b c (none_alone s) is_char) y)
 
 pub pair_piece : (s : CharacterSet) (lead b c : ℕ) → two_byte_char lead b ≡ Some c
     → is_lead_byte s lead ≡ true
     → IsWholeChar jp_rule (set_number s) (lead ∷ b ∷ []) c
-pair_piece s lead b c is_char l y =
+pair_piece s lead b c is_char leads y =
     sequences_of-head jp_rule (set_number s) lead (b ∷ y) _
-    (pair s lead b (Some c) (sym is_char) l (found_for_other (two_byte_char lead) b c (none_after lead) is_char) y)
+    (pair s lead b (Some c) (sym is_char) leads (found_for_other (two_byte_char lead) b c (none_after lead) is_char) y)
 
 -- bytes that stand for themselves in ASCII
 
@@ -77,8 +77,8 @@ not_lead b = refl
 
 pub own_pieces : (bs : List ℕ) → AreIso2022JpAscii bs
     → AreWrittenAsThemselves (IsWholeChar jp_rule (set_number Ascii)) bs
-own_pieces bs own k d l =
-    let byte = own k d l in
+own_pieces bs own k within is_own =
+    let byte = own k within is_own in
     (byte.0, alone_piece Ascii _ _ (own_char _ byte.0 byte.1 byte.2 byte.3) (not_lead _))
 
 -- an escape sequence, and the bytes after it
@@ -103,16 +103,16 @@ pub stands_alone : (src : List ℕ) (i : Intermediate) (found : Option Escape) �
     → IfSome found (λ e. escape_bytes e ≡ 0x1B ∷ intermediate_byte i ∷ get_or src 2
     0 ∷ [])
     → IfSome found (λ e. StandsAlone src e)
-stands_alone src i None l first second other s = tt
-stands_alone src i (Some e) l first second other s =
+stands_alone src i None there first second other bytes_are = tt
+stands_alone src i (Some e) there first second other bytes_are =
     let names_set : get_or src 0 0 ∷ get_or src 1 0 ∷ get_or src 2 0 ∷ [] ≡ escape_bytes e =
-    rw (first, second) (sym s) in
+    rw (first, second) (sym bytes_are) in
     record {
       byte = get_or src 3 0;
       rest = drop 4 src;
       bytes = sym (take-append-drop 3 src)
           ∙ ap (λ x. x ++ drop 3 src) (three_of src 0 (omega arith) ∙ names_set)
-          ∙ ap (λ x. escape_bytes e ++ x) (drop-cons src 3 0 l);
+          ∙ ap (λ x. escape_bytes e ++ x) (drop-cons src 3 0 there);
       other = other;
     }
 
@@ -161,17 +161,17 @@ pub takes_escape : (units_of : ℕ → List ℕ) (c n : Iso2022JpState) (e : Esc
     → StandsAlone src e → 0 < more
     → PutsPieces units_of (IsWholeChar jp_rule (set_number n.set)) before after rest more
     → TakesRun units_of jp_state c n src (3 + more) before after
-takes_escape units_of c n e {src} {rest} {more} {before} {after} held next back a h p =
+takes_escape units_of c n e {src} {rest} {more} {before} {after} none_held next_is rest_is is_alone some puts =
     let pieces_taken = takes_pieces units_of jp_state n rest more before after
-    (ap (λ (s : Iso2022JpState). bytes_of_held s.held) next) p in
+    (ap (λ (s : Iso2022JpState). bytes_of_held s.held) next_is) puts in
     let run_taken = subst (λ (m : Iso2022JpState). TakesRun units_of jp_state m n rest more before
-    after) next
+    after) next_is
     pieces_taken in
     subst (λ o. TakesRun units_of jp_state (state_with_held c.set o) n src (3 + more) before after)
-    (sym held)
-    (after_escape units_of c.set e n src more before after a h
+    (sym none_held)
+    (after_escape units_of c.set e n src more before after is_alone some
     (subst (λ z. TakesRun units_of jp_state (state_with_held (escape_set e) None) n z more before
-    after) back
+    after) rest_is
     run_taken))
 
 -- No piece is taken, of whatever bytes.

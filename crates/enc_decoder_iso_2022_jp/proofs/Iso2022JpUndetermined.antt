@@ -26,7 +26,7 @@ use Rattle.enc_decoder_iso_2022_jp.proofs.Iso2022JpRule.{begun_by_end, escape_by
 -- bytes that only the end makes a sequence
 by_end : (set b : ℕ) (z : List ℕ) → IsDeterminedByEnd jp_rule set b z
     → IsUndetermined (λ y. sequences_of jp_rule set (b ∷ (z ++ y)))
-by_end set b z t = undetermined_by_end jp_rule set b z (λ y. (has_form set b y).within) t
+by_end set b z is_by_end = undetermined_by_end jp_rule set b z (λ y. (has_form set b y).within) is_by_end
 
 -- an escape sequence, and what may begin another
 after_escape : (set : ℕ) (e : Escape) (z : List ℕ) → MayBegin z
@@ -42,17 +42,17 @@ started Dollar = two_begin 0x24 Jis0208 refl
 pub undetermined : (set : CharacterSet) (held : Held) → CanHold set (Some held)
     → ((b : ℕ) → held ≡ GivenBack b → ⊥)
     → IsUndetermined (remainder_of (jp_state (state_with_held set (Some held)))).sequences
-undetermined set (GivenBack b) c n = absurd (n b refl)
-undetermined set (Lead b) c n =
-    by_end (set_number set) b [] (lead_by_end (set_number set) b (rw set_of_number c))
-undetermined set (Whole e) c n =
+undetermined set (GivenBack b) can_hold not_restored = absurd (not_restored b refl)
+undetermined set (Lead b) can_hold not_restored =
+    by_end (set_number set) b [] (lead_by_end (set_number set) b (rw set_of_number can_hold))
+undetermined set (Whole e) can_hold not_restored =
     rw (← append-nil (escape_bytes e)) (after_escape (set_number set) e [] nothing_begins)
-undetermined set (Start None) c n =
+undetermined set (Start None) can_hold not_restored =
     by_end (set_number set) 0x1B [] (begun_by_end (set_number set) [] one_begins)
-undetermined set (Start (Some e)) c n = after_escape (set_number set) e (0x1B ∷ []) one_begins
-undetermined set (Started None i) c n =
+undetermined set (Start (Some e)) can_hold not_restored = after_escape (set_number set) e (0x1B ∷ []) one_begins
+undetermined set (Started None i) can_hold not_restored =
     by_end (set_number set) 0x1B (intermediate_byte i ∷ [])
     (begun_by_end (set_number set) (intermediate_byte i ∷ [])
     (started i))
-undetermined set (Started (Some e) i) c n =
+undetermined set (Started (Some e) i) can_hold not_restored =
     after_escape (set_number set) e (0x1B ∷ intermediate_byte i ∷ []) (started i)
