@@ -15,6 +15,7 @@ use Rattle.enc_decoder_utf.proofs.Utf16Rule.{utf_16_has_texts, utf_16_is_lawful,
 use Rattle.enc_decoder_utf.proofs.Utf16Enough.{utf_16_enough}
 use Rattle.enc_decoder_single_byte.specs.OneByte.{one_byte_rule, x_user_defined_char}
 use Rattle.enc_decoder_single_byte.proofs.OneByteLemmas.{one_byte_has_texts, one_byte_is_lawful, one_byte_has_bytes}
+use Rattle.enc_decoder_single_byte.proofs.OneByteLemmas.{single_byte_ascii, x_user_defined_ascii}
 use Rattle.enc_decoder_single_byte.proofs.EnoughLemmas.{single_byte_enough, x_user_defined_enough, replacement_enough}
 use Rattle.enc_decoder_single_byte.proofs.ReplacementLemmas.{replacement_is_lawful, replacement_has_no_bytes}
 use Rattle.enc_decoder_multi_byte.specs.declared.multi_byte.Prefix.{Prefix}
@@ -40,7 +41,7 @@ use Rattle.enc_codec.specs.CodecLaws.{KeepsCodecLaws}
 use Rattle.enc_codec.specs.Properties.{DeterminesBbByItself}
 use Rattle.enc_codec.proofs.PropertyLemmas.{utf_8_is_ascii_compatible, utf_8_is_not_single_byte}
 use Rattle.enc_codec.proofs.PropertyLemmas.{utf_16_is_not_ascii_compatible, utf_16_is_not_single_byte}
-use Rattle.enc_codec.proofs.PropertyLemmas.{one_byte_is_ascii_compatible, single_byte_ascii, x_user_defined_ascii}
+use Rattle.enc_codec.proofs.PropertyLemmas.{one_byte_is_ascii_compatible}
 use Rattle.enc_codec.proofs.PropertyLemmas.{one_byte_is_single_byte, multi_byte_is_ascii_compatible}
 use Rattle.enc_codec.proofs.PropertyLemmas.{multi_byte_is_not_single_byte}
 use Rattle.enc_codec.proofs.PropertyLemmas.{iso_2022_jp_lacks_texts, iso_2022_jp_is_not_ascii_compatible}

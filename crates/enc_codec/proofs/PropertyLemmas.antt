@@ -1,7 +1,6 @@
 -- Which rules are ASCII-compatible, which are single-byte, and which have sequences without a text.
 use Rattle.std.proofs.Common.{◌≡◌, ℕ, ◌<◌, Bool, true, false, Option, Some, None, List, [], ◌∷◌, length, refl, ap, ◌∙◌}
 use Rattle.std.proofs.Common.{sym, subst, arith, zero, suc, ◌≤◌}
-use Rattle.std.proofs.lemmas.Bool.{cond-true, lt-ltb}
 use Rattle.std.specs.List.{AllByRecursion}
 use Rattle.enc_decoder.specs.Sequence.{Sequence}
 use Rattle.enc_decoder.specs.Segmentation.{Head, Rule, one_byte_head, head_sequence, sequences_after, sequences_of}
@@ -11,7 +10,7 @@ use Rattle.enc_decoder.proofs.SegmentationLemmas.{sequences_of-cons}
 use Rattle.enc_decoder_utf.specs.Utf8.{sequence_len, is_second_byte, is_continuation, utf_8_rule}
 use Rattle.enc_decoder_utf.specs.Utf16.{code_unit, is_lead_surrogate, is_trail_surrogate, utf_16_rule}
 use Rattle.enc_decoder_utf.proofs.Utf8Lemmas.{one_valid}
-use Rattle.enc_decoder_single_byte.specs.OneByte.{one_byte_rule, single_byte_char, x_user_defined_char}
+use Rattle.enc_decoder_single_byte.specs.OneByte.{one_byte_rule}
 use Rattle.enc_decoder_single_byte.specs.Replacement.{replacement_rule}
 use Rattle.enc_decoder_single_byte.proofs.OneByteLemmas.{one_byte_piece}
 use Rattle.enc_decoder_multi_byte.specs.declared.multi_byte.Prefix.{Prefix}
@@ -68,13 +67,6 @@ utf_16_is_not_single_byte false =
 pub one_byte_is_ascii_compatible : (character : ℕ → Option ℕ)
     → ((b : ℕ) → b < 0x80 → character b ≡ Some b) → IsAsciiCompatible (one_byte_rule character)
 one_byte_is_ascii_compatible character h b l = one_byte_piece character b b (h b l)
-
-pub single_byte_ascii : (runs : List (ℕ × ℕ × ℕ)) (b : ℕ) → b < 0x80
-    → single_byte_char runs b ≡ Some b
-single_byte_ascii runs b l = cond-true _ _ _ (lt-ltb b 0x80 l)
-
-pub x_user_defined_ascii : (b : ℕ) → b < 0x80 → x_user_defined_char b ≡ Some b
-x_user_defined_ascii b l = cond-true _ _ _ (lt-ltb b 0x80 l)
 
 pub one_byte_is_single_byte : (character : ℕ → Option ℕ) → IsSingleByte (one_byte_rule character)
 unfolding one_byte_rule sequences_after

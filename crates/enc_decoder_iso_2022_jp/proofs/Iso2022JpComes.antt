@@ -4,11 +4,11 @@ use Rattle.std.proofs.Common.{◌∙◌, sym, arith, append_assoc}
 use Rattle.enc_decoder.specs.declared.byte_codec.Kind.TheVariants.{Valid, Skipped, Malformed, RepeatedEscape}
 use Rattle.enc_decoder.specs.declared.byte_codec.Text.TheVariants.{Nothing, One}
 use Rattle.enc_decoder.specs.declared.byte_codec.HandlerResult.TheVariants.{Emit}
-use Rattle.enc_decoder_iso_2022_jp.specs.declared.iso_2022_jp.CharacterSet.{CharacterSet}
-use Rattle.enc_decoder_iso_2022_jp.specs.declared.iso_2022_jp.Intermediate.{Intermediate}
-use Rattle.enc_decoder_iso_2022_jp.specs.declared.iso_2022_jp.Escape.{Escape}
-use Rattle.enc_decoder_iso_2022_jp.specs.declared.iso_2022_jp.Escape.TheVariants.{ToAscii, ToRoman, ToKatakana}
-use Rattle.enc_decoder_iso_2022_jp.specs.declared.iso_2022_jp.Escape.TheVariants.{ToJis0208Of1978, ToJis0208Of1983}
+use Rattle.enc_decoder_iso_2022_jp.specs.declared.character_set.CharacterSet.{CharacterSet}
+use Rattle.enc_decoder_iso_2022_jp.specs.declared.escape.Intermediate.{Intermediate}
+use Rattle.enc_decoder_iso_2022_jp.specs.declared.escape.Escape.{Escape}
+use Rattle.enc_decoder_iso_2022_jp.specs.declared.escape.Escape.TheVariants.{ToAscii, ToRoman, ToKatakana}
+use Rattle.enc_decoder_iso_2022_jp.specs.declared.escape.Escape.TheVariants.{ToJis0208Of1978, ToJis0208Of1983}
 use Rattle.enc_decoder_iso_2022_jp.specs.declared.iso_2022_jp.Held.{Held}
 use Rattle.enc_decoder_iso_2022_jp.specs.declared.iso_2022_jp.Held.TheVariants.{GivenBack, Lead, Whole, Started}
 use Rattle.enc_decoder.specs.Segmentation.{sequences_of, one_byte_head}
@@ -23,16 +23,12 @@ use Rattle.enc_decoder.proofs.SegmentationLemmas.{sequences_of-head}
 use Rattle.enc_decoder.proofs.EmissionLemmas.{shows_with, shows_before}
 use Rattle.enc_decoder_iso_2022_jp.proofs.Iso2022JpLemmas.{set_of_number, lead_first, alone_first, lead_alone}
 use Rattle.enc_decoder_iso_2022_jp.proofs.Iso2022JpLemmas.{lead_and_trail, skipped_escape, repeated_escape}
-use Rattle.enc_decoder_iso_2022_jp.proofs.Iso2022JpLemmas.{designated_by, high_is_none, high_leads_none}
+use Rattle.enc_decoder_iso_2022_jp.proofs.Iso2022JpLemmas.{designated_by, has_escape_bytes, high_is_none, high_leads_none}
 use Rattle.enc_decoder_iso_2022_jp.proofs.Iso2022JpLemmas.{high_is_no_escape}
 use Rattle.enc_decoder_iso_2022_jp.proofs.Iso2022JpUndetermined.{undetermined}
 
 three : (e : Escape) → 3 ≡ length (escape_bytes e)
-three ToAscii = refl
-three ToRoman = refl
-three ToKatakana = refl
-three ToJis0208Of1978 = refl
-three ToJis0208Of1983 = refl
+three e = rw (has_escape_bytes e).bytes refl
 
 -- bytes after those that follow a whole escape sequence or none
 pub escape_and_bytes-append : (before : Option Escape) (x y : List ℕ)
@@ -50,13 +46,13 @@ pub shows_malformed : (s : CharacterSet) (held : Held) (b : ℕ) (next : Option 
     ≡ record { more = 0; text = 0xFFFD ∷ []; kind = Malformed; set = set_number s })
     → IsNextSequence jp_state (state_with_held s (Some held)) (CutsOffHeld held) []
     (char_or_malformed None 1 false (state_with_held s next))
-shows_malformed s held b next parts l f =
+shows_malformed s held b next parts few first =
     shows_before jp_state (state_with_held s (Some held)) (state_with_held s next) (One 0xFFFD)
     Malformed 1
     (CutsOffHeld held) (b ∷ []) refl
-    parts refl (omega arith) refl (λ _. (refl, (omega arith, l, omega arith)))
-    (λ y m. rw parts (sequences_of-head jp_rule (set_number s) b (bytes_of_held next ++ y) _
-    (f y m)))
+    parts refl (omega arith) refl (λ _. (refl, (omega arith, few, omega arith)))
+    (λ y cut_off. rw parts (sequences_of-head jp_rule (set_number s) b (bytes_of_held next ++ y) _
+    (first y cut_off)))
 
 -- an escape sequence
 pub shows_skipped : (s : CharacterSet) (held : Held) (e : Escape) (next : Option Held)
@@ -70,22 +66,22 @@ pub shows_skipped : (s : CharacterSet) (held : Held) (e : Escape) (next : Option
       takes_byte = false;
       next = state_with_held (escape_set e) next;
     })
-shows_skipped s held e next parts f =
+shows_skipped s held e next parts none_follows =
     shows_before jp_state (state_with_held s (Some held)) (state_with_held (escape_set e) next)
     Nothing Skipped 3
     (CutsOffHeld held)
-    (escape_bytes e) refl parts (three e) (omega arith) refl (λ m. cc)
-    (λ y m. rw parts (rw append_assoc
-    (skipped_escape (set_number s) e (bytes_of_held next ++ y) (f y m))))
+    (escape_bytes e) refl parts (three e) (omega arith) refl (λ cut_off. cc)
+    (λ y cut_off. rw parts (rw append_assoc
+    (skipped_escape (set_number s) e (bytes_of_held next ++ y) (none_follows y cut_off))))
 
 -- a byte that stands alone
 pub alone : (s : CharacterSet) (b : ℕ) (found : Option ℕ) → found ≡ one_byte_char s b
     → is_lead_byte s b ≡ false
     → eqb b 0x1B ≡ false
     → (y : List ℕ) → jp_rule (set_number s) b y ≡ one_byte_head (set_number s) found
-alone s b found e l n y =
-    alone_first (set_number s) b y (rw set_of_number l) n
-    ∙ ap (one_byte_head (set_number s)) (ap (λ t. one_byte_char t b) (set_of_number s) ∙ sym e)
+alone s b found is_char no_lead no_escape y =
+    alone_first (set_number s) b y (rw set_of_number no_lead) no_escape
+    ∙ ap (one_byte_head (set_number s)) (ap (λ t. one_byte_char t b) (set_of_number s) ∙ sym is_char)
 
 pub shows_given_back : (s : CharacterSet) (b : ℕ) (found : Option ℕ) → found ≡ one_byte_char s b
     → CanHold s (Some (GivenBack b))
@@ -130,21 +126,21 @@ lead_cut_off : (s : CharacterSet) (b : ℕ) → is_lead_byte s b ≡ true → (y
     → cuts_off_lead y ≡ true
     → jp_rule (set_number s) b y
     ≡ record { more = 0; text = 0xFFFD ∷ []; kind = Malformed; set = set_number s }
-lead_cut_off s b l y m = lead_first (set_number s) b y (rw set_of_number l)
-    ∙ lead_alone (set_number s) b y m
+lead_cut_off s b leads y cut_off = lead_first (set_number s) b y (rw set_of_number leads)
+    ∙ lead_alone (set_number s) b y cut_off
 
 pub shows_lead : (s : CharacterSet) (b : ℕ) → is_lead_byte s b ≡ true
     → IsNextSequence jp_state (state_with_held s (Some (Lead b))) (CutsOffHeld (Lead b)) []
     (char_or_malformed None 1 false (state_with_held s None))
-shows_lead s b l = shows_malformed s (Lead b) b None refl (omega arith) (lead_cut_off s b l)
+shows_lead s b leads = shows_malformed s (Lead b) b None refl (omega arith) (lead_cut_off s b leads)
 
 pub pair : (s : CharacterSet) (lead b : ℕ) (found : Option ℕ) → found ≡ two_byte_char lead b
     → is_lead_byte s lead ≡ true → eqb b 0x1B ≡ false
     → (y : List ℕ) → jp_rule (set_number s) lead (b ∷ y) ≡ two_byte_head (set_number s) found
-pair s lead b found e l n y =
-    lead_first (set_number s) lead (b ∷ y) (rw set_of_number l)
-    ∙ lead_and_trail (set_number s) lead b y n
-    ∙ ap (two_byte_head (set_number s)) (sym e)
+pair s lead b found is_char leads no_escape y =
+    lead_first (set_number s) lead (b ∷ y) (rw set_of_number leads)
+    ∙ lead_and_trail (set_number s) lead b y no_escape
+    ∙ ap (two_byte_head (set_number s)) (sym is_char)
 
 pub shows_pair : (s : CharacterSet) (lead b : ℕ) (found : Option ℕ) → found ≡ two_byte_char lead b
     → is_lead_byte s lead ≡ true → eqb b 0x1B ≡ false
@@ -169,7 +165,7 @@ shows_pair s lead b (Some d) is_char leads no_escape =
 another_designates : (f : Escape) (i : Intermediate) (b : ℕ)
     → escape_bytes f ≡ 0x1B ∷ intermediate_byte i ∷ b ∷ []
     → (y : List ℕ) → designated_set (0x1B ∷ intermediate_byte i ∷ b ∷ y) ≡ Some (escape_set f)
-another_designates f i b h y = ap (λ x. designated_set (x ++ y)) (sym h) ∙ designated_by f y
+another_designates f i b is_escape y = ap (λ x. designated_set (x ++ y)) (sym is_escape) ∙ designated_by f y
 
 pub shows_repeated : (s : CharacterSet) (e f : Escape) (i : Intermediate) (b : ℕ)
     → escape_bytes f ≡ 0x1B ∷ intermediate_byte i ∷ b ∷ []

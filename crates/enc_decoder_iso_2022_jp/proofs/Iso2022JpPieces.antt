@@ -13,12 +13,12 @@ use Rattle.enc_units.proofs.PiecesLemmas.{puts_wider}
 use Rattle.enc_units.specs.Mappings.{AreWrittenAsThemselves}
 use Rattle.enc_units.specs.Validity.{AreIso2022JpAscii}
 use Rattle.enc_decoder.specs.declared.byte_codec.Kind.TheVariants.{Skipped}
-use Rattle.enc_decoder_iso_2022_jp.specs.declared.iso_2022_jp.CharacterSet.{CharacterSet}
-use Rattle.enc_decoder_iso_2022_jp.specs.declared.iso_2022_jp.CharacterSet.TheVariants.{Ascii, Roman, Katakana, Jis0208}
-use Rattle.enc_decoder_iso_2022_jp.specs.declared.iso_2022_jp.Intermediate.{Intermediate}
-use Rattle.enc_decoder_iso_2022_jp.specs.declared.iso_2022_jp.Escape.{Escape}
-use Rattle.enc_decoder_iso_2022_jp.specs.declared.iso_2022_jp.Escape.TheVariants.{ToAscii, ToRoman, ToKatakana}
-use Rattle.enc_decoder_iso_2022_jp.specs.declared.iso_2022_jp.Escape.TheVariants.{ToJis0208Of1978, ToJis0208Of1983}
+use Rattle.enc_decoder_iso_2022_jp.specs.declared.character_set.CharacterSet.{CharacterSet}
+use Rattle.enc_decoder_iso_2022_jp.specs.declared.character_set.CharacterSet.TheVariants.{Ascii, Roman, Katakana, Jis0208}
+use Rattle.enc_decoder_iso_2022_jp.specs.declared.escape.Intermediate.{Intermediate}
+use Rattle.enc_decoder_iso_2022_jp.specs.declared.escape.Escape.{Escape}
+use Rattle.enc_decoder_iso_2022_jp.specs.declared.escape.Escape.TheVariants.{ToAscii, ToRoman, ToKatakana}
+use Rattle.enc_decoder_iso_2022_jp.specs.declared.escape.Escape.TheVariants.{ToJis0208Of1978, ToJis0208Of1983}
 use Rattle.enc_decoder.specs.Sequence.{Sequence}
 use Rattle.enc_decoder.specs.Segmentation.{sequences_of}
 use Rattle.enc_decoder_iso_2022_jp.specs.Iso2022Jp.{set_number, designated_set, is_lead_byte, one_byte_char}
@@ -31,8 +31,8 @@ use Rattle.enc_decoder.proofs.SegmentationLemmas.{sequences_of-head}
 use Rattle.enc_decoder.proofs.TakingLemmas.{front, follows_second, takes_both, takes_none}
 use Rattle.enc_decoder.proofs.PieceLemmas.{takes_pieces, takes_replaced, three_of}
 use Rattle.enc_decoder.proofs.FirstSequenceLemmas.{true_or_false}
-use Rattle.enc_decoder_iso_2022_jp.proofs.Iso2022JpLemmas.{skipped_escape}
-use Rattle.enc_decoder_iso_2022_jp.proofs.Iso2022JpRule.{is_escape_byte, other_front}
+use Rattle.enc_decoder_iso_2022_jp.proofs.Iso2022JpLemmas.{found_for_other, has_escape_bytes, skipped_escape}
+use Rattle.enc_decoder_iso_2022_jp.proofs.EscapeLookahead.{other_front}
 use Rattle.enc_decoder_iso_2022_jp.proofs.Iso2022JpComes.{alone, pair}
 
 -- 1B is no character, and ends none
@@ -48,38 +48,21 @@ none_after : (lead : ℕ) → two_byte_char lead 0x1B ≡ None
 unfolding two_byte_char
 none_after lead = refl
 
-none_some : (c : ℕ) → None ≡ Some c → ⊥
-none_some c e = cc
-
-other_alone : (s : CharacterSet) (b c : ℕ) → one_byte_char s b ≡ Some c → eqb b 0x1B ≡ false
-other_alone s b c e = elim (true_or_false (eqb b 0x1B)) [
-  | inl t ↦ absurd (none_some c
-      (sym (none_alone s) ∙ ap (one_byte_char s) (sym (is_escape_byte b t)) ∙ e))
-  | inr n ↦ n
-]
-
-other_after : (lead b c : ℕ) → two_byte_char lead b ≡ Some c → eqb b 0x1B ≡ false
-other_after lead b c e = elim (true_or_false (eqb b 0x1B)) [
-  | inl t ↦ absurd (none_some c
-      (sym (none_after lead) ∙ ap (two_byte_char lead) (sym (is_escape_byte b t)) ∙ e))
-  | inr n ↦ n
-]
-
 -- a byte that is a character, and two
 
 pub alone_piece : (s : CharacterSet) (b c : ℕ) → one_byte_char s b ≡ Some c
     → is_lead_byte s b ≡ false
     → IsWholeChar jp_rule (set_number s) (b ∷ []) c
-alone_piece s b c is_char l y =
+alone_piece s b c is_char no_lead y =
     sequences_of-head jp_rule (set_number s) b y _
-    (alone s b (Some c) (sym is_char) l (other_alone s b c is_char) y)
+    (alone s b (Some c) (sym is_char) no_lead (found_for_other (one_byte_char s) b c (none_alone s) is_char) y)
 
 pub pair_piece : (s : CharacterSet) (lead b c : ℕ) → two_byte_char lead b ≡ Some c
     → is_lead_byte s lead ≡ true
     → IsWholeChar jp_rule (set_number s) (lead ∷ b ∷ []) c
-pair_piece s lead b c is_char l y =
+pair_piece s lead b c is_char leads y =
     sequences_of-head jp_rule (set_number s) lead (b ∷ y) _
-    (pair s lead b (Some c) (sym is_char) l (other_after lead b c is_char) y)
+    (pair s lead b (Some c) (sym is_char) leads (found_for_other (two_byte_char lead) b c (none_after lead) is_char) y)
 
 -- bytes that stand for themselves in ASCII
 
@@ -94,8 +77,8 @@ not_lead b = refl
 
 pub own_pieces : (bs : List ℕ) → AreIso2022JpAscii bs
     → AreWrittenAsThemselves (IsWholeChar jp_rule (set_number Ascii)) bs
-own_pieces bs own k d l =
-    let byte = own k d l in
+own_pieces bs own k within is_own =
+    let byte = own k within is_own in
     (byte.0, alone_piece Ascii _ _ (own_char _ byte.0 byte.1 byte.2 byte.3) (not_lead _))
 
 -- an escape sequence, and the bytes after it
@@ -110,11 +93,7 @@ skipped e = record {
 
 three_first : (e : Escape) (z : List ℕ) → (take 3 (escape_bytes e ++ z) ≡ escape_bytes e)
     × (drop 3 (escape_bytes e ++ z) ≡ z)
-three_first ToAscii z = (refl, refl)
-three_first ToRoman z = (refl, refl)
-three_first ToKatakana z = (refl, refl)
-three_first ToJis0208Of1978 z = (refl, refl)
-three_first ToJis0208Of1983 z = (refl, refl)
+three_first e z = rw (has_escape_bytes e).bytes (refl, refl)
 
 -- the escape sequence of three bytes in front, if they are one
 pub stands_alone : (src : List ℕ) (i : Intermediate) (found : Option Escape) → 3 < length src
@@ -124,16 +103,16 @@ pub stands_alone : (src : List ℕ) (i : Intermediate) (found : Option Escape) �
     → IfSome found (λ e. escape_bytes e ≡ 0x1B ∷ intermediate_byte i ∷ get_or src 2
     0 ∷ [])
     → IfSome found (λ e. StandsAlone src e)
-stands_alone src i None l first second other s = tt
-stands_alone src i (Some e) l first second other s =
+stands_alone src i None there first second other bytes_are = tt
+stands_alone src i (Some e) there first second other bytes_are =
     let names_set : get_or src 0 0 ∷ get_or src 1 0 ∷ get_or src 2 0 ∷ [] ≡ escape_bytes e =
-    rw (first, second) (sym s) in
+    rw (first, second) (sym bytes_are) in
     record {
       byte = get_or src 3 0;
       rest = drop 4 src;
       bytes = sym (take-append-drop 3 src)
           ∙ ap (λ x. x ++ drop 3 src) (three_of src 0 (omega arith) ∙ names_set)
-          ∙ ap (λ x. escape_bytes e ++ x) (drop-cons src 3 0 l);
+          ∙ ap (λ x. escape_bytes e ++ x) (drop-cons src 3 0 there);
       other = other;
     }
 
@@ -182,17 +161,17 @@ pub takes_escape : (units_of : ℕ → List ℕ) (c n : Iso2022JpState) (e : Esc
     → StandsAlone src e → 0 < more
     → PutsPieces units_of (IsWholeChar jp_rule (set_number n.set)) before after rest more
     → TakesRun units_of jp_state c n src (3 + more) before after
-takes_escape units_of c n e {src} {rest} {more} {before} {after} held next back a h p =
+takes_escape units_of c n e {src} {rest} {more} {before} {after} none_held next_is rest_is is_alone some puts =
     let pieces_taken = takes_pieces units_of jp_state n rest more before after
-    (ap (λ (s : Iso2022JpState). bytes_of_held s.held) next) p in
+    (ap (λ (s : Iso2022JpState). bytes_of_held s.held) next_is) puts in
     let run_taken = subst (λ (m : Iso2022JpState). TakesRun units_of jp_state m n rest more before
-    after) next
+    after) next_is
     pieces_taken in
     subst (λ o. TakesRun units_of jp_state (state_with_held c.set o) n src (3 + more) before after)
-    (sym held)
-    (after_escape units_of c.set e n src more before after a h
+    (sym none_held)
+    (after_escape units_of c.set e n src more before after is_alone some
     (subst (λ z. TakesRun units_of jp_state (state_with_held (escape_set e) None) n z more before
-    after) back
+    after) rest_is
     run_taken))
 
 -- No piece is taken, of whatever bytes.
@@ -219,13 +198,12 @@ takes_in_ascii {units_of} {c} {src} {front} m {n} {before} {after} in_ascii is_f
     (takes_replaced (jp_state (state_with_held Ascii None)) refl (puts_wider m is_front puts))
 
 -- A run is taken, and another after it.
-pub takes_run_after : {units_of : ℕ → List ℕ} {c m n : Iso2022JpState} {src rest : List ℕ}
-    {read more : ℕ}
-    {before mid after : Output} → rest ≡ drop read src
-    → TakesRun units_of jp_state c m src read before mid
-    → TakesRun units_of jp_state m n rest more mid after
-    → TakesRun units_of jp_state c n src (read + more) before after
-takes_run_after {units_of} {c} {m} {n} {src} {rest} {read} {more} {before} {mid} {after} rest_is
-    first_run next_run =
-    takes_both units_of jp_state c m n src read more before mid after rest rest_is first_run
-    next_run
+module _ {units_of : ℕ → List ℕ} {c : Iso2022JpState} {src : List ℕ} {before : Output} where
+  pub takes_run_after : {m n : Iso2022JpState} {rest : List ℕ} {read more : ℕ} {mid after : Output}
+      → rest ≡ drop read src
+      → TakesRun units_of jp_state c m src read before mid
+      → TakesRun units_of jp_state m n rest more mid after
+      → TakesRun units_of jp_state c n src (read + more) before after
+  takes_run_after {m} {n} {rest} {read} {more} {mid} {after} rest_is first_run next_run =
+      takes_both units_of jp_state c m n src read more before mid after rest rest_is first_run
+      next_run

@@ -5,14 +5,15 @@ use Rattle.std.proofs.Common.{◌∷◌, length, take, drop, get_or, refl, sym, 
 use Rattle.std.proofs.lemmas.Bool.{and_parts, cond-true, cond-false}
 use Rattle.std.specs.Char.{IsScalar}
 use Rattle.enc_index.specs.Grid.{HasWord}
-use Rattle.enc_index.proofs.GridEntries.{grid_tests, is_word, is_unit, word_found, unit_found}
+use Rattle.enc_index.proofs.ByteEntries.{fits, bytes_fit, word_at, unit_at}
+use Rattle.enc_index.proofs.GridEntries.{grid_tests, is_word, is_unit}
 use Rattle.enc_units.specs.Pairs.{MeansWord, MeansUnit}
 use Rattle.enc_decoder.specs.declared.byte_codec.Kind.TheVariants.{Valid, Malformed}
 use Rattle.enc_decoder.specs.Taking.{IsReplacedChar}
 use Rattle.enc_decoder.proofs.FirstSequenceLemmas.{true_or_false}
 use Rattle.enc_decoder.proofs.PieceLemmas.{one_of}
 use Rattle.enc_decoder.proofs.SegmentationLemmas.{sequences_of-head}
-use Rattle.enc_decoder_iso_2022_jp.specs.declared.iso_2022_jp.CharacterSet.TheVariants.{Ascii}
+use Rattle.enc_decoder_iso_2022_jp.specs.declared.character_set.CharacterSet.TheVariants.{Ascii}
 use Rattle.enc_decoder_iso_2022_jp.specs.declared.replaced_bytes.TheConstants.{REPLACED_WORDS, REPLACED_UNITS}
 use Rattle.enc_decoder_iso_2022_jp.specs.Iso2022Jp.{set_number, ascii_char, one_byte_char, is_lead_byte}
 use Rattle.enc_decoder_iso_2022_jp.specs.Iso2022Jp.{iso_2022_jp_rule as jp_rule}
@@ -79,55 +80,12 @@ means_unit b unit is_char is_scalar =
 
 -- the entries of all bytes, by a test
 
-module _ (kind : ℕ → ℕ → Bool) where
-  -- there is a text, and the entry is right for it
-  abbrev Found : Option ℕ → ℕ → Type 0
-  Found found g = (c : ℕ) × (found ≡ Some c) × (kind c g ≡ true)
-
-  -- the entry of a byte, which is 0 if the byte has no text
-  unfoldable entry_ok : Option ℕ → ℕ → Bool
-  entry_ok None g = g == 0
-  entry_ok (Some c) g = kind c g
-
-  unfoldable entries_ok : ℕ → List ℕ → Bool
-  entries_ok b [] = true
-  entries_ok b (g ∷ gs) = entry_ok (replaced_ascii_char b) g && entries_ok (b + 1) gs
-
-  entries_ok-at : (gs : List ℕ) (b i : ℕ) → entries_ok b gs ≡ true → i < length gs
-      → entry_ok (replaced_ascii_char (b + i)) (get_or gs i 0) ≡ true
-  unfolding entries_ok
-  entries_ok-at [] b i ok l = absurd (omega arith)
-  entries_ok-at (g ∷ gs) b zero ok l =
-      let same_byte : b ≡ b + 0 = omega arith in
-      subst (λ k. entry_ok (replaced_ascii_char k) g ≡ true) same_byte
-      (and_parts (entry_ok (replaced_ascii_char b) g) (entries_ok (b + 1) gs) ok).0
-  entries_ok-at (g ∷ gs) b (suc i) ok l =
-      let same_byte : b + 1 + i ≡ b + suc i = omega arith in
-      let rest = (and_parts (entry_ok (replaced_ascii_char b) g) (entries_ok (b + 1) gs) ok).1 in
-      subst (λ k. entry_ok (replaced_ascii_char k) (get_or gs i 0) ≡ true) same_byte
-      (entries_ok-at gs (b + 1) i rest (omega arith))
-
-  entry_found : (found : Option ℕ) (g : ℕ) → entry_ok found g ≡ true → 0 < g → Found found g
-  unfolding entry_ok
-  entry_found None g ok some =
-      let none : g ≡ 0 = eqb-true g 0 ok in
-      absurd (omega arith)
-  entry_found (Some c) g ok some = (c, refl, ok)
-
-  found_at : (gs : List ℕ) (b : ℕ) → entries_ok 0 gs ≡ true → b < length gs → 0 < get_or gs b 0
-      → Found (replaced_ascii_char b) (get_or gs b 0)
-  found_at gs b ok within some =
-      let from_zero : 0 + b ≡ b = omega arith in
-      entry_found (replaced_ascii_char b) (get_or gs b 0)
-      (subst (λ k. entry_ok (replaced_ascii_char k) (get_or gs b 0) ≡ true) from_zero
-      (entries_ok-at gs 0 b ok within)) some
-
-words_fit : entries_ok is_word 0 REPLACED_WORDS ≡ true
-unfolding entries_ok entry_ok grid_tests
+words_fit : bytes_fit is_word replaced_ascii_char 0 REPLACED_WORDS ≡ true
+unfolding bytes_fit fits grid_tests
 words_fit = refl
 
-units_fit : entries_ok is_unit 0 REPLACED_UNITS ≡ true
-unfolding entries_ok entry_ok grid_tests
+units_fit : bytes_fit is_unit replaced_ascii_char 0 REPLACED_UNITS ≡ true
+unfolding bytes_fit fits grid_tests
 units_fit = refl
 
 words_count : length REPLACED_WORDS ≡ 256
@@ -139,12 +97,12 @@ units_count = refl
 pub replaced_word : (b : ℕ) → b < 256 → 0 < get_or REPLACED_WORDS b 0
     → HasWord (replaced_ascii_char b) (get_or REPLACED_WORDS b 0)
 replaced_word b is_byte some =
-    word_found _ _ (found_at is_word REPLACED_WORDS b words_fit
-    (omega (arith, words_count, is_byte)) some)
+    word_at replaced_ascii_char REPLACED_WORDS b (omega (arith, words_count, is_byte)) (λ _. some)
+    words_fit
 
 pub replaced_unit : (b : ℕ) → b < 256 → 0 < get_or REPLACED_UNITS b 0
     → (replaced_ascii_char b ≡ Some (get_or REPLACED_UNITS b 0))
     × IsScalar (get_or REPLACED_UNITS b 0)
 replaced_unit b is_byte some =
-    unit_found _ _ (found_at is_unit REPLACED_UNITS b units_fit
-    (omega (arith, units_count, is_byte)) some)
+    unit_at replaced_ascii_char REPLACED_UNITS b (omega (arith, units_count, is_byte)) (λ _. some)
+    units_fit

@@ -3,7 +3,7 @@ use Rattle.std.proofs.Common.{◌≡◌, ℕ, Bool, true, false, eqb, Option, So
 use Rattle.std.proofs.Common.{ap, ◌∙◌, sym, subst, append_assoc, inl, inr}
 use Rattle.std.proofs.lemmas.List.{take-append-drop}
 use Rattle.std.specs.Option.{is_some}
-use Rattle.enc_decoder_iso_2022_jp.specs.declared.iso_2022_jp.CharacterSet.{CharacterSet}
+use Rattle.enc_decoder_iso_2022_jp.specs.declared.character_set.CharacterSet.{CharacterSet}
 use Rattle.enc_decoder.specs.Sequence.{Sequence, sequence_bytes, set_after}
 use Rattle.enc_decoder.specs.Segmentation.{Head, head_sequence, sequences_of, one_byte_head, malformed_head}
 use Rattle.enc_decoder_iso_2022_jp.specs.Iso2022Jp.{set_number, set_of, set_of_escape_bytes, designated_set}
@@ -13,9 +13,9 @@ use Rattle.enc_decoder_iso_2022_jp.specs.Iso2022JpLaws.{later_set_or, last_desig
 use Rattle.enc_decoder_iso_2022_jp.specs.Iso2022JpLaws.{SetsAreOfLastEscapes}
 use Rattle.enc_decoder.proofs.SegmentationLemmas.{sequences_of-cons, sequences_of-nil}
 use Rattle.enc_decoder.proofs.FirstSequenceLemmas.{true_or_false}
-use Rattle.enc_decoder_iso_2022_jp.proofs.Iso2022JpLemmas.{lead_is_no_escape, escape_first, no_escape_first, lead_first}
-use Rattle.enc_decoder_iso_2022_jp.proofs.Iso2022JpLemmas.{alone_first, lead_alone, lead_and_trail}
-use Rattle.enc_decoder_iso_2022_jp.proofs.Iso2022JpRule.{is_escape_byte, other_front, found_or_not}
+use Rattle.enc_decoder_iso_2022_jp.proofs.Iso2022JpLemmas.{found_for_other, lead_is_no_escape}
+use Rattle.enc_decoder_iso_2022_jp.proofs.EscapeLookahead.{other_front}
+use Rattle.enc_decoder_iso_2022_jp.proofs.Iso2022JpForms.{holds_of_first}
 
 -- the last escape sequence, by the first bytes
 
@@ -46,29 +46,13 @@ no_third a = elim (true_or_false (eqb a 0x28)) [
   ]
 ]
 
-none_named : (s : CharacterSet) → None ≡ Some s → ⊥
-none_named s e = cc
-
-named_second : (a c : ℕ) (s : CharacterSet) → set_of_escape_bytes a c ≡ Some s → eqb a 0x1B ≡ false
-named_second a c s e = elim (true_or_false (eqb a 0x1B)) [
-  | inl t ↦ absurd (none_named s (ap (λ x. set_of_escape_bytes x c) (sym (is_escape_byte a t)) ∙ e))
-  | inr n ↦ n
-]
-
-named_third : (a c : ℕ) (s : CharacterSet) → set_of_escape_bytes a c ≡ Some s → eqb c 0x1B ≡ false
-named_third a c s e = elim (true_or_false (eqb c 0x1B)) [
-  | inl t ↦ absurd (none_named s
-      (sym (no_third a) ∙ ap (set_of_escape_bytes a) (sym (is_escape_byte c t)) ∙ e))
-  | inr n ↦ n
-]
-
 whole_escape : (a c : ℕ) (s : CharacterSet) (w : List ℕ) → set_of_escape_bytes a c ≡ Some s
     → last_designated_set (0x1B ∷ a ∷ c ∷ w) ≡ later_set_or (last_designated_set w) (Some s)
 unfolding last_designated_set
 whole_escape a c s w names_set =
     ap (λ o. later_set_or o (set_of_escape_bytes a c))
-    (other_byte a (c ∷ w) (named_second a c s names_set)
-    ∙ other_byte c w (named_third a c s names_set))
+    (other_byte a (c ∷ w) (found_for_other (λ x. set_of_escape_bytes x c) a s refl names_set)
+    ∙ other_byte c w (found_for_other (set_of_escape_bytes a) c s (no_third a) names_set))
     ∙ ap (later_set_or (last_designated_set w)) names_set
 
 number_after : (set : ℕ) (o : Option CharacterSet) (s : CharacterSet)
@@ -90,90 +74,50 @@ HasSetAfter set b z h = (w v : List ℕ) → drop h.more z ≡ w ++ v
     → set_number_or h.set (last_designated_set w)
     ≡ set_number_or set (last_designated_set (b ∷ (take h.more z ++ w)))
 
+lead_malformed : (set b : ℕ) (z : List ℕ) → eqb b 0x1B ≡ false
+    → HasSetAfter set b z (malformed_head set 0)
+lead_malformed set b z other w v parts = ap (set_number_or set) (sym (other_byte b w other))
+
 one_byte : (set b : ℕ) (z : List ℕ) (found : Option ℕ) → eqb b 0x1B ≡ false
     → HasSetAfter set b z (one_byte_head set found)
-one_byte set b z None no_escape_byte w v e =
-    ap (set_number_or set) (sym (other_byte b w no_escape_byte))
-one_byte set b z (Some c) no_escape_byte w v e =
-    ap (set_number_or set) (sym (other_byte b w no_escape_byte))
+one_byte set b z None other w v parts = ap (set_number_or set) (sym (other_byte b w other))
+one_byte set b z (Some c) other w v parts = ap (set_number_or set) (sym (other_byte b w other))
 
 two_bytes : (set b c : ℕ) (z : List ℕ) (found : Option ℕ) → eqb b 0x1B ≡ false → eqb c 0x1B ≡ false
     → HasSetAfter set b (c ∷ z) (two_byte_head set found)
-two_bytes set b c z None first_is_none second_is_none w v e =
+two_bytes set b c z None first_other second_other w v parts =
     ap (set_number_or set)
-    (sym (other_byte b (c ∷ w) first_is_none ∙ other_byte c w second_is_none))
-two_bytes set b c z (Some d) first_is_none second_is_none w v e =
+    (sym (other_byte b (c ∷ w) first_other ∙ other_byte c w second_other))
+two_bytes set b c z (Some d) first_other second_other w v parts =
     ap (set_number_or set)
-    (sym (other_byte b (c ∷ w) first_is_none ∙ other_byte c w second_is_none))
-
-alone_malformed : (set b : ℕ) (z : List ℕ) → eqb b 0x1B ≡ false
-    → HasSetAfter set b z (malformed_head set 0)
-alone_malformed set b z n w v e = ap (set_number_or set) (sym (other_byte b w n))
+    (sym (other_byte b (c ∷ w) first_other ∙ other_byte c w second_other))
 
 escape_malformed : (set : ℕ) (z : List ℕ) → designated_set (0x1B ∷ z) ≡ None
     → HasSetAfter set 0x1B z (malformed_head set 0)
-escape_malformed set z n w v e =
+escape_malformed set z none w v parts =
     ap (set_number_or set)
-    (sym (no_escape 0x1B w (fewer (0x1B ∷ w) v (ap (λ x. designated_set (0x1B ∷ x)) (sym e) ∙ n))))
+    (sym (no_escape 0x1B w
+    (fewer (0x1B ∷ w) v (ap (λ x. designated_set (0x1B ∷ x)) (sym parts) ∙ none))))
 
 escape : (set a c : ℕ) (z : List ℕ) (s : CharacterSet) (another : Bool)
     → set_of_escape_bytes a c ≡ Some s
     → HasSetAfter set 0x1B (a ∷ c ∷ z) (escape_head set (Some s) another)
-escape set a c z s true names_set w v e =
+escape set a c z s true names_set w v parts =
     sym (ap (set_number_or set) (whole_escape a c s w names_set)
     ∙ number_after set (last_designated_set w) s)
-escape set a c z s false names_set w v e =
+escape set a c z s false names_set w v parts =
     sym (ap (set_number_or set) (whole_escape a c s w names_set)
     ∙ number_after set (last_designated_set w) s)
-
--- every sequence
-
-has_set_by : (set b : ℕ) (z : List ℕ) (h : Head) → jp_rule set b z ≡ h → HasSetAfter set b z h
-    → HasSetAfter set b z (jp_rule set b z)
-has_set_by set b z h e t = subst (HasSetAfter set b z) (sym e) t
-
-not_begun : (set : ℕ) (z : List ℕ) → designated_set (0x1B ∷ z) ≡ None
-    → HasSetAfter set 0x1B z (jp_rule set 0x1B z)
-not_begun set z none_begins =
-    has_set_by set 0x1B z _ (no_escape_first set z none_begins) (escape_malformed set z none_begins)
-
-escape_has_set : (set : ℕ) (z : List ℕ) → HasSetAfter set 0x1B z (jp_rule set 0x1B z)
-escape_has_set set [] = not_begun set [] refl
-escape_has_set set (a ∷ []) = not_begun set (a ∷ []) refl
-escape_has_set set (a ∷ c ∷ z) = elim (found_or_not (set_of_escape_bytes a c)) [
-  | inl n ↦ not_begun set (a ∷ c ∷ z) n
-  | inr found ↦ (let another = is_some (designated_set z) in
-      has_set_by set 0x1B (a ∷ c ∷ z) _
-      (escape_first set (a ∷ c ∷ z) (Some found.0) another found.1 refl)
-      (escape set a c z found.0 another found.1))
-]
-
-lead_has_set : (set b : ℕ) (z : List ℕ) → is_lead_byte (set_of set) b ≡ true
-    → HasSetAfter set b z (jp_rule set b z)
-lead_has_set set b [] leads =
-    has_set_by set b [] _ (lead_first set b [] leads)
-    (alone_malformed set b [] (lead_is_no_escape (set_of set) b leads))
-lead_has_set set b (c ∷ z) leads =
-    let no_escape_byte = lead_is_no_escape (set_of set) b leads in
-    elim (true_or_false (eqb c 0x1B)) [
-      | inl t ↦ has_set_by set b (c ∷ z) _
-          (lead_first set b (c ∷ z) leads ∙ lead_alone set b (c ∷ z) t)
-          (alone_malformed set b (c ∷ z) no_escape_byte)
-      | inr trails ↦ has_set_by set b (c ∷ z) _
-          (lead_first set b (c ∷ z) leads ∙ lead_and_trail set b c z trails)
-          (two_bytes set b c z (two_byte_char b c) no_escape_byte trails)
-    ]
 
 has_set_after : (set b : ℕ) (z : List ℕ) → HasSetAfter set b z (jp_rule set b z)
-has_set_after set b z = elim (true_or_false (eqb b 0x1B)) [
-  | inl t ↦ subst (λ (e : ℕ). HasSetAfter set e z (jp_rule set e z)) (sym (is_escape_byte b t))
-      (escape_has_set set z)
-  | inr no_escape_byte ↦ elim (true_or_false (is_lead_byte (set_of set) b)) [
-    | inl l ↦ lead_has_set set b z l
-    | inr l ↦ has_set_by set b z _ (alone_first set b z l no_escape_byte)
-        (one_byte set b z (one_byte_char (set_of set) b) no_escape_byte)
-  ]
-]
+has_set_after set = holds_of_first {Holds = HasSetAfter set} (record {
+  no_escape = escape_malformed set;
+  escape = λ a c s z names_set. escape set a c z s (is_some (designated_set z)) names_set;
+  lead = λ b z leads _. lead_malformed set b z (lead_is_no_escape (set_of set) b leads);
+  pair = λ b c z leads trails.
+      two_bytes set b c z (two_byte_char b c) (lead_is_no_escape (set_of set) b leads) trails;
+  alone = λ b z _ other. one_byte set b z (one_byte_char (set_of set) b) other;
+})
 
 -- Sequences that come first: their bytes are in front, and the set after them is that of their last
 -- escape sequence.

@@ -1,5 +1,8 @@
 pub mod Iso2022JpLemmas
+pub mod Iso2022JpForms
+pub mod EscapeLookahead
 pub mod Iso2022JpRule
+pub mod SkippedEscapes
 pub mod Iso2022JpUndetermined
 pub mod Iso2022JpComes
 pub mod Iso2022JpSets

@@ -5,13 +5,14 @@ use Rattle.std.proofs.lemmas.Bool.{cond-true}
 use Rattle.std.proofs.lemmas.Bool.Decides.{nat_tests}
 use Rattle.std.proofs.lemmas.Simd.{bit_mask_l, get_or-replicate}
 use Rattle.enc_index.specs.DoubleByteIndexes.{jis0208_shape}
-use Rattle.enc_index.specs.Grid.{HasNoMore, IsPlaceOf}
+use Rattle.enc_index.specs.Grid.{IsPlaceOf}
 use Rattle.enc_index.specs.Runs.{jis0208_at}
+use Rattle.enc_index.proofs.Tables.Jis0208.{has_no_more}
 use Rattle.enc_index.proofs.PlaceLemmas.{pair_place, places_of}
 use Rattle.enc_units.specs.Pairs.{byte_or_pair}
 use Rattle.enc_units.specs.Places.{has_bit, number_in}
-use Rattle.enc_decoder_iso_2022_jp.specs.declared.iso_2022_jp.CharacterSet.{CharacterSet}
-use Rattle.enc_decoder_iso_2022_jp.specs.declared.iso_2022_jp.CharacterSet.TheVariants.{Jis0208 as InPairs}
+use Rattle.enc_decoder_iso_2022_jp.specs.declared.character_set.CharacterSet.{CharacterSet}
+use Rattle.enc_decoder_iso_2022_jp.specs.declared.character_set.CharacterSet.TheVariants.{Jis0208 as InPairs}
 use Rattle.enc_decoder_iso_2022_jp.specs.Iso2022Jp.{is_jis0208_byte, two_byte_char, is_lead_byte, set_number}
 use Rattle.enc_decoder_iso_2022_jp.specs.Iso2022Jp.{iso_2022_jp_rule, IsJis0208Pair}
 use Rattle.enc_decoder_iso_2022_jp.proofs.Iso2022JpPieces.{pair_piece}
@@ -29,14 +30,14 @@ few a t = grind (arith, nat_tests)
 small : (b : ℕ) → is_jis0208_byte b ≡ true → b - 0x21 < 94
 small b t = grind (arith, nat_tests)
 
-pub bytes_place : HasNoMore jis0208_shape → (a b : ℕ) {row_of column_of place : ℕ}
+pub bytes_place : (a b : ℕ) {row_of column_of place : ℕ}
     → row_of ≡ number_in 0x21 0x7E 0 a 120
     → column_of ≡ number_in 0x21 0x7E 0 b 94
     → place ≡ 256 + row_of * 95 + column_of
     → IsPlaceOf jis0208_shape (IsJis0208Pair a b) place
 unfolding two_byte_char
-bytes_place no_more a b r k p =
-    pair_place jis0208_shape no_more (is_jis0208_byte a) (is_jis0208_byte b) (a - 0x21) (b - 0x21)
+bytes_place a b r k p =
+    pair_place jis0208_shape has_no_more (is_jis0208_byte a) (is_jis0208_byte b) (a - 0x21) (b - 0x21)
     (r ∙ row a) (k ∙ column b) p (few a) (small b)
     (λ c lead trail has. (
       lead,

@@ -16,7 +16,7 @@ pub fn iso_2022_jp_set_is_of_last_escape()
 ///
 /// One to three bytes after it determine it, or the end of the input. It is malformed if another
 /// one directly follows (Encoding Standard 12.2.1).
-#[tactic(auto, using(crate::proofs::Iso2022JpRule::looks_after_skipped))]
+#[tactic(auto, using(crate::proofs::SkippedEscapes::looks_after_skipped))]
 pub fn iso_2022_jp_looks_after_escapes()
     ensures { HasSkippedLookahead iso_2022_jp_rule }
 {}

@@ -1,6 +1,6 @@
 -- What single bytes and trails make of the bytes in front, for all legacy multi-byte encodings.
 use Rattle.std.proofs.Common.{◌≡◌, ◌≢◌, ℕ, ◌+◌, ◌<◌, ◌≤◌, Bool, true, false, cond, nat_lt, Option, Some, None, List, []}
-use Rattle.std.proofs.Common.{◌∷◌, length, refl, ap, ◌∙◌, arith, subst}
+use Rattle.std.proofs.Common.{◌∷◌, ◌++◌, length, refl, ap, ◌∙◌, arith, subst}
 use Rattle.enc_decoder.specs.declared.byte_codec.Text.{Text}
 use Rattle.enc_decoder.specs.declared.byte_codec.Text.TheVariants.{One}
 use Rattle.enc_decoder_multi_byte.specs.declared.multi_byte.Prefix.{Prefix}
@@ -93,6 +93,13 @@ pub trail_can_be_malformed : (n : ℕ) (t : Option Text) → t ≡ None
     → trail_prefix n 0xFF t ≡ Malformed (n + 1)
 trail_can_be_malformed n t e = ap (trail_prefix n 0xFF) e
 
+-- FF makes these bytes malformed
+pub malformed_with_ff : (prefix : List ℕ → Prefix) (front : List ℕ) (len : ℕ)
+    → prefix (front ++ 0xFF ∷ []) ≡ Malformed len → len ≢ length front
+    → CanBeMalformed prefix front
+malformed_with_ff prefix front len malformed other =
+    record { byte = 0xFF; is_byte = omega arith; len = len; malformed = malformed; other = other }
+
 -- a prefix that a test shows not to be incomplete
 
 pub unless_complete : (t : Bool) (r : Prefix) (text : Text) → cond t Incomplete r ≡ Complete text
@@ -153,11 +160,7 @@ double_byte_laws is_lead single pair laws =
         → double_byte_prefix is_lead single pair front ≡ Incomplete
         → CanBeMalformed (double_byte_prefix is_lead single pair) front
     can_be_malformed [] s e = absurd (omega arith)
-    can_be_malformed (a ∷ []) s e = record {
-      byte = 0xFF;
-      is_byte = omega arith;
-      len = 2;
-      malformed = trail_can_be_malformed 1 (pair a 0xFF) (laws.no_trail a);
-      other = λ f. omega arith;
-    }
+    can_be_malformed (a ∷ []) s e =
+        malformed_with_ff _ (a ∷ []) 2
+        (trail_can_be_malformed 1 (pair a 0xFF) (laws.no_trail a)) (λ same. omega arith)
     can_be_malformed (a ∷ b ∷ z) s e = absurd (trail_finished 1 b (pair a b) e)

@@ -78,13 +78,9 @@ impl DoubleByte for Big5 {
 
     #[inline(always)]
     fn pair_places(first: u8x16, second: u8x16) -> u16x16 {
-        Big5Index::laws();
         let rows = numbers_in(first, 0x81, 0xFE, 0, u8x16::splat(126));
         let upper = numbers_in(second, 0xA1, 0xFE, 63, u8x16::splat(157));
         let columns = numbers_in(second, 0x40, 0x7E, 0, upper);
         places_at(rows, columns, 158)
     }
-
-    #[tactic(auto, using(crate::proofs::Laws::Big5::pairs))]
-    fn laws() {}
 }

@@ -4,7 +4,7 @@ ghost use Rattle.std.specs.Prelude.{◌≡◌, ℕ, ◌+◌, ◌<◌, Bool, Opti
 ghost use Rattle.enc_index.specs.Grid.{ArePairPlaces};
 ghost use Rattle.enc_decoder.specs.declared.byte_codec.Text.{Text};
 ghost use Rattle.enc_decoder_multi_byte.specs.DoubleByte.{text_of_char, first_prefix, trail_prefix};
-ghost use Rattle.enc_decoder_multi_byte.specs.DoubleByte.{ArePairs, IsLeadPair};
+ghost use Rattle.enc_decoder_multi_byte.specs.DoubleByte.{IsLeadPair};
 
 use crate::multi_byte::{MultiByte, Prefix};
 use enc_decoder::{Pending, Text};
@@ -46,10 +46,6 @@ pub trait DoubleByte: Copy {
     /// A character there is theirs, and the first byte is a lead byte.
     fn pair_places(first: u8x16, second: u8x16) -> u16x16
         ensures { ArePairPlaces Self.Index.shape (IsLeadPair leads pairs) result first second };
-
-    /// The laws of all leads, single bytes and pairs. The call does nothing.
-    fn laws()
-        ensures { ArePairs leads singles pairs };
 }
 
 /// Such an encoding, as one of the multi-byte encodings.
@@ -125,9 +121,5 @@ impl<D: DoubleByte> MultiByte for Double<D> {
     #[inline(always)]
     fn pair_places(first: u8x16, second: u8x16) -> u16x16 {
         D::pair_places(first, second)
-    }
-
-    fn laws() {
-        D::laws();
     }
 }

@@ -120,12 +120,8 @@ impl MultiByte for EucJp {
 
     #[inline(always)]
     fn pair_places(first: u8x16, second: u8x16) -> u16x16 {
-        Jis0208Index::laws();
         let rows = numbers_in(first, 0xA1, 0xFE, 0, u8x16::splat(120));
         let columns = numbers_in(second, 0xA1, 0xFE, 0, u8x16::splat(94));
         places_at(rows, columns, 95)
     }
-
-    #[tactic(auto, using(crate::proofs::Laws::EucJp::laws))]
-    fn laws() {}
 }

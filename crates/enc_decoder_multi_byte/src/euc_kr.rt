@@ -50,12 +50,8 @@ impl DoubleByte for EucKr {
 
     #[inline(always)]
     fn pair_places(first: u8x16, second: u8x16) -> u16x16 {
-        EucKrIndex::laws();
         let rows = numbers_in(first, 0x81, 0xFE, 0, u8x16::splat(126));
         let columns = numbers_in(second, 0x41, 0xFE, 0, u8x16::splat(190));
         places_at(rows, columns, 191)
     }
-
-    #[tactic(auto, using(crate::proofs::Laws::EucKr::pairs))]
-    fn laws() {}
 }

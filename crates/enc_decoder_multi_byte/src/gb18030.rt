@@ -164,13 +164,9 @@ impl MultiByte for Gb18030 {
 
     #[inline(always)]
     fn pair_places(first: u8x16, second: u8x16) -> u16x16 {
-        Gb18030Index::laws();
         let rows = numbers_in(first, 0x81, 0xFE, 0, u8x16::splat(126));
         let upper = numbers_in(second, 0x80, 0xFE, 63, u8x16::splat(190));
         let columns = numbers_in(second, 0x40, 0x7E, 0, upper);
         places_at(rows, columns, 191)
     }
-
-    #[tactic(auto, using(crate::proofs::Laws::Gb18030::laws))]
-    fn laws() {}
 }

@@ -5,6 +5,7 @@
 
 mod big5;
 mod double_byte;
+mod encoding_laws;
 mod euc_jp;
 mod euc_kr;
 mod gb18030;

@@ -10,6 +10,7 @@ ghost use Rattle.enc_decoder_multi_byte.specs.MultiByte.{multi_byte_state, AreIn
 ghost use Rattle.enc_decoder_multi_byte.specs.MultiByte.{ArePrefixes, IsCharPair};
 ghost use Rattle.enc_decoder_multi_byte.specs.MultiByte.{multi_byte_rule, IsMalformedFront};
 
+use crate::encoding_laws::PrefixLaws;
 use enc_decoder::{
     ByteCodec, DecoderStop, Emission, ErrorMode, HandlerResult, Kind, Pending, RawDecoder, Text,
     TextLengths, latin1_up_to, replace_each, run,
@@ -63,10 +64,6 @@ pub trait MultiByte: Copy {
     /// A character there is theirs, and the first byte is none by itself.
     fn pair_places(first: u8x16, second: u8x16) -> u16x16
         ensures { ArePairPlaces Self.Index.shape (IsCharPair prefix) result first second };
-
-    /// The laws of all prefixes. The call does nothing.
-    fn laws()
-        ensures { ArePrefixes prefix };
 }
 
 /// The decoder of a legacy multi-byte encoding without escape sequences.
@@ -87,6 +84,18 @@ impl<E: MultiByte> MultiByteDecoder<E> {
         MultiByteDecoder::holding(Pending::Nothing)
     }
 
+    /// Returns a decoder with these pending bytes.
+    fn holding(pending: Pending) -> MultiByteDecoder<E>
+        ensures { result.pending ≡ pending }
+    {
+        MultiByteDecoder {
+            pending,
+            encoding: PhantomData,
+        }
+    }
+}
+
+impl<E: PrefixLaws> MultiByteDecoder<E> {
     /// Returns the sequence that the pending bytes determine by themselves. `None` if all of them
     /// are an incomplete prefix.
     #[inline(always)]
@@ -95,6 +104,7 @@ impl<E: MultiByte> MultiByteDecoder<E> {
             (λ d. multi_byte_state E.prefix (bytes_of_pending d.pending)) self (Some shown)) }
         ensures incomplete { IsNone result → AreIncomplete E.prefix []
             (bytes_of_pending self.pending) }
+        ensures lawful { ArePrefixes E.prefix }
     {
         E::laws();
         let mut front = Pending::Nothing;
@@ -115,16 +125,6 @@ impl<E: MultiByte> MultiByteDecoder<E> {
             }
         }
         None
-    }
-
-    /// Returns a decoder with these pending bytes.
-    fn holding(pending: Pending) -> MultiByteDecoder<E>
-        ensures { result.pending ≡ pending }
-    {
-        MultiByteDecoder {
-            pending,
-            encoding: PhantomData,
-        }
     }
 }
 
@@ -194,7 +194,7 @@ fn malformed_len<E: MultiByte>(lead: u8, byte: u8) -> Option<u8>
     }
 }
 
-impl<E: MultiByte> Pieces for MultiByteDecoder<E> {
+impl<E: PrefixLaws> Pieces for MultiByteDecoder<E> {
     ghost use Rattle.enc_decoder_multi_byte.specs.MultiByte.{multi_byte_rule};
     ghost use Rattle.enc_decoder.specs.Taking.{IsWholeChar};
     ghost use Rattle.enc_index.specs.Grid.{IsPlaceOf};
@@ -253,7 +253,7 @@ impl<E: MultiByte> Pieces for MultiByteDecoder<E> {
     }
 }
 
-impl<E: MultiByte> ByteCodec for MultiByteDecoder<E> {
+impl<E: PrefixLaws> ByteCodec for MultiByteDecoder<E> {
     ghost use Rattle.enc_decoder.specs.Pending.{bytes_of_pending};
     ghost use Rattle.enc_decoder_multi_byte.specs.MultiByte.{multi_byte_state};
 
@@ -281,7 +281,6 @@ impl<E: MultiByte> ByteCodec for MultiByteDecoder<E> {
     }
 
     fn next_step(self, byte: u8) -> HandlerResult<MultiByteDecoder<E>> {
-        E::laws();
         if let Some(shown) = self.shown_first() {
             return HandlerResult::Emit(shown);
         }
@@ -301,13 +300,11 @@ impl<E: MultiByte> ByteCodec for MultiByteDecoder<E> {
     }
 
     fn ready(self) -> Option<Emission<MultiByteDecoder<E>>> {
-        E::laws();
         self.shown_first()
     }
 
     /// An incomplete prefix is malformed as a whole.
     fn at_end(self) -> Option<Emission<MultiByteDecoder<E>>> {
-        E::laws();
         if let Some(shown) = self.shown_first() {
             return Some(shown);
         }
@@ -322,7 +319,7 @@ impl<E: MultiByte> ByteCodec for MultiByteDecoder<E> {
     }
 }
 
-impl<E: MultiByte> RawDecoder for MultiByteDecoder<E> {
+impl<E: PrefixLaws> RawDecoder for MultiByteDecoder<E> {
     ghost use Rattle.enc_decoder.specs.declared.text_lengths.TextLengths.TheVariants as lengths;
     ghost use Rattle.enc_decoder.specs.Pending.{bytes_of_pending};
     ghost use Rattle.enc_decoder_multi_byte.specs.MultiByte.{multi_byte_state};

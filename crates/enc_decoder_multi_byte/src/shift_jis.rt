@@ -77,7 +77,6 @@ impl DoubleByte for ShiftJis {
     /// A lead byte has two rows of the grid, and one of the private use area has none.
     #[inline(always)]
     fn pair_places(first: u8x16, second: u8x16) -> u16x16 {
-        Jis0208Index::laws();
         let last = numbers_in(first, 0xFA, 0xFC, 57, u8x16::splat(60));
         let upper = numbers_in(first, 0xE0, 0xEF, 31, last);
         let rows = numbers_in(first, 0x81, 0x9F, 0, upper);
@@ -86,7 +85,4 @@ impl DoubleByte for ShiftJis {
         let columns = numbers_in(second, 0x40, 0x7E, 0, middle);
         places_at(rows, columns, 190)
     }
-
-    #[tactic(auto, using(crate::proofs::Laws::ShiftJis::pairs))]
-    fn laws() {}
 }

@@ -1,6 +1,6 @@
 -- Which lengths are enough for encodings in which each byte stands alone, and for replacement.
 use Rattle.std.proofs.Common.{◌≡◌, ℕ, ◌+◌, ◌-◌, ◌*◌, ◌<◌, ◌≤◌, zero, suc, Bool, true, false, cond, ◌&&◌, nat_lt, nat_le}
-use Rattle.std.proofs.Common.{Option, Some, None, List, [], ◌∷◌, length, drop, refl, sym, arith}
+use Rattle.std.proofs.Common.{Option, Some, None, List, [], ◌∷◌, length, drop, refl, ap, sym, arith}
 use Rattle.std.proofs.lemmas.Bool.Decides.{nat_tests}
 use Rattle.std.specs.Char.{encode_utf8}
 use Rattle.std.specs.Char.Escape.{encode_utf16}
@@ -17,6 +17,7 @@ use Rattle.enc_decoder.proofs.EnoughLemmas.{thrice_is, same_some, needed_less, n
 use Rattle.enc_index.specs.Index.{Run, index_at, entry_character, is_entry_code_point}
 use Rattle.enc_index.specs.declared.table.Planes.TheVariants.{Basic}
 use Rattle.enc_decoder_single_byte.specs.OneByte.{one_byte_rule, single_byte_char, x_user_defined_char}
+use Rattle.enc_decoder_single_byte.proofs.OneByteLemmas.{no_more}
 use Rattle.enc_decoder_single_byte.specs.OneByteState.{single_byte_state, x_user_defined_state}
 use Rattle.enc_decoder_single_byte.specs.Replacement.{replacement_rule, replacement_state}
 
@@ -77,33 +78,19 @@ module _ (character : ℕ → Option ℕ) (is_basic : AreBasic character) where
     unfolding one_byte_rule sequences_after
     bounded_bytes set [] are_bytes = omega arith
     bounded_bytes set (b ∷ z) are_bytes =
-        first set b z (character b) (head_is_basic set b (character b) are_bytes.0 refl)
-        (λ s. bounded_bytes s z are_bytes.1)
-      where
-        first : (set b : ℕ) (z : List ℕ) (c : Option ℕ) → IsBmpText (one_byte_head set c).text
-            → ((s : ℕ) → units units_of (sequences_of rule s z) ≤ each * length z)
-            → units units_of (head_sequence (one_byte_head set c) b z
-            ∷ sequences_after rule (one_byte_head set c).set (one_byte_head set c).more z)
-            ≤ each * suc (length z)
-        first set b z None is_basic rest_bounded =
-            grind (
-              arith,
-              most _ is_basic,
-              rest_bounded set,
-              units-both units_of (head_sequence (one_byte_head set None) b z ∷ [])
-                  (sequences_of rule set z),
-              units-one
-                  units_of (head_sequence (one_byte_head set None) b z) _ refl,
-            )
-        first set b z (Some c) is_basic rest_bounded =
-            grind (
-              arith,
-              most _ is_basic,
-              rest_bounded set,
-              units-both units_of (head_sequence (one_byte_head set (Some c)) b z ∷ [])
-                  (sequences_of rule set z),
-              units-one units_of (head_sequence (one_byte_head set (Some c)) b z) _ refl,
-            )
+        let head = rule set b z in
+        let none_more =
+        ap (λ k. units units_of (sequences_after rule head.set k z))
+        (no_more character set (character b)) in
+        grind (
+          arith,
+          most _ (head_is_basic set b (character b) are_bytes.0 refl),
+          bounded_bytes head.set z are_bytes.1,
+          none_more,
+          units-both units_of (head_sequence head b z ∷ [])
+              (sequences_after rule head.set head.more z),
+          units-one units_of (head_sequence head b z) head.text refl,
+        )
 
   abbrev state : CodecState
   state = record { rule = rule; set = 0; pending = [] }

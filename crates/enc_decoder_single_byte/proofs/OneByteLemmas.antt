@@ -1,5 +1,6 @@
 -- Encodings in which each byte stands alone: what a byte shows, and the laws of their rules.
-use Rattle.std.proofs.Common.{◌≡◌, ℕ, Option, Some, None, List, [], ◌∷◌, drop, refl, ap, ◌∙◌, sym, arith, inl}
+use Rattle.std.proofs.Common.{◌≡◌, ℕ, ◌<◌, Option, Some, None, List, [], ◌∷◌, drop, refl, ap, ◌∙◌, sym, arith, inl}
+use Rattle.std.proofs.lemmas.Bool.{cond-true, lt-ltb}
 use Rattle.enc_decoder.specs.declared.byte_codec.Kind.TheVariants.{Valid, Malformed}
 use Rattle.enc_decoder.specs.declared.byte_codec.Text.TheVariants.{One}
 use Rattle.enc_decoder.specs.Segmentation.{Head, head_sequence, sequences_of, one_byte_head}
@@ -9,7 +10,7 @@ use Rattle.enc_decoder.specs.RuleLaws.{HasTexts, HasLookahead, IsSmallText, HasS
 use Rattle.enc_decoder.specs.RuleLaws.{IsLawfulRule}
 use Rattle.enc_decoder_single_byte.specs.OneByte.{one_byte_rule, one_byte_step, single_byte_char, x_user_defined_char}
 use Rattle.enc_decoder_single_byte.specs.OneByteState.{one_byte_state}
-use Rattle.enc_decoder.proofs.SegmentationLemmas.{sequences_of-cons}
+use Rattle.enc_decoder.proofs.SegmentationLemmas.{sequences_of-head}
 use Rattle.enc_decoder.proofs.EmissionLemmas.{shows_with}
 use Rattle.enc_decoder.specs.Taking.{IsWholeChar}
 use Rattle.enc_decoder.specs.Latin1.{HasNoByteSequences}
@@ -28,10 +29,7 @@ module _ (character : ℕ → Option ℕ) where
       → sequences_of (one_byte_rule character) 0 (b ∷ z)
       ≡ head_sequence h b z ∷ sequences_of (one_byte_rule character) h.set (drop h.more z)
   first b found h e f z =
-      sequences_of-cons (one_byte_rule character) 0 b z
-      ∙ ap (λ (t : Head). head_sequence t b z
-      ∷ sequences_of (one_byte_rule character) t.set (drop t.more z))
-      (head_is 0 b z found e ∙ f)
+      sequences_of-head (one_byte_rule character) 0 b z h (head_is 0 b z found e ∙ f)
 
   -- a byte shows its character, or that it is malformed
   pub one_byte_acts : {C : Type 0} (state : C → CodecState) (c : C)
@@ -61,7 +59,7 @@ module _ (character : ℕ → Option ℕ) where
       has_bytes_by (one_byte_rule character) b [] (ap (λ (t : Head). t.kind) is_head)
       (ap (λ (t : Head). t.more) is_head)
 
-  no_more : (set : ℕ) (found : Option ℕ) → (one_byte_head set found).more ≡ 0
+  pub no_more : (set : ℕ) (found : Option ℕ) → (one_byte_head set found).more ≡ 0
   no_more set (Some a) = refl
   no_more set None = refl
 
@@ -74,11 +72,8 @@ module _ (character : ℕ → Option ℕ) where
       → IsDeterminedWithin (one_byte_rule character) set b z 0
   unfolding one_byte_rule
   determined_by_itself set b z =
-      record {
-        there = (let none_more = no_more set (character b) in omega arith);
-        same = λ y.
-            refl;
-      }
+      let none_more = no_more set (character b) in
+      record { there = omega arith; same = λ y. refl }
 
   has_lookahead : HasLookahead (one_byte_rule character)
   has_lookahead = record {
@@ -107,6 +102,13 @@ unfolding one_byte_rule
 one_byte_has_texts character set b z e = has_text set (character b) e
 
 -- an ASCII byte is a character by itself
+
+pub single_byte_ascii : (runs : List (ℕ × ℕ × ℕ)) (b : ℕ) → b < 0x80
+    → single_byte_char runs b ≡ Some b
+single_byte_ascii runs b is_ascii = cond-true _ _ _ (lt-ltb b 0x80 is_ascii)
+
+pub x_user_defined_ascii : (b : ℕ) → b < 0x80 → x_user_defined_char b ≡ Some b
+x_user_defined_ascii b is_ascii = cond-true _ _ _ (lt-ltb b 0x80 is_ascii)
 
 pub single_byte_has_bytes : (runs : List (ℕ × ℕ × ℕ))
     → ¬ (HasNoByteSequences (one_byte_rule (single_byte_char runs)))

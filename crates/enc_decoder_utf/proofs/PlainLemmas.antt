@@ -15,61 +15,6 @@ use Rattle.enc_decoder.proofs.SequenceLemmas.{or_assoc, or_false}
 use Rattle.enc_decoder.proofs.SegmentationLemmas.{sequences_of-cons, sequences_of-nil}
 use Rattle.enc_decoder_utf.proofs.Utf8Lemmas.{valid_head, malformed_head}
 
--- continuation bytes
-
-pub continuations-within : (n : ℕ) (z : List ℕ) → continuations n z ≤ length z
-continuations-within zero z = omega arith
-continuations-within (suc n) [] = omega arith
-continuations-within (suc n) (c ∷ z) =
-    elim (is_continuation c) as (λ t. cond t (suc (continuations n z)) 0 ≤ suc (length z)) [
-      | true ↦ let rest_within = continuations-within n z in omega arith
-      | false ↦ omega arith
-    ]
-
--- how far the bytes after a lead byte reach
-
-continuing_len-within : (b n : ℕ) (z : List ℕ) → continuing_len b n z ≤ length z
-continuing_len-within b zero z = omega arith
-continuing_len-within b (suc n) [] = omega arith
-continuing_len-within b (suc n) (c ∷ z) =
-    elim (is_second_byte b c) as (λ t. cond t (suc (continuations n z)) 0 ≤ suc (length z)) [
-      | true ↦ let rest_within = continuations-within n z in omega arith
-      | false ↦ omega arith
-    ]
-
-pub well_formed_tail_len-within : (b : ℕ) (z : List ℕ) → well_formed_tail_len b z ≤ length z
-well_formed_tail_len-within b z = continuing_len-within b (sequence_len b - 1) z
-
--- the continuation bytes of a list, where there are n
-
-abbrev pub Continue : ℕ → List ℕ → Type 0
-Continue zero z = Unit {0}
-Continue (suc n) z = (1 ≤ length z) × (is_continuation (get_or z 0 0) ≡ true)
-    × (z ≡ get_or z 0 0 ∷ drop 1 z) × Continue n (drop 1 z)
-
-all_continue : (n : ℕ) (z : List ℕ) → continuations n z ≡ n → Continue n z
-all_continue zero z all = tt
-all_continue (suc n) [] all = absurd (omega arith)
-all_continue (suc n) (c ∷ z) all =
-    elim (is_continuation c) as (λ t. is_continuation c ≡ t → Continue (suc n) (c ∷ z)) [
-      | true ↦ λ continues. (let count_is : suc (continuations n z) ≡ suc n = rw continues at all in
-          (omega arith, continues, refl, all_continue n z (omega arith)))
-      | false ↦ λ h. (let none_counted : 0 ≡ suc n = rw h at all in absurd (omega arith))
-    ] refl
-
-abbrev pub GoOn : ℕ → ℕ → List ℕ → Type 0
-GoOn a n z = (1 ≤ length z) × (is_second_byte a (get_or z 0 0) ≡ true)
-    × (z ≡ get_or z 0 0 ∷ drop 1 z) × Continue n (drop 1 z)
-
-all_go_on : (a n : ℕ) (z : List ℕ) → continuing_len a (suc n) z ≡ suc n → GoOn a n z
-all_go_on a n [] all = absurd (omega arith)
-all_go_on a n (c ∷ z) all =
-    elim (is_second_byte a c) as (λ t. is_second_byte a c ≡ t → GoOn a n (c ∷ z)) [
-      | true ↦ λ goes_on. (let count_is : suc (continuations n z) ≡ suc n = rw goes_on at all in
-          (omega arith, goes_on, refl, all_continue n z (omega arith)))
-      | false ↦ λ h. (let none_counted : 0 ≡ suc n = rw h at all in absurd (omega arith))
-    ] refl
-
 -- what a sequence that is reached as a whole is made of
 
 pub record Whole4 (a : ℕ) (z : List ℕ) : Type 0 where
@@ -79,26 +24,35 @@ pub record Whole4 (a : ℕ) (z : List ℕ) : Type 0 where
   pub fourth : is_continuation (get_or z 2 0) ≡ true
   pub bytes : take (well_formed_tail_len a z) z ≡ get_or z 0 0 ∷ get_or z 1 0 ∷ get_or z 2 0 ∷ []
 
-whole4 : (a : ℕ) (z : List ℕ) → GoOn a 2 z → well_formed_tail_len a z ≡ 3 → Whole4 a z
-whole4 a [] goes_on r = absurd (omega arith)
-whole4 a (b ∷ []) goes_on r = absurd (omega arith)
-whole4 a (b ∷ c ∷ []) goes_on r = absurd (omega arith)
-whole4 a (b ∷ c ∷ d ∷ z) goes_on r =
-    record {
-      some = omega arith;
-      second = goes_on.1;
-      third = goes_on.3.1;
-      fourth = goes_on.3.3.1;
-      bytes = rw r refl;
-    }
+-- a byte that passes is counted with those after it
+counted : (passes : Bool) (n m : ℕ) → cond passes (suc n) 0 ≡ suc m → (passes ≡ true) × (n ≡ m)
+counted true n m count_is = (refl, omega arith)
+counted false n m count_is = absurd (omega arith)
 
 pub whole_four : (a : ℕ) (z : List ℕ) → sequence_len a ≡ 4
     → well_formed_tail_len a z + 1 ≡ sequence_len a → Whole4 a z
-whole_four a z s e =
+whole_four a z four whole =
     let reaches_all : well_formed_tail_len a z ≡ 3 = omega arith in
     let three_more : sequence_len a - 1 ≡ 3 = omega arith in
-    whole4 a z (all_go_on a 2 z (ap (λ n. continuing_len a n z) (sym three_more) ∙ reaches_all))
-    reaches_all
+    of_bytes z (ap (λ n. continuing_len a n z) (sym three_more) ∙ reaches_all) reaches_all
+  where
+    of_bytes : (z : List ℕ) → continuing_len a 3 z ≡ 3 → well_formed_tail_len a z ≡ 3 → Whole4 a z
+    of_bytes [] three reach = absurd (omega arith)
+    of_bytes (b ∷ []) three reach =
+        let second = counted (is_second_byte a b) _ 2 three in absurd (omega (arith, second.1))
+    of_bytes (b ∷ c ∷ []) three reach =
+        let second = counted (is_second_byte a b) _ 2 three in
+        let third = counted (is_continuation c) _ 1 second.1 in absurd (omega (arith, third.1))
+    of_bytes (b ∷ c ∷ d ∷ z) three reach =
+        let second = counted (is_second_byte a b) _ 2 three in
+        let third = counted (is_continuation c) _ 1 second.1 in
+        record {
+          some = omega arith;
+          second = second.0;
+          third = third.0;
+          fourth = (counted (is_continuation d) _ 0 third.1).0;
+          bytes = rw reach refl;
+        }
 
 -- the head of the rule, by whether the sequence is whole
 

@@ -1,11 +1,12 @@
 -- Which lengths are enough for UTF-16.
 use Rattle.std.proofs.Common.{◌≡◌, ℕ, ◌+◌, ◌*◌, ◌/◌, ◌<◌, ◌≤◌, suc, Bool, true, false, Some, List, [], ◌∷◌, ◌++◌}
-use Rattle.std.proofs.Common.{length, drop, refl, ap, ◌∙◌, subst, arith, inl, inr}
+use Rattle.std.proofs.Common.{zero, length, drop, refl, ap, ◌∙◌, arith}
+use Rattle.std.proofs.lemmas.List.{length-append}
 use Rattle.std.specs.Char.{encode_utf8}
 use Rattle.std.specs.Char.Escape.{encode_utf16}
 use Rattle.enc_units.specs.Output.{units_of_text}
 use Rattle.enc_units.specs.Checked.{checked_add, checked_mul, checked_half}
-use Rattle.enc_decoder.specs.Segmentation.{Head, head_sequence, sequences_of, character_head, malformed_head}
+use Rattle.enc_decoder.specs.Segmentation.{Head, Rule, head_sequence, sequences_of, sequences_after}
 use Rattle.enc_decoder.specs.Remainder.{AreBytes}
 use Rattle.enc_decoder.specs.CodecState.{remainder_of}
 use Rattle.enc_decoder.specs.Call.{DecodeErrorMode, Replacement, Fatal}
@@ -16,36 +17,27 @@ use Rattle.enc_decoder.specs.Pending.{bytes_of_pending}
 use Rattle.enc_decoder.specs.declared.text_lengths.TextLengths.TheVariants as lengths
 use Rattle.enc_decoder.specs.Need.{NeedExceeds, AreEnoughForCodec, IsBmpText}
 use Rattle.enc_decoder.proofs.RuleLemmas.{one_small}
-use Rattle.enc_decoder.proofs.FirstSequenceLemmas.{true_or_false}
-use Rattle.enc_decoder.proofs.SegmentationLemmas.{sequences_of-head, sequences_of-nil}
 use Rattle.enc_decoder.proofs.NeedLemmas.{units, units-both, units-one}
 use Rattle.enc_decoder.proofs.EnoughLemmas.{plus_is, times_is, half_is, same_some, needed_less, needs_all, basic_by}
-use Rattle.enc_decoder_utf.specs.Utf16.{code_unit, is_lead_surrogate, is_trail_surrogate, pair_scalar, utf_16_rule}
+use Rattle.enc_decoder_utf.specs.Utf16.{code_unit, pair_scalar, utf_16_rule}
 use Rattle.enc_decoder_utf.specs.Utf16State.{Utf16State, begins_with_lead, utf_16_state}
-use Rattle.enc_decoder_utf.proofs.Utf16Lemmas.{one_head, character_first, trail_first, lead_at_end, lead_and_byte}
-use Rattle.enc_decoder_utf.proofs.Utf16Lemmas.{pair_first, lead_alone}
+use Rattle.enc_decoder_utf.proofs.Utf16Lemmas.{lead_range, holds_of_first, has_form}
 
 unit_below : (big : Bool) (b c : ℕ) → b < 256 → c < 256 → code_unit big b c < 0x1_0000
 unfolding code_unit
 unit_below true b c first_is_byte second_is_byte = omega (arith, first_is_byte, second_is_byte)
 unit_below false b c first_is_byte second_is_byte = omega (arith, first_is_byte, second_is_byte)
 
-weaker : (f : ℕ → ℕ) (a n m : ℕ) → n ≡ m → a ≤ f n → a ≤ f m + 1
-weaker f a n m e h = let values_agree = ap f e in omega (arith, h, values_agree)
-
-same_most : (f : ℕ → ℕ) (a n m : ℕ) → n ≡ m → a ≤ f n + 1 → a ≤ f m + 1
-same_most f a n m e h = subst (λ k. a ≤ f k + 1) e h
-
 -- `each` units for two bytes, and `most` for n of them. A character beyond the Basic Multilingual
 -- Plane has one more, and no more than twice as many.
-module _ (units_of : ℕ → List ℕ) (each : ℕ) (most : ℕ → ℕ) (one : each ≤ most 1)
+module _ (units_of : ℕ → List ℕ) (each : ℕ) (most : ℕ → ℕ) (one : most 0 + each ≤ most 1)
     (more : (n : ℕ) → most n + each ≤ most (suc (suc n)))
     (basic : (text : List ℕ) → IsBmpText text → length (units_of_text units_of text) ≤ each)
     (small : (text : List ℕ) → IsSmallText text → (length (units_of_text units_of text) ≤ each + 1)
     × (length (units_of_text units_of text) ≤ each + each))
-    (big : Bool) where
-  abbrev of_bytes : ℕ → List ℕ → ℕ
-  of_bytes set z = units units_of (sequences_of (utf_16_rule big) set z)
+    (s : Utf16State) where
+  abbrev rule : Rule
+  rule = utf_16_rule s.big_endian
 
   abbrev of_char : ℕ → ℕ
   of_char c = length (units_of_text units_of (c ∷ []))
@@ -53,230 +45,136 @@ module _ (units_of : ℕ → List ℕ) (each : ℕ) (most : ℕ → ℕ) (one : 
   replaced : of_char 0xFFFD ≤ each
   replaced = basic _ (basic_by 0xFFFD (omega arith))
 
-  -- the first sequence and the rest
-  then_rest : (set b : ℕ) (z : List ℕ) (h : Head) → utf_16_rule big set b z ≡ h
-      → of_bytes set (b ∷ z) ≡ length (units_of_text units_of h.text)
-      + of_bytes h.set (drop h.more z)
-  then_rest set b z h e =
-      ap (units units_of) (sequences_of-head (utf_16_rule big) set b z h e)
-      ∙ units-both units_of (head_sequence h b z ∷ [])
-      (sequences_of (utf_16_rule big) h.set (drop h.more z))
-      ∙ ap (λ n. n + of_bytes h.set (drop h.more z))
-      (units-one units_of (head_sequence h b z) h.text refl)
+  -- the first code unit is a character with at most `extra` units more
 
-  nothing : (set : ℕ) → of_bytes set [] ≡ 0
-  nothing set = ap (units units_of) (sequences_of-nil (utf_16_rule big) set)
+  abbrev IsUnitWithin : ℕ → ℕ → List ℕ → Type 0
+  IsUnitWithin extra b [] = Unit {0}
+  IsUnitWithin extra b (c ∷ z) = of_char (code_unit s.big_endian b c) ≤ each + extra
 
-  one_byte : (set b : ℕ) → of_bytes set (b ∷ []) ≤ most 1
-  one_byte set b = omega (
-    arith,
-    one,
-    replaced,
-    nothing set,
-    then_rest set b [] (malformed_head set 0)
-        (one_head big set b),
-  )
+  bytes_are_within : (b : ℕ) (z : List ℕ) → b < 256 → AreBytes z → IsUnitWithin 0 b z
+  bytes_are_within b [] is_byte are_bytes = tt
+  bytes_are_within b (c ∷ z) is_byte are_bytes =
+      let below = unit_below s.big_endian b c is_byte are_bytes.0 in
+      omega (arith, basic _ (basic_by (code_unit s.big_endian b c) below))
 
-  -- a lead surrogate
-  lead : (set b c : ℕ) (z : List ℕ) → is_lead_surrogate (code_unit big b c) ≡ true
-      → of_bytes set z ≤ most (length z)
-      → ((d e : ℕ) (y : List ℕ) → z ≡ d ∷ e ∷ y → of_bytes set y ≤ most (length y))
-      → of_bytes set (b ∷ c ∷ z) ≤ most (suc (suc (length z)))
-  lead set b c [] is_lead rest_bounded k =
-      omega (
-        arith,
-        more 0,
-        replaced,
-        nothing set,
-        rest_bounded,
-        then_rest set b (c ∷ []) (malformed_head set 1) (lead_at_end big set b c is_lead),
-      )
-  lead set b c (d ∷ []) is_lead rest_bounded k =
-      omega (
-        arith,
-        more 1,
-        replaced,
-        nothing set,
-        rest_bounded,
-        then_rest set b (c ∷ d ∷ []) (malformed_head set 2) (lead_and_byte big set b c d is_lead),
-      )
-  lead set b c (d ∷ e ∷ y) is_lead rest_bounded k =
-      elim (true_or_false (is_trail_surrogate (code_unit big d e))) [
-        | inl t ↦ (let scalar = pair_scalar (code_unit big b c) (code_unit big d e) in
-            omega (
-              arith,
-              (small (scalar ∷ []) (one_small scalar)).1,
-              k d e y refl,
-              more (length y),
-              more (suc (suc (length y))),
-              then_rest set b (c ∷ d ∷ e ∷ y) (character_head set 3 scalar)
-                  (pair_first big set b c d e y is_lead t),
-            ))
-        | inr n ↦ omega (
+  any_is_within : (b : ℕ) (z : List ℕ) → IsUnitWithin 1 b z
+  any_is_within b [] = tt
+  any_is_within b (c ∷ z) = (small _ (one_small (code_unit s.big_endian b c))).0
+
+  -- the first sequence, and as many as there may be after it
+  abbrev IsWithin : ℕ → List ℕ → Head → Type 0
+  IsWithin b z h = (extra : ℕ) → IsUnitWithin extra b z
+      → length (units_of_text units_of h.text) + most (length (drop h.more z))
+      ≤ most (suc (length z)) + extra
+
+  first_is_within : (set b : ℕ) (z : List ℕ) → IsWithin b z (rule set b z)
+  first_is_within set = holds_of_first {Holds = IsWithin} (record {
+    one_byte = λ b extra _. omega (arith, one, replaced);
+    character = λ b c z _ _ extra unit. omega (arith, unit, more (length z));
+    trail = λ b c z _ _ extra _. omega (arith, replaced, more (length z));
+    lead_at_end = λ b c _ extra _. omega (arith, replaced, more 0);
+    lead_and_byte = λ b c d _ extra _. omega (arith, replaced, one, more 1);
+    pair = λ b c d e z _ _ extra _.
+        let scalar = pair_scalar (code_unit s.big_endian b c) (code_unit s.big_endian d e) in
+        omega (
           arith,
-          replaced,
-          rest_bounded,
-          more (suc (suc (length y))),
-          then_rest set b (c ∷ d ∷ e ∷ y) (malformed_head set 1)
-              (lead_alone big set b c d e y is_lead n),
-        )
-      ]
+          (small (scalar ∷ []) (one_small scalar)).1,
+          more (length z),
+          more (suc (suc (length z))),
+        );
+    lead_alone = λ b c d e z _ _ extra _. omega (arith, replaced, more (suc (suc (length z))));
+  })
 
-  -- a code unit whose character may have `extra` units more
-  unit : (extra set b c : ℕ) (z : List ℕ) → of_char (code_unit big b c) ≤ each + extra
-      → of_bytes set z ≤ most (length z)
-      → ((d e : ℕ) (y : List ℕ) → z ≡ d ∷ e ∷ y → of_bytes set y ≤ most (length y))
-      → of_bytes set (b ∷ c ∷ z) ≤ most (suc (suc (length z))) + extra
-  unit extra set b c z u rest_bounded k =
-      elim (true_or_false (is_lead_surrogate (code_unit big b c))) [
-        | inl l ↦ omega (arith, lead set b c z l rest_bounded k)
-        | inr no_lead ↦ elim (true_or_false (is_trail_surrogate (code_unit big b c))) [
-          | inl t ↦ omega (
-            arith,
-            replaced,
-            rest_bounded,
-            more (length z),
-            then_rest set b (c ∷ z) (malformed_head set 1) (trail_first big set b c z no_lead t),
-          )
-          | inr m ↦ omega (
-            arith,
-            u,
-            rest_bounded,
-            more (length z),
-            then_rest set b (c ∷ z) (character_head set 1 (code_unit big b c))
-                (character_first big set b c z no_lead m),
-          )
-        ]
-      ]
+  abbrev after : ℕ → ℕ → List ℕ → ℕ
+  after set k z = units units_of (sequences_after rule set k z)
 
-  -- (bytes that are the same)
-  same : (set d e : ℕ) (y : List ℕ) → of_bytes set y ≤ most (length y) → (f g : ℕ) (x : List ℕ)
-      → d ∷ e ∷ y ≡ f ∷ g ∷ x → of_bytes set x ≤ most (length x)
-  same set d e y h f g x q =
-      let rests_agree : y ≡ x = cc in subst (λ w. of_bytes set w ≤ most (length w)) rests_agree h
-
-  bytes_bounded : (set : ℕ) (z : List ℕ) → AreBytes z → of_bytes set z ≤ most (length z)
-  bytes_bounded set [] are_bytes = omega (arith, nothing set)
-  bytes_bounded set (b ∷ []) are_bytes = one_byte set b
-  bytes_bounded set (b ∷ c ∷ []) are_bytes =
-      let unit_bounded = basic _
-      (basic_by (code_unit big b c) (unit_below big b c are_bytes.0 are_bytes.1.0)) in
+  with_rest : (set b : ℕ) (z : List ℕ) (extra slack : ℕ) → IsUnitWithin extra b z
+      → after (rule set b z).set (rule set b z).more z
+      ≤ most (length (drop (rule set b z).more z)) + slack
+      → after set 0 (b ∷ z) ≤ most (suc (length z)) + extra + slack
+  unfolding sequences_after
+  with_rest set b z extra slack unit rest =
+      let head = rule set b z in
       omega (
         arith,
-        unit 0 set b c [] (omega (arith, unit_bounded)) (bytes_bounded set [] tt)
-            (λ d e y f. absurd (cc)),
-      )
-  bytes_bounded set (b ∷ c ∷ d ∷ []) are_bytes =
-      let unit_bounded = basic _
-      (basic_by (code_unit big b c) (unit_below big b c are_bytes.0 are_bytes.1.0)) in
-      omega (
-        arith,
-        unit 0 set b c (d ∷ []) (omega (arith, unit_bounded))
-            (bytes_bounded set (d ∷ []) are_bytes.1.1)
-            (λ d e y f. absurd (cc)),
-      )
-  bytes_bounded set (b ∷ c ∷ d ∷ e ∷ y) are_bytes =
-      let unit_bounded = basic _
-      (basic_by (code_unit big b c) (unit_below big b c are_bytes.0 are_bytes.1.0)) in
-      omega (
-        arith,
-        unit 0 set b c (d ∷ e ∷ y) (omega (arith, unit_bounded))
-            (bytes_bounded set (d ∷ e ∷ y) are_bytes.1.1)
-            (same set d e y (bytes_bounded set y are_bytes.1.1.1.1)),
+        first_is_within set b z extra unit,
+        rest,
+        units-both units_of (head_sequence head b z ∷ []) (sequences_after rule head.set head.more z),
+        units-one units_of (head_sequence head b z) head.text refl,
       )
 
-  -- after a pending byte
+  bytes_bounded : (set k : ℕ) (z : List ℕ) → AreBytes z → after set k z ≤ most (length (drop k z))
+  unfolding sequences_after
+  bytes_bounded set zero [] are_bytes = omega arith
+  bytes_bounded set (suc k) [] are_bytes = omega arith
+  bytes_bounded set (suc k) (b ∷ z) are_bytes = bytes_bounded set k z are_bytes.1
+  bytes_bounded set zero (b ∷ z) are_bytes =
+      let head = rule set b z in
+      let rest = bytes_bounded head.set head.more z are_bytes.1 in
+      omega (
+        arith,
+        with_rest set b z 0 0 (bytes_are_within b z are_bytes.0 are_bytes.1) (omega (arith, rest)),
+      )
+
+  -- after a pending byte, and after two or three, of which the first sequence has two at least
+
   first_bounded : (set b : ℕ) (z : List ℕ) → AreBytes z
-      → of_bytes set (b ∷ z) ≤ most (suc (length z)) + 1
-  first_bounded set b [] are_bytes = omega (arith, one_byte set b)
-  first_bounded set b (c ∷ []) are_bytes =
-      unit 1 set b c [] ((small (code_unit big b c ∷ []) (one_small (code_unit big b c))).0)
-      (bytes_bounded set [] tt) (λ d e y f. absurd (cc))
-  first_bounded set b (c ∷ d ∷ []) are_bytes =
-      unit 1 set b c (d ∷ []) ((small (code_unit big b c ∷ []) (one_small (code_unit big b c))).0)
-      (bytes_bounded set (d ∷ []) are_bytes.1) (λ d e y f. absurd (cc))
-  first_bounded set b (c ∷ d ∷ e ∷ y) are_bytes =
-      unit 1 set b c (d ∷ e ∷ y)
-      ((small (code_unit big b c ∷ []) (one_small (code_unit big b c))).0)
-      (bytes_bounded set (d ∷ e ∷ y) are_bytes.1)
-      (same set d e y (bytes_bounded set y are_bytes.1.1.1))
+      → after set 0 (b ∷ z) ≤ most (suc (length z)) + 1
+  first_bounded set b z are_bytes =
+      let head = rule set b z in
+      let rest = bytes_bounded head.set head.more z are_bytes in
+      omega (arith, with_rest set b z 1 0 (any_is_within b z) (omega (arith, rest)))
 
-  -- after a lead surrogate, and after a byte more
-  two_bounded : (set b c : ℕ) (z : List ℕ) → is_lead_surrogate (code_unit big b c) ≡ true
-      → AreBytes z → of_bytes set (b ∷ c ∷ z) ≤ most (suc (suc (length z)))
-  two_bounded set b c [] is_lead are_bytes =
-      lead set b c [] is_lead (bytes_bounded set [] tt) (λ d e y f. absurd (cc))
-  two_bounded set b c (d ∷ []) is_lead are_bytes =
-      lead set b c (d ∷ []) is_lead (bytes_bounded set (d ∷ []) are_bytes) (λ d e y f. absurd (cc))
-  two_bounded set b c (d ∷ e ∷ y) is_lead are_bytes =
-      lead set b c (d ∷ e ∷ y) is_lead (bytes_bounded set (d ∷ e ∷ y) are_bytes)
-      (same set d e y (bytes_bounded set y are_bytes.1.1))
+  past_one : (set k c : ℕ) (z : List ℕ) → 0 < k → AreBytes z
+      → after set k (c ∷ z) ≤ most (length (drop k (c ∷ z)))
+  unfolding sequences_after
+  past_one set zero c z some are_bytes = absurd (omega arith)
+  past_one set (suc k) c z some are_bytes = bytes_bounded set k z are_bytes
 
-  three_bounded : (set b c d : ℕ) (z : List ℕ) → is_lead_surrogate (code_unit big b c) ≡ true
-      → AreBytes z → of_bytes set (b ∷ c ∷ d ∷ z) ≤ most (suc (suc (suc (length z)))) + 1
-  three_bounded set b c d [] is_lead are_bytes =
+  past_two : (set k c d : ℕ) (z : List ℕ) → 0 < k → AreBytes z
+      → after set k (c ∷ d ∷ z) ≤ most (length (drop k (c ∷ d ∷ z))) + 1
+  unfolding sequences_after
+  past_two set zero c d z some are_bytes = absurd (omega arith)
+  past_two set (suc zero) c d z some are_bytes = first_bounded set d z are_bytes
+  past_two set (suc (suc k)) c d z some are_bytes =
+      let rest = bytes_bounded set k z are_bytes in omega (arith, rest)
+
+  pending_bounded : (p : Pending) (z : List ℕ) → begins_with_lead s.big_endian p ≡ true → AreBytes z
+      → after 0 0 (bytes_of_pending p ++ z) ≤ most (length (bytes_of_pending p ++ z)) + 1
+  pending_bounded Nothing z leads are_bytes = omega (arith, bytes_bounded 0 0 z are_bytes)
+  pending_bounded (One b) z leads are_bytes = first_bounded 0 b z are_bytes
+  pending_bounded (Two b c) z leads are_bytes =
+      let some_more = (has_form s.big_endian 0 b (c ∷ z)).some_more (omega arith) in
+      let rest = past_one (rule 0 b (c ∷ z)).set (rule 0 b (c ∷ z)).more c z some_more are_bytes in
       omega (
         arith,
-        more 1,
-        replaced,
-        nothing set,
-        then_rest set b (c ∷ d ∷ []) (malformed_head set 2) (lead_and_byte big set b c d is_lead),
+        with_rest 0 b (c ∷ z) 1 0 (any_is_within b (c ∷ z)) (omega (arith, rest)),
       )
-  three_bounded set b c d (e ∷ y) is_lead are_bytes =
-      elim (true_or_false (is_trail_surrogate (code_unit big d e))) [
-        | inl t ↦ (let scalar = pair_scalar (code_unit big b c) (code_unit big d e) in
-            omega (
-              arith,
-              (small (scalar ∷ []) (one_small scalar)).1,
-              bytes_bounded set y are_bytes.1,
-              more (length y),
-              more (suc (suc (length y))),
-              then_rest set b (c ∷ d ∷ e ∷ y) (character_head set 3 scalar)
-                  (pair_first big set b c d e y is_lead t),
-            ))
-        | inr n ↦ omega (
-          arith,
-          replaced,
-          first_bounded set d (e ∷ y) are_bytes,
-          more (suc (suc (length y))),
-          then_rest set b (c ∷ d ∷ e ∷ y) (malformed_head set 1)
-              (lead_alone big set b c d e y is_lead n),
-        )
-      ]
+  pending_bounded (Three b c d) z leads are_bytes =
+      let some_more = (has_form s.big_endian 0 b (c ∷ d ∷ z)).some_more (omega arith) in
+      let lead_in_range = lead_range (code_unit s.big_endian b c) leads in
+      let is_basic = basic _
+      (basic_by (code_unit s.big_endian b c) (omega (arith, lead_in_range.1))) in
+      omega (
+        arith,
+        with_rest 0 b (c ∷ d ∷ z) 0 1 (omega (arith, is_basic))
+            (past_two (rule 0 b (c ∷ d ∷ z)).set (rule 0 b (c ∷ d ∷ z)).more c d z some_more
+            are_bytes),
+      )
 
-  pending_bounded : (p : Pending) (z : List ℕ) → begins_with_lead big p ≡ true → AreBytes z
-      → of_bytes 0 (bytes_of_pending p ++ z) ≤ most (length (bytes_of_pending p) + length z) + 1
-  pending_bounded Nothing z lead_first are_bytes =
-      weaker most _ (length z) (0 + length z) (omega arith) (bytes_bounded 0 z are_bytes)
-  pending_bounded (One b) z lead_first are_bytes =
-      same_most most _ (suc (length z)) (1 + length z) (omega arith) (first_bounded 0 b z are_bytes)
-  pending_bounded (Two b c) z lead_first are_bytes =
-      weaker most _ (suc (suc (length z))) (2 + length z) (omega arith)
-      (two_bounded 0 b c z lead_first are_bytes)
-  pending_bounded (Three b c d) z lead_first are_bytes =
-      same_most most _ (suc (suc (suc (length z)))) (3 + length z) (omega arith)
-      (three_bounded 0 b c d z lead_first are_bytes)
-
-  never : (s : Utf16State) → s.big_endian ≡ big → begins_with_lead big s.pending ≡ true
+  never : begins_with_lead s.big_endian s.pending ≡ true
       → (mode : DecodeErrorMode) (src : List ℕ) (last : Bool) (n : ℕ) → AreBytes src
       → most (length (bytes_of_pending s.pending) + length src) + 1 ≤ n
       → NeedExceeds units_of mode (remainder_of (utf_16_state s)) src last n → ⊥
-  never s e l mode src last n a m p =
+  never leads mode src last n are_bytes enough exceeds =
       omega (
         arith,
-        m,
-        pending_bounded s.pending src l a,
-        same_rule,
-        needed_less units_of mode
-            (sequences_of (utf_16_rule s.big_endian) 0 (bytes_of_pending s.pending ++ src)),
-        needs_all units_of mode (utf_16_state s) src last n p,
+        enough,
+        pending_bounded s.pending src leads are_bytes,
+        ap most (length-append (bytes_of_pending s.pending) src),
+        needed_less units_of mode (sequences_of rule 0 (bytes_of_pending s.pending ++ src)),
+        needs_all units_of mode (utf_16_state s) src last n exceeds,
       )
-    where
-      same_rule : units units_of
-          (sequences_of (utf_16_rule s.big_endian) 0 (bytes_of_pending s.pending ++ src))
-          ≡ of_bytes 0 (bytes_of_pending s.pending ++ src)
-      same_rule = ap (λ t. units units_of
-          (sequences_of (utf_16_rule t) 0 (bytes_of_pending s.pending ++ src))) e
 
 -- the formulas: as many code units as pairs of bytes, rounded up, and one more
 
@@ -312,7 +210,7 @@ module _ (s : Utf16State) (lead_first : begins_with_lead s.big_endian s.pending 
       never encode_utf8 3 (λ n. 3 * ((n + 1) / 2)) (omega arith) (λ n. omega arith)
       (λ t small. small.utf_8)
       (λ t small. (omega (arith, small.utf_8), omega (arith, small.utf_8)))
-      s.big_endian s refl lead_first
+      s lead_first
 
   never_utf_16 : (mode : DecodeErrorMode) (src : List ℕ) (last : Bool) (n : ℕ) → AreBytes src
       → (length (bytes_of_pending s.pending) + length src + 1) / 2 + 1 ≤ n
@@ -321,7 +219,7 @@ module _ (s : Utf16State) (lead_first : begins_with_lead s.big_endian s.pending 
       never encode_utf16 1 (λ n. (n + 1) / 2) (omega arith) (λ n. omega arith)
       (λ t small. small.utf_16)
       (λ t small. (omega (arith, small.utf_16), omega (arith, small.utf_16)))
-      s.big_endian s refl lead_first
+      s lead_first
 
   pub utf_16_enough : AreEnoughForCodec lengths.Utf16 (utf_16_state s)
   utf_16_enough = record {

@@ -1,10 +1,12 @@
 -- The first sequence by UTF-16's rule for each kind of first bytes, and its scalar values.
-use Rattle.std.proofs.Common.{◌≡◌, ℕ, ◌<◌, ◌≤◌, Bool, true, false, cond, List, [], ◌∷◌, length, refl, ◌∙◌, arith, inr}
+use Rattle.std.proofs.Common.{◌≡◌, ℕ, ◌<◌, ◌≤◌, Bool, true, false, List, [], ◌∷◌, length, refl, ◌∙◌, sym, subst, arith}
+use Rattle.std.proofs.Common.{inl, inr}
 use Rattle.std.proofs.lemmas.Bool.Decides.{nat_tests}
 use Rattle.std.specs.Char.{InScalarRange}
 use Rattle.enc_decoder.specs.Segmentation.{Head, character_head, malformed_head}
 use Rattle.enc_decoder_utf.specs.Utf16.{code_unit, is_lead_surrogate, is_trail_surrogate, pair_scalar}
 use Rattle.enc_decoder_utf.specs.Utf16.{lead_surrogate_head, utf_16_rule}
+use Rattle.enc_decoder.proofs.FirstSequenceLemmas.{true_or_false}
 
 -- what the tests say
 
@@ -73,30 +75,88 @@ module _ (big : Bool) where
       → utf_16_rule big set b (c ∷ d ∷ e ∷ z) ≡ malformed_head set 1
   lead_alone set b c d e z l t = lead_first set b c (d ∷ e ∷ z) l ∙ rw t refl
 
--- each head is within the bytes that are there, and has one character
+-- What holds of each form of the first sequence holds of the first sequence.
 
-abbrev HasForm : List ℕ → Head → Type 0
-HasForm z h = (h.more ≤ length z) × ((c : ℕ) × (h.text ≡ c ∷ []))
+pub record HoldsOfEachForm (big : Bool) (set : ℕ) (Holds : ℕ → List ℕ → Head → Type 0)
+    : Type 0 where
+  pub one_byte : (b : ℕ) → Holds b [] (malformed_head set 0)
+  pub character : (b c : ℕ) (z : List ℕ) → is_lead_surrogate (code_unit big b c) ≡ false
+      → is_trail_surrogate (code_unit big b c) ≡ false
+      → Holds b (c ∷ z) (character_head set 1 (code_unit big b c))
+  pub trail : (b c : ℕ) (z : List ℕ) → is_lead_surrogate (code_unit big b c) ≡ false
+      → is_trail_surrogate (code_unit big b c) ≡ true → Holds b (c ∷ z) (malformed_head set 1)
+  pub lead_at_end : (b c : ℕ) → is_lead_surrogate (code_unit big b c) ≡ true
+      → Holds b (c ∷ []) (malformed_head set 1)
+  pub lead_and_byte : (b c d : ℕ) → is_lead_surrogate (code_unit big b c) ≡ true
+      → Holds b (c ∷ d ∷ []) (malformed_head set 2)
+  pub pair : (b c d e : ℕ) (z : List ℕ) → is_lead_surrogate (code_unit big b c) ≡ true
+      → is_trail_surrogate (code_unit big d e) ≡ true
+      → Holds b (c ∷ d ∷ e ∷ z)
+      (character_head set 3 (pair_scalar (code_unit big b c) (code_unit big d e)))
+  pub lead_alone : (b c d e : ℕ) (z : List ℕ) → is_lead_surrogate (code_unit big b c) ≡ true
+      → is_trail_surrogate (code_unit big d e) ≡ false
+      → Holds b (c ∷ d ∷ e ∷ z) (malformed_head set 1)
 
-pub either_head : (P : Head → Type 0) (t : Bool) (x y : Head) → P x → P y → P (cond t x y)
-either_head P true x y p q = p
-either_head P false x y p q = q
+module _ {big : Bool} {set : ℕ} {Holds : ℕ → List ℕ → Head → Type 0}
+    (each : HoldsOfEachForm big set Holds) where
+  holds_by : (b : ℕ) (z : List ℕ) {h : Head} → utf_16_rule big set b z ≡ h → Holds b z h
+      → Holds b z (utf_16_rule big set b z)
+  holds_by b z is_head holds = subst (Holds b z) (sym is_head) holds
 
-lead_has_form : (big : Bool) (set lead c : ℕ) (z : List ℕ)
-    → HasForm (c ∷ z) (lead_surrogate_head big set lead z)
-lead_has_form big set lead c [] = (omega arith, (0xFFFD, refl))
-lead_has_form big set lead c (d ∷ []) = (omega arith, (0xFFFD, refl))
-lead_has_form big set lead c (d ∷ e ∷ z) =
-    let next_unit = code_unit big d e in
-    either_head (HasForm (c ∷ d ∷ e ∷ z)) (is_trail_surrogate next_unit) _ _
-    (omega arith, (pair_scalar lead next_unit, refl)) (omega arith, (0xFFFD, refl))
+  lead_holds : (b c : ℕ) (z : List ℕ) → is_lead_surrogate (code_unit big b c) ≡ true
+      → Holds b (c ∷ z) (utf_16_rule big set b (c ∷ z))
+  lead_holds b c [] leads =
+      holds_by b (c ∷ []) (lead_at_end big set b c leads) (each.lead_at_end b c leads)
+  lead_holds b c (d ∷ []) leads =
+      holds_by b (c ∷ d ∷ []) (lead_and_byte big set b c d leads) (each.lead_and_byte b c d leads)
+  lead_holds b c (d ∷ e ∷ z) leads = elim (true_or_false (is_trail_surrogate (code_unit big d e))) [
+    | inl trails ↦ holds_by b (c ∷ d ∷ e ∷ z) (pair_first big set b c d e z leads trails)
+        (each.pair b c d e z leads trails)
+    | inr other ↦ holds_by b (c ∷ d ∷ e ∷ z) (lead_alone big set b c d e z leads other)
+        (each.lead_alone b c d e z leads other)
+  ]
+
+  pub holds_of_first : (b : ℕ) (z : List ℕ) → Holds b z (utf_16_rule big set b z)
+  holds_of_first b [] = holds_by b [] (one_head big set b) (each.one_byte b)
+  holds_of_first b (c ∷ z) = elim (true_or_false (is_lead_surrogate (code_unit big b c))) [
+    | inl leads ↦ lead_holds b c z leads
+    | inr no_lead ↦ elim (true_or_false (is_trail_surrogate (code_unit big b c))) [
+      | inl trails ↦ holds_by b (c ∷ z) (trail_first big set b c z no_lead trails)
+          (each.trail b c z no_lead trails)
+      | inr alone ↦ holds_by b (c ∷ z) (character_first big set b c z no_lead alone)
+          (each.character b c z no_lead alone)
+    ]
+  ]
+
+-- The first sequence is within the bytes that are there, and has one character. It has one byte
+-- only at the end.
+pub record HasForm (z : List ℕ) (h : Head) : Type 0 where
+  pub within : h.more ≤ length z
+  pub character : ℕ
+  pub text : h.text ≡ character ∷ []
+  pub some_more : 0 < length z → 0 < h.more
+
+malformed_form : (set more : ℕ) (z : List ℕ) → more ≤ length z → (0 < length z → 0 < more)
+    → HasForm z (malformed_head set more)
+malformed_form set more z within some_more =
+    record { within = within; character = 0xFFFD; text = refl; some_more = some_more }
+
+character_form : (set more character : ℕ) (z : List ℕ) → more ≤ length z → 0 < more
+    → HasForm z (character_head set more character)
+character_form set more character z within some_more =
+    record { within = within; character = character; text = refl; some_more = λ _. some_more }
 
 pub has_form : (big : Bool) (set b : ℕ) (z : List ℕ) → HasForm z (utf_16_rule big set b z)
-unfolding utf_16_rule
-has_form big set b [] = (omega arith, (0xFFFD, refl))
-has_form big set b (c ∷ z) =
-    let first_unit = code_unit big b c in
-    either_head (HasForm (c ∷ z)) (is_lead_surrogate first_unit) _ _
-    (lead_has_form big set first_unit c z)
-    (either_head (HasForm (c ∷ z)) (is_trail_surrogate first_unit) _ _
-    (omega arith, (0xFFFD, refl)) (omega arith, (first_unit, refl)))
+has_form big set = holds_of_first {Holds = λ _ z h. HasForm z h} (record {
+  one_byte = λ b. malformed_form set 0 [] (omega arith) (λ some. some);
+  character = λ b c z _ _.
+      character_form set 1 (code_unit big b c) (c ∷ z) (omega arith) (omega arith);
+  trail = λ b c z _ _. malformed_form set 1 (c ∷ z) (omega arith) (λ _. omega arith);
+  lead_at_end = λ b c _. malformed_form set 1 (c ∷ []) (omega arith) (λ _. omega arith);
+  lead_and_byte = λ b c d _. malformed_form set 2 (c ∷ d ∷ []) (omega arith) (λ _. omega arith);
+  pair = λ b c d e z _ _.
+      character_form set 3 (pair_scalar (code_unit big b c) (code_unit big d e)) (c ∷ d ∷ e ∷ z)
+      (omega arith) (omega arith);
+  lead_alone = λ b c d e z _ _.
+      malformed_form set 1 (c ∷ d ∷ e ∷ z) (omega arith) (λ _. omega arith);
+})

@@ -3,7 +3,7 @@ use Rattle.std.proofs.Common.{◌≡◌, ℕ, ◌+◌, ◌-◌, ◌*◌, ◌<◌
 use Rattle.std.proofs.Common.{◌∷◌, length, take, drop, refl, ap, sym, subst, arith, inl, inr}
 use Rattle.std.proofs.lemmas.Bool.{cond-false}
 use Rattle.std.proofs.lemmas.Bool.Decides.{nat_tests}
-use Rattle.std.proofs.lemmas.List.{length-append, take-append-drop}
+use Rattle.std.proofs.lemmas.List.{length-append, length-take-le, take-append-drop}
 use Rattle.std.proofs.lemmas.Str.{length-encode, len_utf8_bounds}
 use Rattle.std.specs.Char.{encode_utf8, len_utf8}
 use Rattle.std.specs.Char.Escape.{encode_utf16}
@@ -22,41 +22,14 @@ use Rattle.enc_decoder.proofs.EnoughLemmas.{utf_8_bounded, utf_16_bounded, basic
 use Rattle.enc_decoder_utf.specs.Utf8.{sequence_len, is_second_byte, is_continuation, continuations, continuing_len}
 use Rattle.enc_decoder_utf.specs.Utf8.{well_formed_tail_len, scalar_of, utf_8_rule}
 use Rattle.enc_decoder_utf.proofs.Utf8Rule.{utf_8_is_lawful}
-use Rattle.enc_decoder_utf.proofs.Utf8Lemmas.{well_formed_tail_len-end, well_formed_tail_len-no_second}
+use Rattle.enc_decoder_utf.proofs.Utf8Lemmas.{well_formed_tail_len-within, well_formed_tail_len-end}
+use Rattle.enc_decoder_utf.proofs.Utf8Lemmas.{well_formed_tail_len-no_second}
 use Rattle.enc_decoder_utf.proofs.Utf8Lemmas.{well_formed_tail_len-second, two_range, three_range, continuation_range}
 use Rattle.enc_decoder_utf.proofs.Utf8Lemmas.{second_range}
 
--- how far bytes reach at most
-
-continuations-within : (n : ℕ) (z : List ℕ) → continuations n z ≤ length z
-continuations-within zero z = omega arith
-continuations-within (suc n) [] = omega arith
-continuations-within (suc n) (c ∷ z) = by_test (is_continuation c) (continuations-within n z)
-  where
-    by_test : (t : Bool) → continuations n z ≤ length z
-        → cond t (suc (continuations n z)) 0 ≤ suc (length z)
-    by_test true h = omega (arith, h)
-    by_test false h = omega arith
-
-continuing_len-within : (b n : ℕ) (z : List ℕ) → continuing_len b n z ≤ length z
-continuing_len-within b zero z = omega arith
-continuing_len-within b (suc n) [] = omega arith
-continuing_len-within b (suc n) (c ∷ z) = by_test (is_second_byte b c) (continuations-within n z)
-  where
-    by_test : (t : Bool) → continuations n z ≤ length z
-        → cond t (suc (continuations n z)) 0 ≤ suc (length z)
-    by_test true h = omega (arith, h)
-    by_test false h = omega arith
-
-taken : (n : ℕ) (z : List ℕ) → n ≤ length z → length (take n z) ≡ n
-taken zero z h = refl
-taken (suc n) [] h = absurd (omega arith)
-taken (suc n) (c ∷ z) h = ap suc (taken n z (omega (arith, h)))
-
 reach_taken : (b : ℕ) (z : List ℕ)
     → length (take (well_formed_tail_len b z) z) ≡ well_formed_tail_len b z
-reach_taken b z = taken (well_formed_tail_len b z) z
-    (continuing_len-within b (sequence_len b - 1) z)
+reach_taken b z = length-take-le (well_formed_tail_len b z) z (well_formed_tail_len-within b z)
 
 -- by whether a whole sequence stands there
 either_head : (P : Head → Type 0) (t : Bool) (x y : Head) → (t ≡ true → P x) → (t ≡ false → P y)

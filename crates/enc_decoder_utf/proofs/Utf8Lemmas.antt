@@ -1,7 +1,8 @@
 -- The sequences of UTF-8, by the bytes in front, and the scalar values of those that are
 -- well-formed.
-use Rattle.std.proofs.Common.{◌≡◌, ℕ, ◌+◌, ◌-◌, ◌<◌, ◌≤◌, zero, suc, true, false, List, [], ◌∷◌, take, drop, refl, ap}
-use Rattle.std.proofs.Common.{◌∙◌, eqb, ◌⊎◌, arith, inl, inr}
+use Rattle.std.proofs.Common.{◌≡◌, ℕ, ◌+◌, ◌-◌, ◌<◌, ◌≤◌, zero, suc, true, false, List, [], ◌∷◌, length, take, drop, refl}
+use Rattle.std.proofs.Common.{ap, ◌∙◌, eqb, ◌⊎◌, arith, inl, inr}
+use Rattle.enc_decoder.proofs.FirstSequenceLemmas.{true_or_false}
 use Rattle.std.proofs.lemmas.Bool.Decides.{nat_tests, leb_tells}
 use Rattle.std.specs.Char.{InScalarRange}
 use Rattle.enc_decoder.specs.declared.byte_codec.Kind.TheVariants.{Valid, Malformed}
@@ -115,6 +116,29 @@ continuations-none (suc n) c z e = rw e refl
 pub continuations-end : (n : ℕ) → continuations n [] ≡ 0
 continuations-end zero = refl
 continuations-end (suc n) = refl
+
+-- they reach no further than they are there and wanted
+
+pub continuations-within : (n : ℕ) (z : List ℕ) → (continuations n z ≤ n)
+    × (continuations n z ≤ length z)
+continuations-within zero z = (omega arith, omega arith)
+continuations-within (suc n) [] = (omega arith, omega arith)
+continuations-within (suc n) (c ∷ z) = elim (true_or_false (is_continuation c)) [
+  | inl t ↦ rw t (let rest_within = continuations-within n z in (omega arith, omega arith))
+  | inr f ↦ rw f (omega arith, omega arith)
+]
+
+pub continuing_len-within : (b n : ℕ) (z : List ℕ) → (continuing_len b n z ≤ n)
+    × (continuing_len b n z ≤ length z)
+continuing_len-within b zero z = (omega arith, omega arith)
+continuing_len-within b (suc n) [] = (omega arith, omega arith)
+continuing_len-within b (suc n) (c ∷ z) = elim (true_or_false (is_second_byte b c)) [
+  | inl t ↦ rw t (let rest_within = continuations-within n z in (omega arith, omega arith))
+  | inr f ↦ rw f (omega arith, omega arith)
+]
+
+pub well_formed_tail_len-within : (b : ℕ) (z : List ℕ) → well_formed_tail_len b z ≤ length z
+well_formed_tail_len-within b z = (continuing_len-within b (sequence_len b - 1) z).1
 
 -- the first sequence of a byte that begins none, or that is a character by itself
 

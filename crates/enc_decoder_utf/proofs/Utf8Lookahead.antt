@@ -10,7 +10,7 @@ use Rattle.enc_decoder.specs.RuleLaws.{IsDeterminedWithin, IsDeterminedByEnd, Ha
 use Rattle.enc_decoder_utf.specs.Utf8.{sequence_len, is_second_byte, is_continuation, continuations, continuing_len}
 use Rattle.enc_decoder_utf.specs.Utf8.{well_formed_tail_len, second_byte_min, scalar_of, utf_8_rule}
 use Rattle.enc_decoder.proofs.FirstSequenceLemmas.{true_or_false, looks_by, IsDeterminedSoon, lookahead_by}
-use Rattle.enc_decoder_utf.proofs.Utf8Lemmas.{continuations-end}
+use Rattle.enc_decoder_utf.proofs.Utf8Lemmas.{continuations-end, continuing_len-within}
 
 -- The byte after them shows how far the bytes reach, or that no more are wanted.
 
@@ -42,26 +42,6 @@ continuing_len-determined b (suc n) (suc k) (c ∷ z) y l enough =
           (λ q. let no_more_wanted = (rw goes_on at enough) (omega arith) in omega arith)))
       | inr f ↦ rw f refl
     ]
-
--- They reach no further than they are there and wanted.
-
-continuations-within : (n : ℕ) (z : List ℕ) → (continuations n z ≤ n)
-    × (continuations n z ≤ length z)
-continuations-within zero z = (omega arith, omega arith)
-continuations-within (suc n) [] = (omega arith, omega arith)
-continuations-within (suc n) (c ∷ z) = elim (true_or_false (is_continuation c)) [
-  | inl t ↦ rw t (let rest_within = continuations-within n z in (omega arith, omega arith))
-  | inr f ↦ rw f (omega arith, omega arith)
-]
-
-continuing_len-within : (b n : ℕ) (z : List ℕ) → (continuing_len b n z ≤ n)
-    × (continuing_len b n z ≤ length z)
-continuing_len-within b zero z = (omega arith, omega arith)
-continuing_len-within b (suc n) [] = (omega arith, omega arith)
-continuing_len-within b (suc n) (c ∷ z) = elim (true_or_false (is_second_byte b c)) [
-  | inl t ↦ rw t (let rest_within = continuations-within n z in (omega arith, omega arith))
-  | inr f ↦ rw f (omega arith, omega arith)
-]
 
 -- Where all bytes go on and more are wanted, a byte goes on with them.
 

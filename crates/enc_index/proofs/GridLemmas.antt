@@ -18,10 +18,6 @@ module _ (shape : Shape) where
   unfolding grid_char
   grid_char-of_ascii b l = cond-true _ _ _ (lt-ltb b 128 l)
 
-  pub grid_char-of_byte : (b : ℕ) → 128 ≤ b → b < 256 → grid_char shape b ≡ None
-  unfolding grid_char
-  grid_char-of_byte b l h = cond-false _ _ _ (le-ltb b 128 l) ∙ cond-true _ _ _ (lt-ltb b 256 h)
-
   grid_char-of_cell : (cell place : ℕ) → place ≡ 256 + cell
       → grid_char shape place ≡ cell_char shape cell
   unfolding grid_char

@@ -1,4 +1,5 @@
 mod Computing
+pub mod ByteEntries
 pub mod GridEntries
 pub mod GridLemmas
 pub mod PlaceLemmas

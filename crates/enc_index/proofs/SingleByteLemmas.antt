@@ -16,7 +16,7 @@ use Rattle.enc_index.specs.SingleByteTables.{table_number}
 use Rattle.enc_index.proofs.GridEntries.{grid_tests, is_word, is_unit, word_found, unit_found}
 use Rattle.enc_index.proofs.GridTests.{after_drop, rows_ok-at, entry_ok, byte_ok, places_ok, places_ok-byte}
 use Rattle.enc_index.proofs.GridTests.{places_ok-rows, Found, byte_ok-found, entry_ok-found}
-use Rattle.enc_index.proofs.TableLemmas.{table_ok, table_ok-true}
+use Rattle.enc_index.proofs.TableLemmas.{agrees, agrees-true}
 use Rattle.enc_index.proofs.Computing.{tests}
 
 abbrev pub table_of : SingleByteIndex → List ℕ
@@ -27,32 +27,27 @@ table_of index = slice_range SINGLE_BYTE_TABLE (table_number index * 128)
 abbrev pub bytes_of : ℕ → List ℕ → List ℕ
 bytes_of n entries = slice_range entries (n * 256) (n * 256 + 256)
 
-runs_ok : SingleByteIndex → Bool
-runs_ok index = are_ascending_runs 0 (single_byte_runs index)
-    && table_ok 0 (single_byte_runs index) (table_of index)
-
 -- the entries of 256 bytes fit: ASCII, and then the table
 abbrev pub bytes_ok : (ℕ → ℕ → Bool) → SingleByteIndex → List ℕ → Bool
 bytes_ok kind index gs = places_ok kind Basic 128 (table_of index) gs 128 0
 
 tables_ok : SingleByteIndex → Bool
-tables_ok index = runs_ok index
+tables_ok index = agrees (single_byte_runs index) (table_of index)
     && (bytes_ok is_word index (bytes_of (table_number index) SINGLE_BYTE_WORDS)
     && bytes_ok is_unit index (bytes_of (table_number index) SINGLE_BYTE_UNITS))
 
 all_tables : (index : SingleByteIndex) → tables_ok index ≡ true
-unfolding tests grid_tests runs_ok tables_ok
+unfolding tests grid_tests tables_ok
 all_tables Ibm866 = refl
 all_tables _ = refl
 
 pub single_byte_table : (index : SingleByteIndex) (p : ℕ)
     → entry_character Basic (get_or (table_of index) p 0)
     ≡ index_at Basic (single_byte_runs index) p
-unfolding runs_ok tables_ok
+unfolding tables_ok
 single_byte_table index p =
-    let parts = and_parts (are_ascending_runs 0 (single_byte_runs index))
-    (table_ok 0 (single_byte_runs index) (table_of index)) (and_parts _ _ (all_tables index)).0 in
-    table_ok-true Basic (single_byte_runs index) (table_of index) parts.0 parts.1 p
+    agrees-true Basic (single_byte_runs index) (table_of index) (and_parts _ _ (all_tables index)).0
+    p
 
 -- the entry of a byte, where the 256 of its index fit
 module _ (kind : ℕ → ℕ → Bool) (index : SingleByteIndex) (gs : List ℕ)

@@ -21,6 +21,10 @@ table_ok p (r ∷ rs) (t ∷ ts) =
     let inner = cond (nat_lt p r.1) within ends in
     cond (nat_lt p r.0) before inner
 
+-- the runs ascend, and the table has their characters
+abbrev pub agrees : List Run → List ℕ → Bool
+agrees runs table = are_ascending_runs 0 runs && table_ok 0 runs table
+
 -- the first run ends at p or after it, and the others come after it
 abbrev Going : ℕ → List Run → Type 0
 Going p [] = Unit {0}
@@ -143,11 +147,11 @@ module _ (planes : Planes) where
       ]
 
   -- a table that passes has the characters of the runs
-  pub table_ok-true : (runs : List Run) (table : List ℕ) → are_ascending_runs 0 runs ≡ true
-      → table_ok 0 runs table ≡ true
+  pub agrees-true : (runs : List Run) (table : List ℕ) → agrees runs table ≡ true
       → (p : ℕ) → entry_character planes (get_or table p 0) ≡ index_at planes runs p
-  table_ok-true runs table up ok p =
-      entry_character-index_at table 0 runs (ascending-going 0 runs up) ok p
+  agrees-true runs table ok p =
+      let parts = and_parts (are_ascending_runs 0 runs) (table_ok 0 runs table) ok in
+      entry_character-index_at table 0 runs (ascending-going 0 runs parts.0) parts.1 p
       ∙ ap (index_at planes runs) (omega arith)
 
 -- past the end of a table no pointer has a character

@@ -2,7 +2,7 @@
 
 ghost use Rattle.std.specs.Prelude.{◌≡◌, ◌<◌, Some};
 ghost use Rattle.std.specs.Char.{IsScalar};
-ghost use Rattle.enc_index.specs.Grid.{Shape, HasNoMore, HasWord, pointer_char, grid_char};
+ghost use Rattle.enc_index.specs.Grid.{Shape, HasWord, pointer_char, grid_char};
 ghost use Rattle.enc_index.specs.Grid.{grid_len};
 
 /// A double-byte index (Encoding Standard 5), as a type: characters by pointer, and by place in a
@@ -42,8 +42,4 @@ pub trait DoubleByteIndex {
     fn unit(place: usize) -> u16
         requires { place < grid_len shape }
         ensures { 0 < result → (grid_char shape place ≡ Some result) × IsScalar result };
-
-    /// No pointer after those of the rows has a character. The call does nothing.
-    fn laws()
-        ensures { HasNoMore shape };
 }

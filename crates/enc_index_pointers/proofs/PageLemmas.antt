@@ -96,9 +96,13 @@ module _ (planes : Planes) (counts is_by_last : ℕ → Bool) (bound : ℕ) wher
       all_at (entry_ok k (plant (length pointers) k page_of) m (plant 0xFFFF m pointers)
       (length pointers)) 0 table
 
+  -- both tests
+  abbrev pub tables_ok : ℕ → ℕ → ℕ → List ℕ → List ℕ → List ℕ → Bool
+  tables_ok n m k table page_of pointers =
+      pages_ok n m k table page_of pointers && entries_ok m k table page_of pointers
+
   module _ (n m k : ℕ) (table page_of pointers : List ℕ)
-      (ok : pages_ok n m k table page_of pointers ≡ true)
-      (all : entries_ok m k table page_of pointers ≡ true) where
+      (ok : tables_ok n m k table page_of pointers ≡ true) where
     abbrev table_tree : Tree
     table_tree = plant 0 n table
 
@@ -131,7 +135,8 @@ module _ (planes : Planes) (counts is_by_last : ℕ → Bool) (bound : ℕ) wher
     parts : Parts
     unfolding pages_ok entries_ok
     parts =
-        let halves = and_parts _ _ ok in
+        let both = and_parts (pages_ok n m k table page_of pointers) _ ok in
+        let halves = and_parts _ _ both.0 in
         let sizes = and_parts _ _ halves.0 in
         let third = and_parts _ _ halves.1 in
         let fourth = and_parts _ _ third.1 in
@@ -143,7 +148,7 @@ module _ (planes : Planes) (counts is_by_last : ℕ → Bool) (bound : ℕ) wher
           low_bound = leb-true _ _ fourth.0;
           blank = fifth.0;
           pages = fifth.1;
-          entries = all;
+          entries = both.1;
         }
 
     in_tree-in_pages : (c : ℕ)

@@ -14,7 +14,7 @@ use Rattle.enc_index_pointers.specs.declared.pages.single_byte.TheConstants.{SIN
 use Rattle.enc_index_pointers.specs.declared.pages.single_byte_direct.TheConstants.{SINGLE_BYTE_DIRECT}
 use Rattle.enc_index_pointers.specs.Pages.{number_in_pages, pointer_in_pages}
 use Rattle.enc_index_pointers.specs.Pointers.{any_pointer, no_character, single_byte_pointer}
-use Rattle.enc_index_pointers.proofs.PageLemmas.{pages_ok, entries_ok, pointer_in_pages-pointer_of}
+use Rattle.enc_index_pointers.proofs.PageLemmas.{tables_ok, pointer_in_pages-pointer_of}
 use Rattle.enc_index_pointers.proofs.DirectLemmas.{direct_ok, last_byte, own_byte, paged_byte}
 use Rattle.enc_index_pointers.proofs.Computing.{tests}
 
@@ -26,51 +26,33 @@ page_of index = slice_range SINGLE_BYTE_PAGE_OF (table_number index * 1024)
 abbrev pub bytes_of : ℕ → List ℕ
 bytes_of n = slice_range SINGLE_BYTE_DIRECT (n * 0x800) (n * 0x800 + 0x800)
 
+abbrev pages_fit : SingleByteIndex → Bool
+pages_fit index =
+    tables_ok Basic any_pointer no_character 128 7 14 10 (table_of index) (page_of index)
+    SINGLE_BYTE_POINTERS
+
+abbrev bytes_fit : SingleByteIndex → Bool
+bytes_fit index =
+    direct_ok 14 10 (page_of index) SINGLE_BYTE_POINTERS (bytes_of (table_number index))
+
 pointers_ok : SingleByteIndex → Bool
-pointers_ok index =
-    pages_ok Basic any_pointer no_character 128 7 14 10 (table_of index) (page_of index)
-    SINGLE_BYTE_POINTERS
-    && (entries_ok Basic any_pointer no_character 128 14 10 (table_of index) (page_of index)
-    SINGLE_BYTE_POINTERS
-    && direct_ok 14 10 (page_of index) SINGLE_BYTE_POINTERS (bytes_of (table_number index)))
+pointers_ok index = pages_fit index && bytes_fit index
 
 all_pages : (index : SingleByteIndex) → pointers_ok index ≡ true
 unfolding tests pointers_ok
 all_pages Ibm866 = refl
 all_pages _ = refl
 
--- what the three tests say of an index
-record Parts (index : SingleByteIndex) : Type 0 where
-  pages : pages_ok Basic any_pointer no_character 128 7 14 10 (table_of index) (page_of index)
-      SINGLE_BYTE_POINTERS ≡ true
-  entries : entries_ok Basic any_pointer no_character 128 14 10 (table_of index) (page_of index)
-      SINGLE_BYTE_POINTERS ≡ true
-  direct : direct_ok 14 10 (page_of index) SINGLE_BYTE_POINTERS (bytes_of (table_number index))
-      ≡ true
-
-parts : (index : SingleByteIndex) → Parts index
+parts : (index : SingleByteIndex) → (pages_fit index ≡ true) × (bytes_fit index ≡ true)
 unfolding pointers_ok
-parts index =
-    let both = and_parts
-    (pages_ok Basic any_pointer no_character 128 7 14 10 (table_of index) (page_of index)
-    SINGLE_BYTE_POINTERS)
-    (entries_ok Basic any_pointer no_character 128 14 10 (table_of index) (page_of index)
-    SINGLE_BYTE_POINTERS
-    && direct_ok 14 10 (page_of index) SINGLE_BYTE_POINTERS (bytes_of (table_number index)))
-    (all_pages index) in
-    let rest = and_parts
-    (entries_ok Basic any_pointer no_character 128 14 10 (table_of index) (page_of index)
-    SINGLE_BYTE_POINTERS)
-    (direct_ok 14 10 (page_of index) SINGLE_BYTE_POINTERS (bytes_of (table_number index)))
-    both.1 in
-    record { pages = both.0; entries = rest.0; direct = rest.1 }
+parts index = and_parts (pages_fit index) (bytes_fit index) (all_pages index)
 
 pub single_byte_pages : (index : SingleByteIndex) (c : ℕ)
     → pointer_in_pages (page_of index) SINGLE_BYTE_POINTERS 128 c ≡ single_byte_pointer index c
 unfolding single_byte_pointer
 single_byte_pages index c =
     pointer_in_pages-pointer_of Basic any_pointer no_character 128 7 14 10 (table_of index)
-    (page_of index) SINGLE_BYTE_POINTERS (parts index).pages (parts index).entries
+    (page_of index) SINGLE_BYTE_POINTERS (parts index).0
     (λ p. index_at Basic (single_byte_runs index) p) (single_byte_table index) c
 
 -- the byte of a character, in the table of the index with the number n
@@ -78,7 +60,7 @@ module _ (index : SingleByteIndex) (n b c : ℕ) (is_number : n ≡ table_number
     (is_entry : b ≡ get_or (bytes_of n) c 0) where
   direct : direct_ok 14 10 (page_of index) SINGLE_BYTE_POINTERS (bytes_of n) ≡ true
   direct = subst (λ k. direct_ok 14 10 (page_of index) SINGLE_BYTE_POINTERS (bytes_of k) ≡ true)
-      (sym is_number) (parts index).direct
+      (sym is_number) (parts index).1
 
   some : 0 < b → 0 < get_or (bytes_of n) c 0
   some h = subst (λ x. 0 < x) is_entry h

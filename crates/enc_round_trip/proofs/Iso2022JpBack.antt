@@ -10,15 +10,15 @@ use Rattle.enc_index_pointers.specs.Pointers.{jis0208_pointer, any_pointer}
 use Rattle.enc_decoder.specs.Sequence.{sequence_text, any_malformed}
 use Rattle.enc_decoder.specs.Taking.{IsWholeChar}
 use Rattle.enc_decoder.proofs.FirstSequenceLemmas.{true_or_false}
-use Rattle.enc_decoder_iso_2022_jp.specs.declared.iso_2022_jp.CharacterSet.{CharacterSet as Read}
-use Rattle.enc_decoder_iso_2022_jp.specs.declared.iso_2022_jp.CharacterSet.TheVariants as read
-use Rattle.enc_decoder_iso_2022_jp.specs.declared.iso_2022_jp.Escape.{Escape}
-use Rattle.enc_decoder_iso_2022_jp.specs.declared.iso_2022_jp.Escape.TheVariants.{ToAscii, ToRoman, ToJis0208Of1983}
+use Rattle.enc_decoder_iso_2022_jp.specs.declared.character_set.CharacterSet.{CharacterSet as Read}
+use Rattle.enc_decoder_iso_2022_jp.specs.declared.character_set.CharacterSet.TheVariants as read
+use Rattle.enc_decoder_iso_2022_jp.specs.declared.escape.Escape.{Escape}
+use Rattle.enc_decoder_iso_2022_jp.specs.declared.escape.Escape.TheVariants.{ToAscii, ToRoman, ToJis0208Of1983}
 use Rattle.enc_decoder_iso_2022_jp.specs.Iso2022Jp.{set_number, designated_set, is_lead_byte, one_byte_char}
 use Rattle.enc_decoder_iso_2022_jp.specs.Iso2022Jp.{two_byte_char, iso_2022_jp_rule as jp_rule}
 use Rattle.enc_decoder_iso_2022_jp.specs.Iso2022JpState.{escape_bytes, escape_set}
 use Rattle.enc_decoder_iso_2022_jp.proofs.Iso2022JpLemmas.{skipped_escape}
-use Rattle.enc_decoder_iso_2022_jp.proofs.Iso2022JpRule.{other_front}
+use Rattle.enc_decoder_iso_2022_jp.proofs.EscapeLookahead.{other_front}
 use Rattle.enc_decoder_iso_2022_jp.proofs.Iso2022JpPieces.{alone_piece, pair_piece}
 use Rattle.enc_encoder.specs.declared.character_set.CharacterSet.{CharacterSet}
 use Rattle.enc_encoder.specs.declared.character_set.CharacterSet.TheVariants.{Ascii, Roman, Jis0208}

@@ -21,7 +21,7 @@ use Rattle.enc_decoder.specs.Taking.{IsWholeChar}
 use Rattle.enc_decoder.proofs.SegmentationLemmas.{sequences_of-nil}
 use Rattle.enc_decoder_utf.specs.Utf8.{utf_8_rule}
 use Rattle.enc_decoder_utf.proofs.Utf8Pieces.{utf8_piece}
-use Rattle.enc_decoder_iso_2022_jp.specs.declared.iso_2022_jp.CharacterSet.TheVariants.{Ascii}
+use Rattle.enc_decoder_iso_2022_jp.specs.declared.character_set.CharacterSet.TheVariants.{Ascii}
 use Rattle.enc_decoder_iso_2022_jp.specs.Iso2022Jp.{iso_2022_jp_rule, is_lead_byte, one_byte_char}
 use Rattle.enc_decoder_iso_2022_jp.proofs.Iso2022JpLemmas.{differs}
 use Rattle.enc_decoder_iso_2022_jp.proofs.Iso2022JpPieces.{alone_piece}

@@ -12,7 +12,7 @@ use Rattle.enc_decoder.specs.Lookahead.{CoverLookahead}
 use Rattle.enc_decoder.proofs.ByteLemmas.{bytes-drop}
 use Rattle.enc_decoder.proofs.LookaheadLemmas.{left_of, reach_after, determine_if_after, no_more_than, at_most_three}
 use Rattle.enc_decoder_single_byte.proofs.ReplacementLemmas.{determined_alone}
-use Rattle.enc_decoder_iso_2022_jp.proofs.Iso2022JpRule.{looks_after_skipped}
+use Rattle.enc_decoder_iso_2022_jp.proofs.SkippedEscapes.{looks_after_skipped}
 use Rattle.enc_stream.specs.declared.encoding.Encoding.{Encoding}
 use Rattle.enc_stream.specs.declared.bom.BomHandling.{BomHandling}
 use Rattle.enc_stream.specs.Encodings.{rule_of}

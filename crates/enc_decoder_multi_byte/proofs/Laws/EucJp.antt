@@ -13,7 +13,7 @@ use Rattle.enc_decoder_multi_byte.specs.EucJp.{euc_jp_triple_char, euc_jp_prefix
 use Rattle.enc_decoder_multi_byte.proofs.DoubleByteLemmas.{first_is_basic, ascii_is_basic, char_is_text, first_is_text}
 use Rattle.enc_decoder_multi_byte.proofs.DoubleByteLemmas.{first_alone}
 use Rattle.enc_decoder_multi_byte.proofs.DoubleByteLemmas.{first_malformed, trail_text, trail_malformed, trail_finished}
-use Rattle.enc_decoder_multi_byte.proofs.DoubleByteLemmas.{trail_can_be_malformed, unless_complete, unless_malformed}
+use Rattle.enc_decoder_multi_byte.proofs.DoubleByteLemmas.{malformed_with_ff, trail_can_be_malformed, unless_complete, unless_malformed}
 
 texts : (front : List ℕ) (text : Text) → euc_jp_prefix front ≡ Complete text → IsPairText text
 texts [] text complete = cc
@@ -62,20 +62,10 @@ pair_can_be_malformed a = no_more (a == 0x8F) _
 can_be_malformed : (front : List ℕ) → 0 < length front → euc_jp_prefix front ≡ Incomplete
     → CanBeMalformed euc_jp_prefix front
 can_be_malformed [] s e = absurd (omega arith)
-can_be_malformed (a ∷ []) s e = record {
-  byte = 0xFF;
-  is_byte = omega arith;
-  len = 2;
-  malformed = pair_can_be_malformed a;
-  other = λ f. omega arith;
-}
-can_be_malformed (a ∷ b ∷ []) s e = record {
-  byte = 0xFF;
-  is_byte = omega arith;
-  len = 3;
-  malformed = refl;
-  other = λ f. omega arith;
-}
+can_be_malformed (a ∷ []) s e =
+    malformed_with_ff euc_jp_prefix (a ∷ []) 2 (pair_can_be_malformed a) (λ same. omega arith)
+can_be_malformed (a ∷ b ∷ []) s e =
+    malformed_with_ff euc_jp_prefix (a ∷ b ∷ []) 3 refl (λ same. omega arith)
 can_be_malformed (a ∷ b ∷ c ∷ z) s e =
     absurd (trail_finished 2 c (text_of_char (euc_jp_triple_char b c)) e)
 

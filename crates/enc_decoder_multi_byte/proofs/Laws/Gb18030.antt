@@ -12,7 +12,7 @@ use Rattle.enc_decoder_multi_byte.specs.Gb18030.{is_gb18030_lead, is_digit, gb18
 use Rattle.enc_decoder_multi_byte.specs.Gb18030.{ranges_code_point, four_byte_pointer, four_byte_prefix, gb18030_prefix}
 use Rattle.enc_decoder_multi_byte.proofs.DoubleByteLemmas.{first_alone, first_is_basic, one_is_text, char_is_text}
 use Rattle.enc_decoder_multi_byte.proofs.DoubleByteLemmas.{first_is_text, first_malformed, trail_text, trail_malformed}
-use Rattle.enc_decoder_multi_byte.proofs.DoubleByteLemmas.{unless_complete, unless_malformed}
+use Rattle.enc_decoder_multi_byte.proofs.DoubleByteLemmas.{malformed_with_ff, unless_complete, unless_malformed}
 
 -- four bytes
 
@@ -78,32 +78,11 @@ can_be_malformed : (front : List ℕ) → 0 < length front → gb18030_prefix fr
     → CanBeMalformed gb18030_prefix front
 can_be_malformed [] s e = absurd (omega arith)
 can_be_malformed (a ∷ []) s e =
-    record {
-      byte = 0xFF;
-      is_byte = omega arith;
-      len = 2;
-      malformed = refl;
-      other = λ f.
-          omega arith;
-    }
+    malformed_with_ff gb18030_prefix (a ∷ []) 2 refl (λ same. omega arith)
 can_be_malformed (a ∷ b ∷ []) s e =
-    record {
-      byte = 0xFF;
-      is_byte = omega arith;
-      len = 1;
-      malformed = refl;
-      other = λ f.
-          omega arith;
-    }
+    malformed_with_ff gb18030_prefix (a ∷ b ∷ []) 1 refl (λ same. omega arith)
 can_be_malformed (a ∷ b ∷ c ∷ []) s e =
-    record {
-      byte = 0xFF;
-      is_byte = omega arith;
-      len = 1;
-      malformed = refl;
-      other = λ f.
-          omega arith;
-    }
+    malformed_with_ff gb18030_prefix (a ∷ b ∷ c ∷ []) 1 refl (λ same. omega arith)
 can_be_malformed (a ∷ b ∷ c ∷ d ∷ z) s e =
     absurd (four_finished (is_digit d) (ranges_code_point (four_byte_pointer a b c d)) e)
 

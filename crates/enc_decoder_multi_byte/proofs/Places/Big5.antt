@@ -6,14 +6,15 @@ use Rattle.std.proofs.lemmas.Bool.{cond-true, cond-false, ne_eqb}
 use Rattle.std.proofs.lemmas.Bool.Decides.{nat_tests}
 use Rattle.enc_decoder.specs.declared.byte_codec.Text.TheVariants.{One}
 use Rattle.enc_index.specs.DoubleByteIndexes.{big5_shape}
-use Rattle.enc_index.specs.Grid.{HasNoMore, IsPlaceOf}
+use Rattle.enc_index.specs.Grid.{IsPlaceOf}
 use Rattle.enc_index.specs.Runs.{runs_of, big5_at}
+use Rattle.enc_index.proofs.Tables.Big5.{has_no_more}
 use Rattle.enc_index.proofs.PlaceLemmas.{pair_place, some_none}
 use Rattle.enc_units.specs.Places.{number_in}
 use Rattle.enc_decoder_multi_byte.specs.DoubleByte.{text_of_char, IsLeadPair}
 use Rattle.enc_decoder_multi_byte.specs.Big5.{is_big5_lead, is_big5_trail, big5_pair_pointer, big5_pointer_text}
 use Rattle.enc_decoder_multi_byte.specs.Big5.{big5_pair_text}
-use Rattle.enc_decoder_multi_byte.proofs.PlaceNumbers.{lead_row, few_leads}
+use Rattle.enc_decoder_multi_byte.proofs.PlaceNumbers.{range_number, number_below}
 
 abbrev big5_number : ℕ → ℕ
 big5_number b = b - cond (nat_lt b 0x7F) 0x40 0x62
@@ -38,14 +39,14 @@ big5_one p c has_char =
     ∙ cond-false _ _ _ (apart 1164 p c refl has_char)
     ∙ cond-false _ _ _ (apart 1166 p c refl has_char) ∙ ap text_of_char has_char
 
-pub place : HasNoMore big5_shape → (a b : ℕ) {row column place : ℕ}
+pub place : (a b : ℕ) {row column place : ℕ}
     → row ≡ number_in 0x81 0xFE 0 a 126
     → column ≡ number_in 0x40 0x7E 0 b (number_in 0xA1 0xFE 63 b 157)
     → place ≡ 256 + row * 158 + column
     → IsPlaceOf big5_shape (IsLeadPair is_big5_lead big5_pair_text a b) place
-place no_more a b r k p =
-    pair_place big5_shape no_more (is_big5_lead a) (is_big5_trail b) (a - 0x81) (big5_number b)
-    (r ∙ lead_row a) (k ∙ big5_column b) p (few_leads a) (big5_small b)
+place a b r k p =
+    pair_place big5_shape has_no_more (is_big5_lead a) (is_big5_trail b) (a - 0x81) (big5_number b)
+    (r ∙ range_number 0x81 0xFE a 126) (k ∙ big5_column b) p (number_below 0x81 0xFE 126 a (omega arith)) (big5_small b)
     (λ c lead trail has. (
       lead,
       cond-true (is_big5_trail b) (big5_pointer_text (big5_pair_pointer a b)) None trail

@@ -4,26 +4,16 @@ use Rattle.std.proofs.Common.{◌≡◌, ◌∙◌, ℕ, ◌+◌, ◌-◌, ◌*�
 use Rattle.std.proofs.lemmas.Bool.{cond-true, cond-false}
 use Rattle.std.proofs.lemmas.Bool.Decides.{nat_tests}
 use Rattle.enc_index.specs.DoubleByteIndexes.{jis0208_shape}
-use Rattle.enc_index.specs.Grid.{HasNoMore, IsPlaceOf}
+use Rattle.enc_index.specs.Grid.{IsPlaceOf}
 use Rattle.enc_index.specs.Runs.{jis0208_at}
+use Rattle.enc_index.proofs.Tables.Jis0208.{has_no_more}
 use Rattle.enc_index.proofs.PlaceLemmas.{pair_place}
 use Rattle.enc_units.specs.Places.{number_in}
 use Rattle.enc_decoder_multi_byte.specs.DoubleByte.{text_of_char, trail_prefix, first_prefix}
 use Rattle.enc_decoder_multi_byte.specs.MultiByte.{IsCharPair}
 use Rattle.enc_decoder_multi_byte.specs.EucJp.{is_euc_byte, euc_pair_pointer, is_euc_jp_lead, euc_jp_single_char}
 use Rattle.enc_decoder_multi_byte.specs.EucJp.{euc_jp_pair_char, euc_jp_prefix}
-
-euc_jp_row : (a : ℕ) → number_in 0xA1 0xFE 0 a 120 ≡ cond (is_euc_byte a) (a - 0xA1) 120
-euc_jp_row a = grind (arith, nat_tests)
-
-euc_jp_column : (b : ℕ) → number_in 0xA1 0xFE 0 b 94 ≡ cond (is_euc_byte b) (b - 0xA1) 94
-euc_jp_column b = grind (arith, nat_tests)
-
-euc_jp_few : (a : ℕ) → is_euc_byte a ≡ true → a - 0xA1 < 120
-euc_jp_few a t = grind (arith, nat_tests)
-
-euc_jp_small : (b : ℕ) → is_euc_byte b ≡ true → b - 0xA1 < 94
-euc_jp_small b t = grind (arith, nat_tests)
+use Rattle.enc_decoder_multi_byte.proofs.PlaceNumbers.{range_number, number_below}
 
 leads : (a : ℕ) → is_euc_byte a ≡ true → is_euc_jp_lead a ≡ true
 leads a t = grind (arith, nat_tests)
@@ -47,11 +37,13 @@ euc_jp_pair a b c lead trail has =
           ∙ ap (λ x. trail_prefix 1 b (text_of_char x)) char;
     }
 
-pub place : HasNoMore jis0208_shape → (a b : ℕ) {row column place : ℕ}
+pub place : (a b : ℕ) {row column place : ℕ}
     → row ≡ number_in 0xA1 0xFE 0 a 120
     → column ≡ number_in 0xA1 0xFE 0 b 94
     → place ≡ 256 + row * 95 + column
     → IsPlaceOf jis0208_shape (IsCharPair euc_jp_prefix a b) place
-place no_more a b r k p =
-    pair_place jis0208_shape no_more (is_euc_byte a) (is_euc_byte b) (a - 0xA1) (b - 0xA1)
-    (r ∙ euc_jp_row a) (k ∙ euc_jp_column b) p (euc_jp_few a) (euc_jp_small b) (euc_jp_pair a b)
+place a b r k p =
+    pair_place jis0208_shape has_no_more (is_euc_byte a) (is_euc_byte b) (a - 0xA1) (b - 0xA1)
+    (r ∙ range_number 0xA1 0xFE a 120) (k ∙ range_number 0xA1 0xFE b 94) p
+    (number_below 0xA1 0xFE 120 a (omega arith)) (number_below 0xA1 0xFE 94 b (omega arith))
+    (euc_jp_pair a b)

@@ -4,15 +4,16 @@ use Rattle.std.proofs.Common.{◌≡◌, ◌∙◌, ℕ, ◌+◌, ◌-◌, ◌*�
 use Rattle.std.proofs.lemmas.Bool.{cond-true, cond-false}
 use Rattle.std.proofs.lemmas.Bool.Decides.{nat_tests}
 use Rattle.enc_index.specs.DoubleByteIndexes.{gb18030_shape}
-use Rattle.enc_index.specs.Grid.{HasNoMore, IsPlaceOf}
+use Rattle.enc_index.specs.Grid.{IsPlaceOf}
 use Rattle.enc_index.specs.Runs.{gb18030_at}
+use Rattle.enc_index.proofs.Tables.Gb18030.{has_no_more}
 use Rattle.enc_index.proofs.PlaceLemmas.{pair_place}
 use Rattle.enc_units.specs.Places.{number_in}
 use Rattle.enc_decoder_multi_byte.specs.DoubleByte.{text_of_char, trail_prefix, first_prefix}
 use Rattle.enc_decoder_multi_byte.specs.MultiByte.{IsCharPair}
 use Rattle.enc_decoder_multi_byte.specs.Gb18030.{is_gb18030_lead, is_gb18030_trail, gb18030_single_char}
 use Rattle.enc_decoder_multi_byte.specs.Gb18030.{gb18030_pair_pointer, gb18030_pair_char, gb18030_prefix, is_digit}
-use Rattle.enc_decoder_multi_byte.proofs.PlaceNumbers.{lead_row, few_leads, trail_number}
+use Rattle.enc_decoder_multi_byte.proofs.PlaceNumbers.{range_number, number_below, trail_number}
 
 gb18030_column : (b : ℕ)
     → number_in 0x40 0x7E 0 b (number_in 0x80 0xFE 63 b 190)
@@ -37,12 +38,12 @@ gb18030_pair a b c lead trail has =
           ∙ ap (λ x. trail_prefix 1 b (text_of_char x)) char;
     }
 
-pub place : HasNoMore gb18030_shape → (a b : ℕ) {row column place : ℕ}
+pub place : (a b : ℕ) {row column place : ℕ}
     → row ≡ number_in 0x81 0xFE 0 a 126
     → column ≡ number_in 0x40 0x7E 0 b (number_in 0x80 0xFE 63 b 190)
     → place ≡ 256 + row * 191 + column
     → IsPlaceOf gb18030_shape (IsCharPair gb18030_prefix a b) place
-place no_more a b r k p =
-    pair_place gb18030_shape no_more (is_gb18030_lead a) (is_gb18030_trail b) (a - 0x81)
-    (trail_number b) (r ∙ lead_row a) (k ∙ gb18030_column b) p (few_leads a)
+place a b r k p =
+    pair_place gb18030_shape has_no_more (is_gb18030_lead a) (is_gb18030_trail b) (a - 0x81)
+    (trail_number b) (r ∙ range_number 0x81 0xFE a 126) (k ∙ gb18030_column b) p (number_below 0x81 0xFE 126 a (omega arith))
     (gb18030_small b) (gb18030_pair a b)

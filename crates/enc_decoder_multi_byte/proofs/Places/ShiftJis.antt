@@ -5,8 +5,9 @@ use Rattle.std.proofs.Common.{nat_le, nat_lt, None, ap, arith}
 use Rattle.std.proofs.lemmas.Bool.{cond-true, cond-false}
 use Rattle.std.proofs.lemmas.Bool.Decides.{nat_tests}
 use Rattle.enc_index.specs.DoubleByteIndexes.{jis0208_shape}
-use Rattle.enc_index.specs.Grid.{HasNoMore, IsPlaceOf}
+use Rattle.enc_index.specs.Grid.{IsPlaceOf}
 use Rattle.enc_index.specs.Runs.{jis0208_at}
+use Rattle.enc_index.proofs.Tables.Jis0208.{has_no_more}
 use Rattle.enc_index.proofs.PlaceLemmas.{Stands, below, place_at}
 use Rattle.enc_units.specs.Places.{number_in}
 use Rattle.enc_decoder_multi_byte.specs.DoubleByte.{text_of_char, IsLeadPair}
@@ -73,14 +74,14 @@ shift_jis_pair a b c row row_is at =
           ∙ cond-false _ _ _ (not_private a b lead trail) ∙ ap jis0208_at same ∙ at.is),
     )
 
-pub place : HasNoMore jis0208_shape → (a b : ℕ) {row column place : ℕ}
+pub place : (a b : ℕ) {row column place : ℕ}
     → row ≡ number_in 0x81 0x9F 0 a (number_in 0xE0 0xEF 31 a (number_in 0xFA 0xFC 57 a 60))
     → column ≡ number_in 0x40 0x7E 0 b (number_in 0x80 0x9E 63 b (number_in 0x9F 0xFC 95 b 94))
     → place ≡ 256 + row * 190 + column
     → IsPlaceOf jis0208_shape (IsLeadPair is_shift_jis_lead shift_jis_pair_text a b) place
-place no_more a b {row} {column} r k p =
+place a b {row} {column} r k p =
     let row_is : row ≡ cond (has_rows a) (lead_number a) 60 = r ∙ shift_jis_row a in
     let column_is : column ≡ second_row b * 95 + column_in_row b = k ∙ shift_jis_column b in
-    place_at jis0208_shape no_more (row * 2 + second_row b) (column_in_row b)
+    place_at jis0208_shape has_no_more (row * 2 + second_row b) (column_in_row b)
     (omega (arith, p)) (omega (arith, shift_jis_few a b)) (shift_jis_small b)
     (λ c at. shift_jis_pair a b c row row_is at)

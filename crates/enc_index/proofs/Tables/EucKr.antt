@@ -11,23 +11,18 @@ use Rattle.enc_index.specs.DoubleByteIndexes.{euc_kr_shape}
 use Rattle.enc_index.specs.Grid.{HasNoMore, HasWord, grid_char}
 use Rattle.enc_index.specs.Index.{entry_character}
 use Rattle.enc_index.specs.Runs.{runs_of, euc_kr_at}
-use Rattle.enc_index.specs.Search.{are_ascending_runs}
 use Rattle.enc_index.proofs.Computing.{tests}
 use Rattle.enc_index.proofs.GridEntries.{grid_tests, is_word, is_unit, word_found, unit_found}
 use Rattle.enc_index.proofs.GridLemmas.{grid_ok, found}
 use Rattle.enc_index.proofs.TableLemmas.{entry_character-past}
-use Rattle.enc_index.proofs.TableLemmas.{table_ok, table_ok-true}
+use Rattle.enc_index.proofs.TableLemmas.{agrees, agrees-true}
 
-runs_ascend : are_ascending_runs 0 (runs_of EucKr) ≡ true
+table_agrees : agrees (runs_of EucKr) EUC_KR_TABLE ≡ true
 unfolding tests
-runs_ascend = refl
-
-table_fits : table_ok 0 (runs_of EucKr) EUC_KR_TABLE ≡ true
-unfolding tests
-table_fits = refl
+table_agrees = refl
 
 pub table : (p : ℕ) → entry_character Basic (get_or EUC_KR_TABLE p 0) ≡ euc_kr_at p
-table = table_ok-true Basic (runs_of EucKr) EUC_KR_TABLE runs_ascend table_fits
+table = agrees-true Basic (runs_of EucKr) EUC_KR_TABLE table_agrees
 
 pub has_no_more : HasNoMore euc_kr_shape
 has_no_more p past = entry_character-past Basic EUC_KR_TABLE _ p (table p) past

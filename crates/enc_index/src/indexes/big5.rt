@@ -31,7 +31,4 @@ impl DoubleByteIndex for Big5Index {
     fn unit(place: usize) -> u16 {
         BIG5_UNITS[place]
     }
-
-    #[tactic(auto, using(crate::proofs::Tables::Big5::has_no_more))]
-    fn laws() {}
 }

@@ -31,7 +31,4 @@ impl DoubleByteIndex for EucKrIndex {
     fn unit(place: usize) -> u16 {
         EUC_KR_UNITS[place]
     }
-
-    #[tactic(auto, using(crate::proofs::Tables::EucKr::has_no_more))]
-    fn laws() {}
 }

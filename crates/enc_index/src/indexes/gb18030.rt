@@ -31,7 +31,4 @@ impl DoubleByteIndex for Gb18030Index {
     fn unit(place: usize) -> u16 {
         GB18030_UNITS[place]
     }
-
-    #[tactic(auto, using(crate::proofs::Tables::Gb18030::has_no_more))]
-    fn laws() {}
 }

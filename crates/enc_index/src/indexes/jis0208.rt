@@ -31,7 +31,4 @@ impl DoubleByteIndex for Jis0208Index {
     fn unit(place: usize) -> u16 {
         JIS0208_UNITS[place]
     }
-
-    #[tactic(auto, using(crate::proofs::Tables::Jis0208::has_no_more))]
-    fn laws() {}
 }

@@ -3,7 +3,8 @@ use Rattle.std.specs.Prelude.{slice_index}
 use Rattle.std.proofs.lemmas.List.{length-drop}
 use Rattle.enc_decoder.specs.Sequence.{is_malformed}
 use Rattle.enc_decoder.specs.Segmentation.{Head}
-use Rattle.enc_decoder_utf.proofs.PlainLemmas.{whole_front, malformed_front, well_formed_tail_len-within}
+use Rattle.enc_decoder_utf.proofs.PlainLemmas.{whole_front, malformed_front}
+use Rattle.enc_decoder_utf.proofs.Utf8Lemmas.{well_formed_tail_len-within}
 use Rattle.enc_decoder_utf.proofs.plain.first_sequence.Goals as goal
 
 pub returns-then-more-sequence_len-clause-len : goal.returns-then-more-sequence_len-clause-len

@@ -7,7 +7,7 @@ use Rattle.enc_decoder_multi_byte.proofs.euc_kr.EucKrDoubleByte.pair_places.Goal
 
 pub returns : goal.returns
 returns c i l =
-    place c.laws.ensures (get_or c.args.first i 0) (get_or c.args.second i 0)
+    place (get_or c.args.first i 0) (get_or c.args.second i 0)
     (c.numbers_in-rows.ensures i l
     ∙ ap (number_in 0x81 0xFE 0 (get_or c.args.first i 0)) (get_or-replicate 16 i 126 0 l))
     (c.numbers_in-columns.ensures i l

@@ -12,21 +12,15 @@ returns-in-Complete-clause-shown g c =
     let one_longer = length-append front (c.in-Some.byte ∷ []) in
     let is_len = c.len-len.ensures in
     rw c.complete.ensures.is (
-      shows_pending g.E.MultiByte.prefix c.laws.ensures
-          (λ d. multi_byte_state g.E.MultiByte.prefix (bytes_of_pending d.pending))
-          c.args.self c.complete.result.next _ refl front c.in-Some.byte _
-          (c.loop-byte.invariant.0 ∙ ap (λ z. front ++ z)
-          (first_and_rest (bytes_of_pending c.loop-byte.rest) c.in-Some.byte
-          (sym c.first.ensures ∙ c.in-Some.is)))
+      shows_pending g.E.MultiByte.prefix c.laws.ensures (λ d. d.pending) c.args.self
+          c.complete.result.next front _ c.loop-byte.invariant.0 (sym c.first.ensures ∙ c.in-Some.is)
           c.loop-byte.invariant.1
           (settles_complete g.E.MultiByte.prefix (front ++ c.in-Some.byte ∷ []) c.in-Complete.text
           (omega (arith, one_longer)) (sym c.classify.ensures ∙ c.in-Complete.is))
-          (at_most_three c.args.self.pending) (omega (arith, one_longer, is_len))
-          (ap (λ p. multi_byte_state g.E.MultiByte.prefix (bytes_of_pending p))
-          c.complete.ensures.next
-          ∙ ap (multi_byte_state g.E.MultiByte.prefix)
-          (c.skip.ensures ∙ ap (λ i. drop i (bytes_of_pending c.args.self.pending))
-          (omega (arith, one_longer, is_len)))),
+          (omega (arith, one_longer, is_len))
+          (ap bytes_of_pending c.complete.ensures.next ∙ c.skip.ensures
+          ∙ ap (λ i. drop i (bytes_of_pending c.args.self.pending))
+          (omega (arith, one_longer, is_len))),
       refl,
     )
 
@@ -34,19 +28,13 @@ pub returns-in-Malformed-clause-shown : goal.returns-in-Malformed-clause-shown
 returns-in-Malformed-clause-shown g c =
     let front = bytes_of_pending c.loop-byte.front in
     rw c.malformed.ensures.is (
-      shows_pending g.E.MultiByte.prefix c.laws.ensures
-          (λ d. multi_byte_state g.E.MultiByte.prefix (bytes_of_pending d.pending))
-          c.args.self c.malformed.result.next _ refl front c.in-Some.byte _
-          (c.loop-byte.invariant.0 ∙ ap (λ z. front ++ z)
-          (first_and_rest (bytes_of_pending c.loop-byte.rest) c.in-Some.byte
-          (sym c.first.ensures ∙ c.in-Some.is)))
-          c.loop-byte.invariant.1
+      shows_pending g.E.MultiByte.prefix c.laws.ensures (λ d. d.pending) c.args.self
+          c.malformed.result.next front _ c.loop-byte.invariant.0
+          (sym c.first.ensures ∙ c.in-Some.is) c.loop-byte.invariant.1
           (settles_malformed g.E.MultiByte.prefix c.laws.ensures (front ++ c.in-Some.byte ∷ [])
           c.in-Malformed.len
           (sym c.classify.ensures ∙ c.in-Malformed.is))
-          (at_most_three c.args.self.pending) refl
-          (ap (λ p. multi_byte_state g.E.MultiByte.prefix (bytes_of_pending p))
-          c.malformed.ensures.next
-          ∙ ap (multi_byte_state g.E.MultiByte.prefix) c.skip-in-Malformed.ensures),
+          refl
+          (ap bytes_of_pending c.malformed.ensures.next ∙ c.skip-in-Malformed.ensures),
       refl,
     )

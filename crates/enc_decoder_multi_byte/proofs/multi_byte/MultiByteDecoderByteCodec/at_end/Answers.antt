@@ -7,9 +7,7 @@ use Rattle.enc_decoder_multi_byte.proofs.multi_byte.MultiByteDecoderByteCodec.at
 pub returns-in_default-pending : goal.returns-in_default-pending
 returns-in_default-pending g c =
     rw c.malformed.ensures.is
-    (left_over g.E.MultiByte.prefix c.laws.ensures
-    (λ d. multi_byte_state g.E.MultiByte.prefix (bytes_of_pending d.pending))
-    c.args.self c.malformed.result.next _ refl _ (c.in_default.ensures.incomplete refl)
-    (some_pending c.args.self.pending c.in_default-pending.not-Nothing)
-    (at_most_three c.args.self.pending) c.len.ensures
-    (ap (λ p. multi_byte_state g.E.MultiByte.prefix (bytes_of_pending p)) c.malformed.ensures.next))
+    (left_over g.E.MultiByte.prefix c.shown_first.ensures.lawful (λ d. d.pending) c.args.self
+    c.malformed.result.next _ (c.in_default.ensures.incomplete refl)
+    (some_pending c.args.self.pending c.in_default-pending.not-Nothing) c.len.ensures
+    (ap bytes_of_pending c.malformed.ensures.next))

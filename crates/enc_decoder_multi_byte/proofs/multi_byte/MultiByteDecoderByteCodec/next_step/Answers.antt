@@ -8,37 +8,30 @@ use Rattle.enc_decoder_multi_byte.proofs.multi_byte.MultiByteDecoderByteCodec.ne
 
 pub returns-in-Complete : goal.returns-in-Complete
 returns-in-Complete g c =
-    let one_longer = length-append (bytes_of_pending c.args.self.pending) (c.args.byte ∷ []) in
-    let len_is = c.len-len.ensures in
-    rw c.complete.ensures.is (shows_byte_with g.E.MultiByte.prefix c.laws.ensures
-    (λ d. multi_byte_state g.E.MultiByte.prefix (bytes_of_pending d.pending))
-    c.args.self c.complete.result.next _ refl c.args.byte (c.in_default.ensures.incomplete refl)
-    (settles_complete g.E.MultiByte.prefix
-    (bytes_of_pending c.args.self.pending ++ c.args.byte ∷ [])
-    c.in-Complete.text (omega (arith, one_longer))
-    (sym c.classify.ensures ∙ c.in-Complete.is))
-    (at_most_three c.args.self.pending) (omega (arith, one_longer))
-    (omega (arith, one_longer, len_is))
-    (ap (λ p. multi_byte_state g.E.MultiByte.prefix (bytes_of_pending p)) c.complete.ensures.next))
+    let pending = bytes_of_pending c.args.self.pending in
+    let one_longer = length-append pending (c.args.byte ∷ []) in
+    rw c.complete.ensures.is (shows_byte_with g.E.MultiByte.prefix c.shown_first.ensures.lawful
+    (λ d. d.pending) c.args.self c.complete.result.next c.args.byte
+    (c.in_default.ensures.incomplete refl)
+    (settles_complete g.E.MultiByte.prefix (pending ++ c.args.byte ∷ []) c.in-Complete.text
+    (omega (arith, one_longer)) (sym c.classify.ensures ∙ c.in-Complete.is))
+    (omega (arith, one_longer)) (omega (arith, one_longer, c.len-len.ensures))
+    (ap bytes_of_pending c.complete.ensures.next))
 
 pub returns-in-Malformed : goal.returns-in-Malformed
 returns-in-Malformed g c =
-    rw c.malformed.ensures.is (shows_byte g.E.MultiByte.prefix c.laws.ensures
-    (λ d. multi_byte_state g.E.MultiByte.prefix (bytes_of_pending d.pending))
-    c.args.self c.malformed.result.next _ refl c.args.byte _ (rw c.len.ensures refl)
+    let pending = bytes_of_pending c.args.self.pending in
+    rw c.malformed.ensures.is (shows_byte g.E.MultiByte.prefix c.shown_first.ensures.lawful
+    (λ d. d.pending) c.args.self c.malformed.result.next c.args.byte _ (rw c.len.ensures refl)
     (c.in_default.ensures.incomplete refl)
-    (settles_malformed g.E.MultiByte.prefix c.laws.ensures
-    (bytes_of_pending c.args.self.pending ++ c.args.byte ∷ []) c.in-Malformed.len
+    (settles_malformed g.E.MultiByte.prefix c.shown_first.ensures.lawful
+    (pending ++ c.args.byte ∷ []) c.in-Malformed.len
     (sym c.classify.ensures ∙ c.in-Malformed.is))
-    (at_most_three c.args.self.pending) refl
-    (ap (λ p. multi_byte_state g.E.MultiByte.prefix (bytes_of_pending p)) c.malformed.ensures.next
-    ∙ ap (multi_byte_state g.E.MultiByte.prefix) c.skip.ensures))
+    refl (ap bytes_of_pending c.malformed.ensures.next ∙ c.skip.ensures))
 
 pub returns-in-Incomplete : goal.returns-in-Incomplete
 returns-in-Incomplete g c =
-    waits g.E.MultiByte.prefix c.laws.ensures
-    (λ d. multi_byte_state g.E.MultiByte.prefix (bytes_of_pending d.pending))
-    c.args.self _ _ refl c.args.byte (c.in_default.ensures.incomplete refl)
+    waits g.E.MultiByte.prefix c.shown_first.ensures.lawful (λ d. d.pending) c.args.self _
+    c.args.byte (c.in_default.ensures.incomplete refl)
     (sym c.classify.ensures ∙ c.in-Incomplete.is)
-    (ap (multi_byte_state g.E.MultiByte.prefix)
-    (ap bytes_of_pending c.holding.ensures ∙ c.with.ensures))
+    (ap bytes_of_pending c.holding.ensures ∙ c.with.ensures)

@@ -6,6 +6,5 @@ use Rattle.enc_decoder_multi_byte.proofs.multi_byte.MultiByteDecoderByteCodec.re
 
 pub returns : goal.returns
 returns g c =
-    ready_by g.E.MultiByte.prefix c.laws.ensures
-    (λ d. multi_byte_state g.E.MultiByte.prefix (bytes_of_pending d.pending))
-    c.args.self c.args.self _ refl _ c.shown_first.ensures.shown c.shown_first.ensures.incomplete
+    ready_by g.E.MultiByte.prefix c.shown_first.ensures.lawful (λ d. d.pending) c.args.self
+    c.args.self _ c.shown_first.ensures.shown c.shown_first.ensures.incomplete

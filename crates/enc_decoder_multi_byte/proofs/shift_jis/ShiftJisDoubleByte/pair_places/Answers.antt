@@ -6,7 +6,7 @@ use Rattle.enc_decoder_multi_byte.proofs.shift_jis.ShiftJisDoubleByte.pair_place
 
 pub returns : goal.returns
 returns c i l =
-    place c.laws.ensures (get_or c.args.first i 0) (get_or c.args.second i 0)
+    place (get_or c.args.first i 0) (get_or c.args.second i 0)
     (c.numbers_in-rows.ensures i l
     ∙ ap (number_in 0x81 0x9F 0 (get_or c.args.first i 0)) (c.numbers_in-upper.ensures i l
     ∙ ap (number_in 0xE0 0xEF 31 (get_or c.args.first i 0)) (c.numbers_in-last.ensures i l

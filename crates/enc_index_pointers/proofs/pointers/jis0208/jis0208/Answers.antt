@@ -6,23 +6,18 @@ use Rattle.enc_index.specs.Runs.{jis0208_at}
 use Rattle.enc_index.proofs.Tables.Jis0208.{table}
 use Rattle.enc_index_pointers.specs.declared.pages.jis0208.TheConstants.{JIS0208_PAGE_OF, JIS0208_POINTERS}
 use Rattle.enc_index_pointers.specs.Pointers.{any_pointer, no_character, jis0208_pointer}
-use Rattle.enc_index_pointers.proofs.PageLemmas.{pages_ok, entries_ok, pointer_in_pages-pointer_of}
+use Rattle.enc_index_pointers.proofs.PageLemmas.{tables_ok, pointer_in_pages-pointer_of}
 use Rattle.enc_index_pointers.proofs.Computing.{tests}
 use Rattle.enc_index_pointers.proofs.pointers.jis0208.jis0208.Goals as goal
 
-pages_fit : pages_ok Basic any_pointer no_character 8836 14 15 10 jis0208_entries JIS0208_PAGE_OF
+pages_fit : tables_ok Basic any_pointer no_character 8836 14 15 10 jis0208_entries JIS0208_PAGE_OF
     JIS0208_POINTERS ≡ true
 unfolding tests
 pages_fit = refl
-
-entries_fit : entries_ok Basic any_pointer no_character 8836 15 10 jis0208_entries
-    JIS0208_PAGE_OF JIS0208_POINTERS ≡ true
-unfolding tests
-entries_fit = refl
 
 pub returns-clause-value : goal.returns-clause-value
 unfolding jis0208_pointer
 returns-clause-value c =
     c.pointer_in.ensures.value
     ∙ pointer_in_pages-pointer_of Basic any_pointer no_character 8836 14 15 10 jis0208_entries
-    JIS0208_PAGE_OF JIS0208_POINTERS pages_fit entries_fit jis0208_at table c.args.c
+    JIS0208_PAGE_OF JIS0208_POINTERS pages_fit jis0208_at table c.args.c

@@ -1,0 +1,113 @@
+//! Runs of characters in the designated set, and the escape sequences between them.
+
+ghost use Rattle.std.specs.Prelude.{◌≡◌, Option};
+ghost use Rattle.enc_decoder_iso_2022_jp.specs.Iso2022JpState.{iso_2022_jp_state};
+ghost use Rattle.enc_decoder.specs.Taking.{TakesRun};
+
+use crate::character_set::{CharacterSet, has_pairs, is_lead_byte, one_byte_char};
+use crate::escape::escape_in_front;
+use crate::iso_2022_jp::{Iso2022JpDecoder, with_held};
+use crate::pairs::{char_of_pair, pair_places};
+use enc_index::DoubleByteIndex;
+use enc_index::indexes::Jis0208Index;
+use enc_units::{Pieces, Places, Units, unshifted_len};
+use std::simd::prelude::*;
+
+/// Returns whether looking for a run pays: the first two bytes have no high bit set, as in all
+/// well-formed text.
+#[inline(always)]
+pub(crate) fn is_seven_bit(src: &[u8]) -> bool {
+    src.len() >= 2 && (src[0] | src[1]) < 0x80
+}
+
+impl Pieces for Iso2022JpDecoder {
+    ghost use Rattle.enc_index.specs.DoubleByteIndexes.{jis0208_shape};
+    ghost use Rattle.enc_index.specs.Grid.{IsPlaceOf};
+    ghost use Rattle.enc_decoder_iso_2022_jp.specs.Iso2022Jp.{set_number, iso_2022_jp_rule};
+    ghost use Rattle.enc_decoder.specs.Taking.{IsWholeChar};
+
+    ghost means = { λ d. IsWholeChar iso_2022_jp_rule (set_number d.set) };
+
+    ghost stands_for = { λ d place bytes. IsPlaceOf jis0208_shape
+        (IsWholeChar iso_2022_jp_rule (set_number d.set) bytes) place };
+
+    #[inline(always)]
+    fn piece(self, src: &[u8], at: usize) -> Option<(char, usize)> {
+        let byte = src[at];
+        if !is_lead_byte(self.set, byte) {
+            let character = one_byte_char(self.set, byte)?;
+            return Some((character, 1));
+        }
+        if at + 1 >= src.len() {
+            return None;
+        }
+        let character = char_of_pair(byte, src[at + 1])?;
+        Some((character, 2))
+    }
+
+    fn has_ascii(self) -> bool {
+        let _set = self.set;
+        false
+    }
+
+    #[inline(always)]
+    fn own_len(self, bytes: u8x16) -> usize {
+        match self.set {
+            CharacterSet::Ascii => unshifted_len(bytes),
+            _ => 0,
+        }
+    }
+
+    fn are_pairs(self) -> bool {
+        has_pairs(self.set)
+    }
+
+    /// All bytes lead a pair.
+    #[inline(always)]
+    fn places(self, first: u8x16, second: u8x16) -> Option<Places> {
+        if !has_pairs(self.set) {
+            return None;
+        }
+        Some(Places {
+            places: pair_places(first, second),
+            leads: 0xFFFF,
+        })
+    }
+
+    #[inline(always)]
+    fn word_at(self, place: u16) -> u32 {
+        let _set = self.set;
+        Jis0208Index::word(place as usize)
+    }
+
+    #[inline(always)]
+    fn unit_at(self, place: u16) -> u16 {
+        let _set = self.set;
+        Jis0208Index::unit(place as usize)
+    }
+}
+
+/// Takes an escape sequence that no other one directly follows, with the characters after it.
+/// Takes nothing if there are none.
+#[inline(always)]
+pub(crate) fn take_escape<U: Units>(
+    decoder: Iso2022JpDecoder,
+    src: &[u8],
+    out: &mut U,
+) -> (Iso2022JpDecoder, usize)
+    requires { decoder.held ≡ Option.None }
+    ensures run { TakesRun U.units_of iso_2022_jp_state decoder result.0 src.now result.1
+        (U.output out.old) (U.output out.new) }
+    ensures none_held { result.0.held ≡ Option.None }
+{
+    let Some(escape) = escape_in_front(src) else {
+        return (decoder, 0);
+    };
+    let next = with_held(escape.set(), None);
+    let (_, unread) = src.split_at(3);
+    let taken = out.put_pieces(next, unread);
+    if taken == 0 {
+        return (decoder, 0);
+    }
+    (next, 3 + taken)
+}
