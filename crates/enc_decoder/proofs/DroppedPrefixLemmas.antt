@@ -46,5 +46,5 @@ module _ {units_of : ℕ → List ℕ} {old mid new : Remainder} {src : List ℕ
   called_after {last} {mode} {room} {n} {wrote} {replaced} result call =
       let stage : Stage = record (start_stage src last mode room) { read = len } in
       one_call bytes (dropped last mode room leads_to) n nothing_written
-      (same_mode stage (call_at stage mode result n wrote replaced) result refl call) call
+      (same_mode stage (call_at stage mode room result n wrote replaced) result (omega arith) call) call
       (λ _. omega arith)

@@ -122,7 +122,6 @@ module _ {units_of : ℕ → List ℕ} {old mid : Remainder} {stage : Stage} {in
         length_on written call.done,
         stops.full,
         written.fits,
-        written.room_left,
         part.room,
       );
       reads = record {
@@ -248,7 +247,6 @@ module _ {units_of : ℕ → List ℕ} {old mid : Remainder} {stage : Stage} {in
           length_on written call.put,
           stops.room_kept (sym part.keeps ∙ keeps),
           written.fits,
-          written.room_left,
           part.room,
         );
         determined = determined_outside shift call.done stops.determined;

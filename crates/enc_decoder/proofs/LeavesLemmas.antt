@@ -1,7 +1,7 @@
 -- A call over what earlier calls left is, with them, one call; and what both leave.
 use Rattle.std.proofs.Common.{◌≡◌, ℕ, ◌+◌, ◌-◌, ◌<◌, ◌≤◌, Bool, true, List, [], ◌∷◌, ◌++◌, length, take, drop}
 use Rattle.std.proofs.Common.{refl, ap, ◌∙◌, sym, arith, append_assoc, ◌||◌, inl, inr, subst, ◌⊎◌, drop-drop}
-use Rattle.std.proofs.Common.{length-drop, length-append}
+use Rattle.std.proofs.Common.{length-drop}
 use Rattle.std.proofs.Math.Seq.{take-add}
 use Rattle.enc_units.specs.declared.decoder_result.DecoderResult.{DecoderResult}
 use Rattle.enc_units.specs.declared.decoder_result.DecoderResult.TheVariants.{InputEmpty, OutputFull, Malformed}
@@ -44,13 +44,13 @@ abbrev pub AreAccounted : Remainder → Remainder → Stage → Type 0
 AreAccounted old mid stage =
     old.pending ++ take stage.read stage.src ≡ sequence_bytes stage.done ++ mid.pending
 
--- a call over what is left at a stage
-abbrev pub call_at : Stage → DecodeErrorMode → DecoderResult → ℕ → List ℕ → Bool → Call
-call_at stage mode result read wrote replaced = record {
+-- a call over what is left at a stage, with this room
+abbrev pub call_at : Stage → DecodeErrorMode → ℕ → DecoderResult → ℕ → List ℕ → Bool → Call
+call_at stage mode room result read wrote replaced = record {
   src = drop stage.read stage.src;
   last = stage.last;
   mode = mode;
-  room = stage.room_left;
+  room = room;
   result = result;
   read = read;
   wrote = wrote;
@@ -58,27 +58,25 @@ call_at stage mode result read wrote replaced = record {
 }
 
 -- a stage of calls over what is left at a stage
-abbrev pub stage_at : Stage → ℕ → List Sequence → List ℕ → Bool → ℕ → Stage
-stage_at stage read done wrote replaced room_left = record {
+abbrev pub stage_at : Stage → ℕ → List Sequence → List ℕ → Bool → Stage
+stage_at stage read done wrote replaced = record {
   src = drop stage.read stage.src;
   last = stage.last;
   mode = stage.mode;
-  room = stage.room_left;
+  room = stage.room - length stage.wrote;
   read = read;
   done = done;
   wrote = wrote;
   replaced = replaced;
-  room_left = room_left;
 }
 
 -- both stages as one
-abbrev pub stage_after : Stage → ℕ → List Sequence → List ℕ → Bool → ℕ → Stage
-stage_after stage read done wrote replaced room_left = record stage {
+abbrev pub stage_after : Stage → ℕ → List Sequence → List ℕ → Bool → Stage
+stage_after stage read done wrote replaced = record stage {
   read = stage.read + read;
   done = stage.done ++ done;
   wrote = stage.wrote ++ wrote;
   replaced = stage.replaced || replaced;
-  room_left = room_left;
 }
 
 unshifted : (result : DecoderResult) → shifted_result result 0 ≡ result
@@ -111,9 +109,9 @@ module _ {old mid : Remainder} {stage : Stage} (bytes : AreBytes stage.src)
     )
   ]
 
-  abbrev shift : (mode : DecodeErrorMode) (result : DecoderResult) (n : ℕ) (more : List ℕ)
-      (replaced : Bool) → ShiftsInput old mid stage (call_at stage mode result n more replaced)
-  shift mode result n more replaced = record {
+  abbrev shift : (mode : DecodeErrorMode) (room : ℕ) (result : DecoderResult) (n : ℕ)
+      (more : List ℕ) (replaced : Bool) → ShiftsInput old mid stage (call_at stage mode room result n more replaced)
+  shift mode room result n more replaced = record {
     held = 0;
     from = stage.read;
     sure = leaves.sure;
@@ -136,10 +134,10 @@ module _ {old mid : Remainder} {stage : Stage} (bytes : AreBytes stage.src)
     none_below = below.2;
   }
 
-  module _ {mode : DecodeErrorMode} {result : DecoderResult} (n : ℕ) {more : List ℕ}
+  module _ {mode : DecodeErrorMode} {room : ℕ} {result : DecoderResult} (n : ℕ) {more : List ℕ}
       {replaced : Bool} where
     reads : n ≤ length (drop stage.read stage.src)
-        → MatchesRead (shift mode result n more replaced) (stage.read + n)
+        → MatchesRead (shift mode room result n more replaced) (stage.read + n)
     reads within_rest = record {
       within = omega (arith, length-drop stage.read stage.src, leaves.within);
       there = omega arith;
@@ -154,9 +152,9 @@ module _ {old mid : Remainder} {stage : Stage} (bytes : AreBytes stage.src)
 
     -- The next call is, with those before, one call.
     pub one_call : {units_of : ℕ → List ℕ} {new : Remainder} → HasWritten units_of stage
-        → IsPartAt stage (call_at stage mode result n more replaced)
-        → (call : IsCall units_of mid new (call_at stage mode result n more replaced))
-        → (reports_escape (call_at stage mode result n more replaced) call ≡ true
+        → IsPartAt stage (call_at stage mode room result n more replaced)
+        → (call : IsCall units_of mid new (call_at stage mode room result n more replaced))
+        → (reports_escape (call_at stage mode room result n more replaced) call ≡ true
         → leaves.sure ≤ stage.read + n)
         → (e : DecoderCall units_of old new stage.src stage.last stage.mode stage.room result
         (stage.read + n) (stage.wrote ++ more) (stage.replaced || replaced))
@@ -165,7 +163,7 @@ module _ {old mid : Remainder} {stage : Stage} (bytes : AreBytes stage.src)
         subst (λ r. (e : DecoderCall units_of old new stage.src stage.last stage.mode stage.room r
         (stage.read + n) (stage.wrote ++ more) (stage.replaced || replaced))
         × (e.done ≡ stage.done ++ call.done)) (unshifted result)
-        (call_outside (bytes-drop stage.read stage.src bytes) (shift mode result n more replaced)
+        (call_outside (bytes-drop stage.read stage.src bytes) (shift mode room result n more replaced)
         written part (reads call.within) call (record {
           after = λ z ends. ap (λ x. new.sequences (x ++ z)) (drop-drop n stage.read stage.src);
           set = call.set ∙ ap (λ x. set_after x call.done) leaves.set
@@ -178,7 +176,7 @@ module _ {old mid : Remainder} {stage : Stage} (bytes : AreBytes stage.src)
         }))
       where
         none_pending_at : (result : DecoderResult)
-            → IsCall units_of mid new (call_at stage mode result n more replaced)
+            → IsCall units_of mid new (call_at stage mode room result n more replaced)
             → stage.last ≡ true → result ≡ InputEmpty → new.pending ≡ []
         none_pending_at InputEmpty call is_last is_empty = call.stops.none_pending is_last
         none_pending_at OutputFull call is_last is_empty = cc
@@ -221,12 +219,12 @@ module _ {old mid : Remainder} {stage : Stage} (bytes : AreBytes stage.src)
 
   -- the same for decoders that look for no byte order mark
   pub raw_call : {units_of : ℕ → List ℕ} {new : Remainder} {mode : DecodeErrorMode}
-      {result : DecoderResult} {n : ℕ} {more : List ℕ} {replaced : Bool}
+      {room : ℕ} {result : DecoderResult} {n : ℕ} {more : List ℕ} {replaced : Bool}
       → HasWritten units_of stage → AreAccounted old mid stage
-      → IsPartAt stage (call_at stage mode result n more replaced)
+      → IsPartAt stage (call_at stage mode room result n more replaced)
       → (next : RawDecoderCall units_of mid new (drop stage.read stage.src) stage.last mode
-      stage.room_left result n more replaced)
-      → (reports_escape (call_at stage mode result n more replaced) next.call ≡ true
+      room result n more replaced)
+      → (reports_escape (call_at stage mode room result n more replaced) next.call ≡ true
       → leaves.sure ≤ stage.read + n)
       → RawDecoderCall units_of old new stage.src stage.last stage.mode stage.room result
       (stage.read + n) (stage.wrote ++ more) (stage.replaced || replaced)
@@ -244,10 +242,10 @@ module _ {old mid : Remainder} {stage : Stage} (bytes : AreBytes stage.src)
 
   -- what both leave, if the next calls leave something again
   pub leaves_on : {new : Remainder} {n : ℕ} {ss : List Sequence} {more : List ℕ} {replaced : Bool}
-      {room_left : ℕ} → Leaves mid new (stage_at stage n ss more replaced room_left)
-      → Leaves old new (stage_after stage n ss more replaced room_left)
+      → Leaves mid new (stage_at stage n ss more replaced)
+      → Leaves old new (stage_after stage n ss more replaced)
   leaves_on {new} {n} {ss} {more} {replaced} next =
-      let shift_on = shift stage.mode InputEmpty n more replaced in
+      let shift_on = shift stage.mode 0 InputEmpty n more replaced in
       record {
         sure = stage.read + n + 1;
         surely = omega arith;
@@ -282,14 +280,13 @@ module _ {old mid : Remainder} {stage : Stage} (bytes : AreBytes stage.src)
 
 -- what is written by both
 pub written_on : {units_of : ℕ → List ℕ} {stage : Stage} {n : ℕ} {ss : List Sequence}
-    {more : List ℕ} {replaced : Bool} {room_left : ℕ} → HasWritten units_of stage
-    → HasWritten units_of (stage_at stage n ss more replaced room_left)
-    → HasWritten units_of (stage_after stage n ss more replaced room_left)
-written_on {stage = stage} {ss = ss} {more} written next = record {
+    {more : List ℕ} {replaced : Bool} → HasWritten units_of stage
+    → HasWritten units_of (stage_at stage n ss more replaced)
+    → HasWritten units_of (stage_after stage n ss more replaced)
+written_on {ss = ss} {more} written next = record {
   text = text_on written ss next.text;
   scalars = scalars_on written ss next.scalars;
   fits = fits_on written more next.fits;
-  room_left = omega (arith, written.room_left, next.room_left, length-append stage.wrote more);
   flag = flag_on written ss next.flag;
   none_replaced = none_replaced_on written next.none_replaced;
 }

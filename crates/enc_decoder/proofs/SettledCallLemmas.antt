@@ -1,5 +1,5 @@
 -- What a call leaves that has read its chunk, or whose malformed sequence is replaced.
-use Rattle.std.proofs.Common.{◌≡◌, ℕ, ◌+◌, ◌-◌, ◌<◌, Bool, true, false, List, [], ◌∷◌, ◌++◌, length, take, drop}
+use Rattle.std.proofs.Common.{◌≡◌, ℕ, ◌+◌, ◌<◌, Bool, true, false, List, [], ◌∷◌, ◌++◌, length, take, drop}
 use Rattle.std.proofs.Common.{refl, ap, ◌∙◌, sym, arith, append_assoc, ◌||◌, inl, inr, subst, ◌⊎◌}
 use Rattle.std.proofs.lemmas.Bool.{false≢true}
 use Rattle.std.proofs.lemmas.List.{length-append, take-append-le, drop-append-le, append-nil}
@@ -41,7 +41,6 @@ settled_stage units_of mode c done = record {
   done = done;
   wrote = settled_units units_of c.result c.wrote;
   replaced = settled_flag c.result c.replaced;
-  room_left = c.room - length (settled_units units_of c.result c.wrote);
 }
 
 -- A call that another one may go on after in this mode: it has read its chunk, which is not the end
@@ -123,7 +122,6 @@ module _ {units_of : ℕ → List ℕ} {old mid : Remainder} (c : Call) where
         text = rw all_put at call.call.text;
         scalars = rw all_put at call.call.scalars;
         fits = call.call.fits;
-        room_left = refl;
         flag = rw all_put at call.call.flag;
         none_replaced = λ is_fatal. call.call.none_replaced (is_settled.fatal is_fatal);
       }
@@ -147,7 +145,6 @@ module _ {units_of : ℕ → List ℕ} {old mid : Remainder} (c : Call) where
           ap length call.call.text,
           stops.room_kept (sym is_settled.keeps ∙ ap keeps_room replaces),
         );
-        room_left = refl;
         flag = sym (ap any_malformed stops.then_next
             ∙ any_malformed-one call.call.put stops.next
             ∙ ap (λ b. any_malformed call.call.put || b) stops.malformed

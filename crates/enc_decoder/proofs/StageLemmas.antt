@@ -12,8 +12,7 @@ use Rattle.enc_decoder.specs.Remainder.{Remainder}
 use Rattle.enc_decoder.proofs.SequenceLemmas.{units-append, any_malformed-append, scalars_of-append}
 
 -- The chunk, whether nothing follows it, the error mode and the room of the output; the number of
--- bytes read, the sequences done, the code units written, whether a sequence was replaced, and the
--- room that is left.
+-- bytes read, the sequences done, the code units written, and whether a sequence was replaced.
 pub record Stage : Type 0 where
   pub src : List ℕ
   pub last : Bool
@@ -23,21 +22,19 @@ pub record Stage : Type 0 where
   pub done : List Sequence
   pub wrote : List ℕ
   pub replaced : Bool
-  pub room_left : ℕ
 
 -- The text of the sequences done is written, and fits.
 pub record HasWritten (units_of : ℕ → List ℕ) (stage : Stage) : Type 0 where
   pub text : stage.wrote ≡ units_of_text units_of (sequence_text stage.done)
   pub scalars : AreScalars (sequence_text stage.done)
   pub fits : length stage.wrote ≤ stage.room
-  pub room_left : stage.room_left ≡ stage.room - length stage.wrote
   pub flag : stage.replaced ≡ any_malformed stage.done
   pub none_replaced : is_replacement_mode stage.mode ≡ false → stage.replaced ≡ false
 
 -- The next call has the room that is left. Its error mode may be another: it keeps room for U+FFFD
 -- as the mode of the stage does, and replaces only if that does.
 pub record IsPartAt (stage : Stage) (next : Call) : Type 0 where
-  pub room : next.room ≡ stage.room_left
+  pub room : next.room ≡ stage.room - length stage.wrote
   pub keeps : keeps_room stage.mode ≡ keeps_room next.mode
   pub fatal : is_replacement_mode stage.mode ≡ false → is_replacement_mode next.mode ≡ false
   pub reported : (l a : ℕ) → next.result ≡ Malformed l a → is_replacement_mode stage.mode ≡ false
@@ -52,7 +49,7 @@ reports_in c (Malformed m n) call l a is_malformed = call.stops.not_replaced
 
 -- the next call in the mode of the stage
 pub same_mode : {units_of : ℕ → List ℕ} {old new : Remainder} (stage : Stage) (c : Call)
-    (result : DecoderResult) → c.room ≡ stage.room_left
+    (result : DecoderResult) → c.room ≡ stage.room - length stage.wrote
     → IsCall units_of old new (record c { mode = stage.mode; result = result })
     → IsPartAt stage (record c { mode = stage.mode; result = result })
 same_mode stage c result is_room call = record {
@@ -75,9 +72,9 @@ module _ {units_of : ℕ → List ℕ} {stage : Stage} (written : HasWritten uni
       → AreScalars (sequence_text (stage.done ++ ts))
   scalars_on ts are_scalars = scalars_of-append stage.done ts written.scalars are_scalars
 
-  pub fits_on : (more : List ℕ) → length more ≤ stage.room_left
+  pub fits_on : (more : List ℕ) → length more ≤ stage.room - length stage.wrote
       → length (stage.wrote ++ more) ≤ stage.room
-  fits_on more fits = omega (arith, written.fits, written.room_left, length-append stage.wrote more)
+  fits_on more fits = omega (arith, written.fits, length-append stage.wrote more)
 
   pub flag_on : {replaced : Bool} (ts : List Sequence) → replaced ≡ any_malformed ts
       → (stage.replaced || replaced) ≡ any_malformed (stage.done ++ ts)
@@ -107,7 +104,6 @@ start_stage src last mode room = record {
   done = [];
   wrote = [];
   replaced = false;
-  room_left = room;
 }
 
 pub nothing_written : {units_of : ℕ → List ℕ} {src : List ℕ} {last : Bool} {mode : DecodeErrorMode}
@@ -117,7 +113,6 @@ nothing_written = record {
   text = refl;
   scalars = refl;
   fits = omega arith;
-  room_left = omega arith;
   flag = refl;
   none_replaced = λ _. refl;
 }

@@ -1,5 +1,5 @@
 -- Two successive calls are one call.
-use Rattle.std.proofs.Common.{◌≡◌, ℕ, ◌+◌, ◌-◌, Bool, true, false, List, [], ◌++◌, length, drop, refl, ap, ◌∙◌}
+use Rattle.std.proofs.Common.{◌≡◌, ℕ, ◌+◌, Bool, true, false, List, [], ◌++◌, drop, refl, ap, ◌∙◌}
 use Rattle.std.proofs.Common.{sym, arith, subst, inl, inr, ◌⊎◌, ◌||◌}
 use Rattle.std.proofs.lemmas.Bool.{false≢true}
 use Rattle.std.proofs.lemmas.List.{append-nil, drop-append-le, take-append-le}
@@ -90,18 +90,14 @@ two_calls {units_of} {old} {mid} {new} {more = more} {first} {second} bytes also
     let within = first_call.call.within in
     let rest : second.src ≡ drop first.read (first.src ++ more) =
     next.src ∙ sym (drop-append-le first.read first.src more within) in
-    let second_rest : Call = record second {
-      src = drop first.read (first.src ++ more);
-      room = first.room - length (settled_units units_of first.result first.wrote);
-    } in
+    let second_rest : Call = record second { src = drop first.read (first.src ++ more) } in
     let rest_call : IsRawCall units_of mid new second_rest =
-    subst (λ r. IsRawCall units_of mid new (record second_rest { room = r })) part.room
-    (subst (λ x. IsRawCall units_of mid new (record second { src = x })) rest second_call) in
+    subst (λ x. IsRawCall units_of mid new (record second { src = x })) rest second_call in
     raw_call (bytes-append first.src more bytes also) whole.0
     (settled_written first first.result next.settled first_call)
     (ap (λ x. old.pending ++ x) (take-append-le first.read first.src more within)
     ∙ first_call.accounted)
-    (record { room = refl; keeps = part.keeps; fatal = part.fatal; reported = part.reported })
+    (record { room = part.room; keeps = part.keeps; fatal = part.fatal; reported = part.reported })
     rest_call (λ escape. elim settled.1 [
       | inl at_once ↦ omega (arith, whole.1, at_once)
       | inr replaces ↦ absurd (false≢true (sym (escape_is_fatal second_rest second.result
