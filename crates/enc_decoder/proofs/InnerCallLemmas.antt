@@ -35,6 +35,15 @@ abbrev pub reports_escape : {units_of : ℕ → List ℕ} {old new : Remainder} 
 reports_escape {units_of} {old} {new} c call =
     stops_at_escape units_of old new c call.put call.done c.result call.stops
 
+-- a repeated escape is reported only in a mode that doesn't replace
+pub escape_is_fatal : {units_of : ℕ → List ℕ} {old new : Remainder} {replaces : Bool} (c : Call)
+    (result : DecoderResult) (call : IsCall units_of old new (record c { result = result }))
+    → ((l a : ℕ) → result ≡ Malformed l a → replaces ≡ false)
+    → reports_escape (record c { result = result }) call ≡ true → replaces ≡ false
+escape_is_fatal c InputEmpty call reported escape = absurd (false≢true escape)
+escape_is_fatal c OutputFull call reported escape = absurd (false≢true escape)
+escape_is_fatal c (Malformed l a) call reported escape = reported l a refl
+
 -- No byte is pending before the inner call, which reads those of what it does and holds.
 abbrev pub AreAllRead : Remainder → Remainder → Call → List Sequence → Type 0
 AreAllRead mid then inner done = (mid.pending ≡ [])

@@ -16,7 +16,6 @@ pub mod Latin1Lemmas
 pub mod NeedLemmas
 pub mod EnoughLemmas
 pub mod LookaheadLemmas
-pub mod SuccessiveCallLemmas
 pub mod ReplacingLemmas
 pub mod ShiftedInputLemmas
 pub mod StageLemmas
@@ -26,4 +25,6 @@ pub mod LeavesLemmas
 pub mod SettledCallLemmas
 pub mod TwoCallsLemmas
 pub mod DroppedPrefixLemmas
+pub mod OutputStageLemmas
+pub mod TakenRunLemmas
 pub mod JoinedCallLemmas

@@ -8,10 +8,10 @@ use Rattle.enc_units.specs.declared.decoder_result.DecoderResult.TheVariants.{In
 use Rattle.enc_decoder.specs.Sequence.{Sequence}
 use Rattle.enc_decoder.specs.Remainder.{Remainder, AreBytes}
 use Rattle.enc_decoder.specs.Call.{DecodeErrorMode, is_replacement_mode}
-use Rattle.enc_decoder.specs.CallRecord.{Call, IsCall, IsRawCall}
+use Rattle.enc_decoder.specs.CallRecord.{Call, IsRawCall}
 use Rattle.enc_decoder.proofs.ByteLemmas.{bytes-append}
 use Rattle.enc_decoder.proofs.StageLemmas.{Stage, IsPartAt}
-use Rattle.enc_decoder.proofs.InnerCallLemmas.{reports_escape}
+use Rattle.enc_decoder.proofs.InnerCallLemmas.{escape_is_fatal}
 use Rattle.enc_decoder.proofs.LeavesLemmas.{Leaves, raw_call}
 use Rattle.enc_decoder.proofs.SettledCallLemmas.{IsSettledIn, settled_stage, settled_units, settled_flag, empty_leaves}
 use Rattle.enc_decoder.proofs.SettledCallLemmas.{malformed_leaves, settled_written, grown}
@@ -66,15 +66,6 @@ grown_or {old} {mid} {stage} more true last is_last bytes also at_end leaves =
     (is_last ∙ sym (at_end refl).0) (leaves, refl))
 grown_or more false last not_last bytes also at_end leaves =
     (grown more bytes also leaves last not_last, refl)
-
--- a repeated escape is reported only in a mode that doesn't replace
-escape_is_fatal : {units_of : ℕ → List ℕ} {old new : Remainder} {replaces : Bool} (c : Call)
-    (result : DecoderResult) (call : IsCall units_of old new (record c { result = result }))
-    → ((l a : ℕ) → result ≡ Malformed l a → replaces ≡ false)
-    → reports_escape (record c { result = result }) call ≡ true → replaces ≡ false
-escape_is_fatal c InputEmpty call reported escape = absurd (false≢true escape)
-escape_is_fatal c OutputFull call reported escape = absurd (false≢true escape)
-escape_is_fatal c (Malformed l a) call reported escape = reported l a refl
 
 -- Two successive calls, the second of which takes what the first left, are one call.
 pub two_calls : {units_of : ℕ → List ℕ} {old mid new : Remainder} {mode : DecodeErrorMode}
