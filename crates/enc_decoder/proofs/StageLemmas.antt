@@ -40,7 +40,7 @@ pub record IsPartAt (stage : Stage) (next : Call) : Type 0 where
   pub reported : (l a : ℕ) → next.result ≡ Malformed l a → is_replacement_mode stage.mode ≡ false
 
 -- only a call that doesn't replace reports
-reports_in : {units_of : ℕ → List ℕ} {old new : Remainder} (c : Call) (result : DecoderResult)
+pub reports_in : {units_of : ℕ → List ℕ} {old new : Remainder} (c : Call) (result : DecoderResult)
     → IsCall units_of old new (record c { result = result }) → (l a : ℕ) → result ≡ Malformed l a
     → is_replacement_mode c.mode ≡ false
 reports_in c InputEmpty call l a is_malformed = cc
