@@ -6,6 +6,7 @@ use Rattle.enc_units.specs.declared.decoder_result.DecoderResult.{DecoderResult}
 use Rattle.enc_decoder.specs.Sequence.{Sequence}
 use Rattle.enc_decoder.specs.Remainder.{Remainder, AreBytes, Determines}
 use Rattle.enc_decoder.specs.Call.{DecoderCall, DecodeErrorMode}
+use Rattle.enc_decoder.specs.CallRecord.{Call}
 use Rattle.enc_decoder.proofs.StageLemmas.{Stage, start_stage, nothing_written, same_mode}
 use Rattle.enc_decoder.proofs.LeavesLemmas.{Leaves, one_call, call_at}
 
@@ -45,6 +46,6 @@ module _ {units_of : ℕ → List ℕ} {old mid new : Remainder} {src : List ℕ
       × (e.done ≡ call.done)
   called_after {last} {mode} {room} {n} {wrote} {replaced} result call =
       let stage : Stage = record (start_stage src last mode room) { read = len } in
+      let next : Call = call_at stage mode room result n wrote replaced in
       one_call bytes (dropped last mode room leads_to) n nothing_written
-      (same_mode stage (call_at stage mode room result n wrote replaced) result (omega arith) call) call
-      (λ _. omega arith)
+      (same_mode stage next result (omega arith) call) call (λ _. omega arith)

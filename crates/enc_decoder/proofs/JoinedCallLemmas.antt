@@ -31,12 +31,13 @@ pub record CallInto : Type 0 where
   pub replaced : Bool
 
 abbrev pub IsCallInto : (ℕ → List ℕ) → Remainder → Remainder → CallInto → Type 0
-IsCallInto units_of old new c = DecoderCallInto units_of old new c.src c.last c.mode c.before c.after
-    c.result c.read c.replaced
+IsCallInto units_of old new c =
+    DecoderCallInto units_of old new c.src c.last c.mode c.before c.after c.result c.read c.replaced
 
 abbrev pub IsPrefixedInto : (ℕ → List ℕ) → Remainder → Remainder → CallInto → Type 0
-IsPrefixedInto units_of old new c = PrefixedCallInto units_of old new c.src c.last c.mode c.before
-    c.after c.result c.read c.replaced
+IsPrefixedInto units_of old new c =
+    PrefixedCallInto units_of old new c.src c.last c.mode c.before c.after c.result c.read
+    c.replaced
 
 -- a list of no length is empty
 pub no_bytes : (x : List ℕ) → length x ≡ 0 → x ≡ []
@@ -142,9 +143,10 @@ module _ {units_of : ℕ → List ℕ} {old new : Remainder} (c : Call) (src : L
         not_reported = stops.not_reported;
         full = stops.full;
         reads = record {
-          not_shown = hidden_still old.sequences c.src src bytes also call.within ss stops.reads.not_shown;
-          shown_next = λ _. next_known old.sequences c.src src bytes also call.within ss stops.determined
-              stops.reads.shown_next;
+          not_shown = hidden_still old.sequences c.src src bytes also call.within ss
+              stops.reads.not_shown;
+          shown_next = λ _. next_known old.sequences c.src src bytes also call.within ss
+              stops.determined stops.reads.shown_next;
         };
       }
   stops_still (Malformed l a) stopped stops = record {
@@ -252,6 +254,7 @@ joins {units_of} {old} {mid} {new} {held} {before} {given} {had} {c} bytes also 
     let reaches : Reaches units_of old mid before c.before (record
     (settled_stage units_of c.mode held_call first.call.call.done)
     { src = held ++ c.src; last = c.last }) = record {
+      bytes = bytes-append held c.src bytes also;
       leaves = grown c.src bytes also (empty_leaves held_call refl first.call) c.last refl;
       written = settled_written held_call InputEmpty (record {
         keeps = refl;
@@ -275,5 +278,5 @@ joins {units_of} {old} {mid} {new} {held} {before} {given} {had} {c} bytes also 
       replaced = c.replaced;
     } in
     with_bytes refl (omega (arith, all_read))
-    (call_into (bytes-append held c.src bytes also) reaches refl (λ is_fatal. is_fatal)
+    (call_into reaches refl (λ is_fatal. is_fatal)
     (reports_in second_call c.result second.call.call) next (λ _. omega arith))

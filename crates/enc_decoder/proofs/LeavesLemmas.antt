@@ -19,8 +19,8 @@ use Rattle.enc_decoder.proofs.InnerInputLemmas.{ShiftsInput, MatchesRead, sequen
 use Rattle.enc_decoder.proofs.InnerInputLemmas.{determines_outside}
 use Rattle.enc_decoder.proofs.InnerCallLemmas.{call_outside, reports_escape}
 
--- Calls that have come to this stage leave the remainder `mid` for the bytes after those read. These
--- determine the sequences done, at the latest with the next byte, and none after them.
+-- Calls that have come to this stage leave the remainder `mid` for the bytes after those read.
+-- These determine the sequences done, at the latest with the next byte, and none after them.
 pub record Leaves (old mid : Remainder) (stage : Stage) : Type 0 where
   pub sure : ℕ
   pub surely : stage.read ≤ sure
@@ -110,7 +110,8 @@ module _ {old mid : Remainder} {stage : Stage} (bytes : AreBytes stage.src)
   ]
 
   abbrev shift : (mode : DecodeErrorMode) (room : ℕ) (result : DecoderResult) (n : ℕ)
-      (more : List ℕ) (replaced : Bool) → ShiftsInput old mid stage (call_at stage mode room result n more replaced)
+      (more : List ℕ) (replaced : Bool)
+      → ShiftsInput old mid stage (call_at stage mode room result n more replaced)
   shift mode room result n more replaced = record {
     held = 0;
     from = stage.read;
@@ -163,8 +164,8 @@ module _ {old mid : Remainder} {stage : Stage} (bytes : AreBytes stage.src)
         subst (λ r. (e : DecoderCall units_of old new stage.src stage.last stage.mode stage.room r
         (stage.read + n) (stage.wrote ++ more) (stage.replaced || replaced))
         × (e.done ≡ stage.done ++ call.done)) (unshifted result)
-        (call_outside (bytes-drop stage.read stage.src bytes) (shift mode room result n more replaced)
-        written part (reads call.within) call (record {
+        (call_outside (bytes-drop stage.read stage.src bytes)
+        (shift mode room result n more replaced) written part (reads call.within) call (record {
           after = λ z ends. ap (λ x. new.sequences (x ++ z)) (drop-drop n stage.read stage.src);
           set = call.set ∙ ap (λ x. set_after x call.done) leaves.set
               ∙ sym (set_after-append old.set stage.done call.done);

@@ -2,8 +2,6 @@ pub mod SequenceLemmas
 pub mod SegmentationLemmas
 pub mod DeterminedLemmas
 pub mod ByteLemmas
-pub mod DecodeProgressLemmas
-pub mod CallLemmas
 pub mod NextEventLemmas
 pub mod MachineLemmas
 pub mod RuleLemmas
@@ -27,4 +25,5 @@ pub mod TwoCallsLemmas
 pub mod DroppedPrefixLemmas
 pub mod OutputStageLemmas
 pub mod TakenRunLemmas
+pub mod EventLeavesLemmas
 pub mod JoinedCallLemmas

@@ -1,16 +1,30 @@
 -- What comes next, as the loop takes it.
-use Rattle.std.proofs.Common.{◌≡◌, ℕ, ◌<◌, Bool, true, false, List, [], ◌∷◌, ◌++◌, length, get_or, take, refl, ap, ◌∙◌}
+use Rattle.std.proofs.Common.{◌≡◌, ℕ, ◌<◌, Bool, true, false, List, [], ◌∷◌, ◌++◌, length, get_or, refl, ap, ◌∙◌}
 use Rattle.std.proofs.Common.{sym, subst, append_assoc, ◌⊎◌, inl, inr}
 use Rattle.std.proofs.lemmas.List.{append-nil}
 use Rattle.std.proofs.lemmas.Bool.{false≢true}
 use Rattle.enc_decoder.specs.declared.byte_codec.Emission.{Emission}
 use Rattle.enc_decoder.specs.Sequence.{Sequence, is_repeated_escape}
 use Rattle.enc_decoder.specs.Segmentation.{sequences_of}
-use Rattle.enc_decoder.specs.Remainder.{AreFirstSequences, Determines, IsUndetermined}
+use Rattle.enc_decoder.specs.Remainder.{AreFirstSequences}
 use Rattle.enc_decoder.specs.CodecState.{CodecState, remainder_of}
 use Rattle.enc_decoder.specs.CodecLaw.{MayFollowRead, taken_bytes, text_chars, IsNextSequence}
-use Rattle.enc_decoder.proofs.DecodeProgressLemmas.{Progress}
-use Rattle.enc_decoder.proofs.SegmentationLemmas.{none_further}
+use Rattle.std.proofs.Common.{drop, drop-cons, suc, arith}
+use Rattle.std.proofs.Math.ListN.{drop_of_length-le}
+
+-- what may follow the bytes read: a byte that is next, whatever follows it; or the unread bytes
+pub byte_follows : (src : List ℕ) (read : ℕ) (last : Bool) (y : List ℕ) → read < length src
+    → MayFollowRead src read last (get_or src read 0 ∷ y)
+byte_follows src read last y has_next =
+    record { more = λ _. (y, refl); ended = λ all_read. absurd (omega arith) }
+
+pub rest_follows : (src : List ℕ) (read : ℕ) (last : Bool) (z : List ℕ) → (last ≡ true → z ≡ [])
+    → MayFollowRead src read last (drop read src ++ z)
+rest_follows src read last z ends = record {
+  more = λ has_next.
+      (drop (suc read) src ++ z, ap (λ x. x ++ z) (drop-cons src read 0 has_next));
+  ended = λ all_read is_last. ap (λ x. x ++ z) (drop_of_length-le src all_read) ∙ ends is_last;
+}
 
 pub takes_or : (b : Bool) → (b ≡ true) ⊎ (b ≡ false)
 takes_or b = elim b as (λ b. (b ≡ true) ⊎ (b ≡ false)) [ true ↦ inl refl | false ↦ inr refl ]
@@ -96,17 +110,3 @@ module _ {C : Type 0} {state : C → CodecState} {c : C} {src : List ℕ} {read 
     ))
     | inr t ↦ (_, first_before t y follows)
   ]
-
--- Where the pending bytes determine nothing, the bytes read so far determine no sequence more than
--- those done.
-pub not_shown_yet : {units_of : ℕ → List ℕ} (v now : CodecState) {src : List ℕ} {last : Bool}
-    {room read : ℕ}
-    {wrote : List ℕ} (progress : Progress units_of (remainder_of v) src last room read
-    (remainder_of now) wrote)
-    → now.rule ≡ v.rule
-    → IsUndetermined (remainder_of now).sequences
-    → (q : Sequence) → Determines (remainder_of v).sequences (take read src)
-    (progress.done ++ q ∷ []) → ⊥
-not_shown_yet v now {src} {read = read} progress same_rule undetermined =
-    none_further v now (take read src) progress.done same_rule progress.set progress.accounted
-    undetermined

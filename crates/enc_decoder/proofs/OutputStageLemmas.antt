@@ -1,5 +1,5 @@
 -- How far calls have come over an output, and the call that goes on there.
-use Rattle.std.proofs.Common.{◌≡◌, ℕ, ◌+◌, ◌-◌, ◌≤◌, Bool, true, false, List, ◌++◌, length, drop, refl, ap, ◌∙◌}
+use Rattle.std.proofs.Common.{◌≡◌, ℕ, ◌+◌, ◌-◌, ◌≤◌, Bool, true, false, List, [], ◌++◌, length, drop, refl, ap, ◌∙◌}
 use Rattle.std.proofs.Common.{sym, arith, append-nil, ◌||◌, subst, inl}
 use Rattle.enc_units.specs.declared.decoder_result.DecoderResult.{DecoderResult}
 use Rattle.enc_units.specs.declared.decoder_result.DecoderResult.TheVariants.{Malformed}
@@ -8,7 +8,7 @@ use Rattle.enc_units.proofs.OutputLemmas.{with_appended-nil, with_appended-with_
 use Rattle.enc_decoder.specs.Sequence.{Sequence}
 use Rattle.enc_decoder.specs.Remainder.{Remainder, AreBytes}
 use Rattle.enc_decoder.specs.Call.{RawDecoderCall, DecoderCallInto, DecodeErrorMode, is_replacement_mode, keeps_room}
-use Rattle.enc_decoder.proofs.StageLemmas.{Stage, HasWritten, start_stage, nothing_written}
+use Rattle.enc_decoder.proofs.StageLemmas.{Stage, HasWritten, nothing_written}
 use Rattle.enc_decoder.proofs.InnerCallLemmas.{reports_escape}
 use Rattle.enc_decoder.proofs.LeavesLemmas.{Leaves, AreAccounted, call_at, stage_at, stage_after, raw_call, leaves_on}
 use Rattle.enc_decoder.proofs.LeavesLemmas.{written_on, accounted_on}
@@ -16,6 +16,7 @@ use Rattle.enc_decoder.proofs.LeavesLemmas.{written_on, accounted_on}
 -- Calls have come to this stage: what they leave, and the output before and after them.
 pub record Reaches (units_of : ℕ → List ℕ) (old now : Remainder) (before after : Output)
     (stage : Stage) : Type 0 where
+  pub bytes : AreBytes stage.src
   pub leaves : Leaves old now stage
   pub written : HasWritten units_of stage
   pub accounted : AreAccounted old now stage
@@ -39,40 +40,49 @@ pub record Progress (units_of : ℕ → List ℕ) (old now : Remainder) (src : L
   })
 
 pub progress_at : {units_of : ℕ → List ℕ} {old now : Remainder} {before after : Output}
-    {stage : Stage} {replaced : Bool} → Reaches units_of old now before after stage
-    → stage.replaced ≡ replaced
-    → Progress units_of old now stage.src stage.last stage.mode before after stage.read replaced
-progress_at {units_of} {old} {now} {before} {after} {stage} reaches same =
+    {stage : Stage} {read : ℕ} {replaced : Bool} → Reaches units_of old now before after stage
+    → stage.read ≡ read → stage.replaced ≡ replaced
+    → Progress units_of old now stage.src stage.last stage.mode before after read replaced
+progress_at {units_of} {old} {now} {before} {after} {stage} {read} reaches same_read same_flag =
     record {
       done = stage.done;
       wrote = stage.wrote;
-      reaches = subst (λ b. Reaches units_of old now before after (record stage { replaced = b; room = before.room })) same
-          (subst (λ r. Reaches units_of old now before after (record stage { room = r })) reaches.room reaches);
+      reaches = subst (λ b. Reaches units_of old now before after
+          (record stage { room = before.room; read = read; replaced = b })) same_flag
+          (subst (λ n. Reaches units_of old now before after
+          (record stage { room = before.room; read = n })) same_read
+          (subst (λ r. Reaches units_of old now before after (record stage { room = r }))
+          reaches.room reaches));
     }
 
 pub start : {units_of : ℕ → List ℕ} {old : Remainder} {src : List ℕ} {last : Bool}
-    {mode : DecodeErrorMode} {before : Output}
-    → Reaches units_of old old before before (start_stage src last mode before.room)
-start {old} {before = before} = record {
-  leaves = record {
-    sure = 0;
-    surely = omega arith;
-    soon = omega arith;
-    within = omega arith;
-    residual = λ z _. refl;
-    goes_on = λ y _. refl;
-    set = refl;
-    shown = λ n _ _ z _. (_, refl);
-    none_after = inl refl;
+    {mode : DecodeErrorMode} {before : Output} → AreBytes src
+    → Progress units_of old old src last mode before before 0 false
+start {old} {before = before} bytes = record {
+  done = [];
+  wrote = [];
+  reaches = record {
+    bytes = bytes;
+    leaves = record {
+      sure = 0;
+      surely = omega arith;
+      soon = omega arith;
+      within = omega arith;
+      residual = λ z _. refl;
+      goes_on = λ y _. refl;
+      set = refl;
+      shown = λ n _ _ z _. (_, refl);
+      none_after = inl refl;
+    };
+    written = nothing_written;
+    accounted = append-nil old.pending;
+    onto = sym (with_appended-nil before);
+    room = refl;
   };
-  written = nothing_written;
-  accounted = append-nil old.pending;
-  onto = sym (with_appended-nil before);
-  room = refl;
 }
 
 module _ {units_of : ℕ → List ℕ} {old now : Remainder} {before at : Output} {stage : Stage}
-    (bytes : AreBytes stage.src) (reaches : Reaches units_of old now before at stage) where
+    (reaches : Reaches units_of old now before at stage) where
   pub room_at : at.room ≡ stage.room - length stage.wrote
   room_at = room_left before at stage.wrote reaches.onto
       ∙ ap (λ r. r - length stage.wrote) (sym reaches.room)
@@ -99,7 +109,7 @@ module _ {units_of : ℕ → List ℕ} {old now : Remainder} {before at : Output
     onto = onto_on next.wrote next.onto;
     call = subst (λ r. RawDecoderCall units_of old new stage.src stage.last stage.mode r result
         (stage.read + n) (stage.wrote ++ next.wrote) (stage.replaced || replaced)) reaches.room
-        (raw_call bytes reaches.leaves reaches.written reaches.accounted
+        (raw_call reaches.bytes reaches.leaves reaches.written reaches.accounted
         (record { room = room_at; keeps = keeps; fatal = fatal; reported = reported })
         next.call sure);
   }
@@ -111,9 +121,10 @@ module _ {units_of : ℕ → List ℕ} {old now : Remainder} {before at : Output
       → AreAccounted now new (stage_at stage n ss more replaced) → then ≡ with_appended at more
       → Reaches units_of old new before then (stage_after stage n ss more replaced)
   reaches_on {new} {n = n} {ss} {more} leaves written accounted onto = record {
-    leaves = leaves_on bytes reaches.leaves leaves;
+    bytes = reaches.bytes;
+    leaves = leaves_on reaches.bytes reaches.leaves leaves;
     written = written_on reaches.written written;
-    accounted = accounted_on bytes reaches.leaves new n ss reaches.accounted accounted;
+    accounted = accounted_on reaches.bytes reaches.leaves new n ss reaches.accounted accounted;
     onto = onto_on more onto;
     room = reaches.room;
   }

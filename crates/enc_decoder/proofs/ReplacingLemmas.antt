@@ -9,7 +9,7 @@ use Rattle.enc_units.specs.declared.decoder_result.DecoderResult.TheVariants.{Ma
 use Rattle.enc_units.specs.Output.{Output, with_appended}
 use Rattle.enc_units.proofs.OutputLemmas.{with_appended-with_appended, room_left}
 use Rattle.enc_decoder.specs.Sequence.{sequence_bytes, any_malformed}
-use Rattle.enc_decoder.specs.Remainder.{Remainder, AreBytes}
+use Rattle.enc_decoder.specs.Remainder.{Remainder}
 use Rattle.enc_decoder.specs.Call.{DecoderCallInto, Replacement, Fatal, is_replacement_mode, keeps_room}
 use Rattle.enc_decoder.specs.CallRecord.{Call, IsRawCall}
 use Rattle.enc_decoder.specs.CodecState.{CodecState, remainder_of}
@@ -27,8 +27,7 @@ fits_then : (n room : ℕ) → n ≤ room → nat_le n room ≡ true
 fits_then n room within = grind (arith, nat_tests)
 
 module _ {units_of : ℕ → List ℕ} {old now : Remainder} {before at : Output} {stage : Stage}
-    (bytes : AreBytes stage.src) (reaches : Reaches units_of old now before at stage)
-    (replaces : stage.mode ≡ Replacement) where
+    (reaches : Reaches units_of old now before at stage) (replaces : stage.mode ≡ Replacement) where
   -- a call that reports no malformed sequence is the last
   pub last_call : {new : Remainder} {then : Output} {result : DecoderResult} {n : ℕ}
       → ((l a : ℕ) → result ≡ Malformed l a → ⊥)
@@ -39,7 +38,7 @@ module _ {units_of : ℕ → List ℕ} {old now : Remainder} {before at : Output
   last_call {new} {then} {result} {n} none next =
       subst (DecoderCallInto units_of old new stage.src stage.last stage.mode before then result
       (stage.read + n)) (or_false stage.replaced)
-      (call_into bytes reaches (ap keeps_room replaces) (λ _. refl)
+      (call_into reaches (ap keeps_room replaces) (λ _. refl)
       (λ l a reported. absurd (none l a reported)) next
       (λ escape. absurd (false≢true (sym (escape_is_fatal {replaces = true}
       (call_at stage (Fatal true) at.room result n next.wrote false) result next.call.call
@@ -58,7 +57,7 @@ module _ {units_of : ℕ → List ℕ} {old now : Remainder} {before at : Output
       next.wrote false in
       let call : IsRawCall units_of now (remainder_of v) c =
       subst (λ r. IsRawCall units_of now (remainder_of v) (record c { room = r }))
-      (room_at bytes reaches) next.call in
+      (room_at reaches) next.call in
       let is_settled : IsSettledIn stage.mode c = record {
         keeps = ap keeps_room replaces;
         fatal = λ _. refl;
@@ -66,15 +65,15 @@ module _ {units_of : ℕ → List ℕ} {old now : Remainder} {before at : Output
         not_full = λ e. cc;
         replaces = λ _ _ _. replaces;
       } in
-      let replaced = reaches_on bytes reaches
-      (malformed_leaves c (bytes-drop stage.read stage.src bytes) call)
+      let replaced = reaches_on reaches
+      (malformed_leaves c (bytes-drop stage.read stage.src reaches.bytes) call)
       (settled_written c (Malformed l a) is_settled call) call.accounted
       (written ∙ ap (λ o. with_appended o (units_of 0xFFFD)) next.onto
       ∙ with_appended-with_appended at next.wrote (units_of 0xFFFD)) in
       let run = subst (λ x. TakesSequences units_of v v x m end after) is_rest given in
-      progress_at (reaches_run _ run bytes replaced
+      progress_at (reaches_run _ run replaced
       (λ is_fatal. absurd (false≢true (sym is_fatal ∙ ap is_replacement_mode replaces))))
-      (ap (λ b. b || any_malformed run.taken) (or_true stage.replaced))
+      refl (ap (λ b. b || any_malformed run.taken) (or_true stage.replaced))
 
   module _ {new : Remainder} {then : Output} {n l a : ℕ}
       (next : DecoderCallInto units_of now new (drop stage.read stage.src) stage.last (Fatal true)

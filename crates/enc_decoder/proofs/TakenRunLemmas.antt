@@ -1,4 +1,5 @@
 -- What is left once whole sequences are taken at once.
+use Rattle.std.proofs.Common.{◌||◌}
 use Rattle.std.proofs.Common.{◌≡◌, ℕ, ◌+◌, ◌<◌, false, List, [], ◌∷◌, ◌++◌}
 use Rattle.std.proofs.Common.{take, drop, get_or, refl, ap, ◌∙◌, sym, arith, append_assoc, append-nil, inl, inr}
 use Rattle.std.proofs.lemmas.Bool.{cases_lt}
@@ -9,12 +10,13 @@ use Rattle.enc_decoder.specs.Remainder.{Remainder, AreBytes}
 use Rattle.enc_decoder.specs.Call.{is_replacement_mode}
 use Rattle.enc_decoder.specs.CodecState.{CodecState, remainder_of}
 use Rattle.enc_decoder.specs.Taking.{TakesSequences}
+use Rattle.enc_decoder.proofs.SequenceLemmas.{or_false}
 use Rattle.enc_decoder.proofs.SegmentationLemmas as segmentation
 use Rattle.enc_decoder.proofs.EmissionLemmas.{nothing_pending}
 use Rattle.enc_decoder.proofs.ByteLemmas.{bytes-drop, determines_by_more}
 use Rattle.enc_decoder.proofs.StageLemmas.{Stage}
 use Rattle.enc_decoder.proofs.LeavesLemmas.{Leaves, AreAccounted, stage_at, stage_after}
-use Rattle.enc_decoder.proofs.OutputStageLemmas.{Reaches, room_at, reaches_on}
+use Rattle.enc_decoder.proofs.OutputStageLemmas.{Reaches, Progress, progress_at, room_at, reaches_on}
 use Rattle.enc_decoder.proofs.TakingLemmas.{rest_may_follow}
 
 module _ {units_of : ℕ → List ℕ} {v w : CodecState} (stage : Stage) {n : ℕ} {at then : Output}
@@ -28,7 +30,7 @@ module _ {units_of : ℕ → List ℕ} {v w : CodecState} (stage : Stage) {n : �
   abbrev pub run_stage : Stage
   run_stage = stage_at stage n run.taken run_units (any_malformed run.taken)
 
-  same_rule : w.rule ≡ v.rule
+  pub same_rule : w.rule ≡ v.rule
   same_rule = ap (λ (s : CodecState). s.rule) run.next_state
 
   set_after_run : w.set ≡ set_after v.set run.taken
@@ -79,16 +81,28 @@ module _ {units_of : ℕ → List ℕ} {v w : CodecState} (stage : Stage) {n : �
   }
 
   -- Calls that have come to the stage go on after the run.
-  pub reaches_run : AreBytes stage.src → {old : Remainder} {before : Output}
+  pub reaches_run : {old : Remainder} {before : Output}
       → Reaches units_of old (remainder_of v) before at stage
       → (is_replacement_mode stage.mode ≡ false → any_malformed run.taken ≡ false)
       → Reaches units_of old (remainder_of w) before then
       (stage_after stage n run.taken run_units (any_malformed run.taken))
-  reaches_run bytes reaches none_replaced = reaches_on bytes reaches (run_leaves bytes)
+  reaches_run reaches none_replaced = reaches_on reaches (run_leaves reaches.bytes)
       (record {
         text = refl;
         scalars = run.scalars;
-        fits = omega (arith, run.fits, room_at bytes reaches);
+        fits = omega (arith, run.fits, room_at reaches);
         flag = refl;
         none_replaced = none_replaced;
       }) run_accounted run.written
+
+-- the same after a run of valid sequences
+pub past_run : {units_of : ℕ → List ℕ} {v w : CodecState} {old : Remainder}
+    {before at then : Output} {stage : Stage} {n : ℕ}
+    → Reaches units_of old (remainder_of v) before at stage
+    → (run : TakesSequences units_of v w (drop stage.read stage.src) n at then)
+    → any_malformed run.taken ≡ false
+    → Progress units_of old (remainder_of w) stage.src stage.last stage.mode before then
+    (stage.read + n) stage.replaced
+past_run {stage = stage} reaches run none =
+    progress_at (reaches_run stage run reaches (λ _. none)) refl
+    (ap (λ b. stage.replaced || b) none ∙ or_false stage.replaced)
