@@ -1,14 +1,12 @@
 -- What bytes determine for an outer decoder, whose chunk is that of an inner one, shifted: after
 -- sequences that are done, after bytes that are dropped, or with held bytes before it.
-use Rattle.std.proofs.Common.{◌≡◌, ℕ, ◌+◌, ◌-◌, ◌<◌, ◌≤◌, Bool, true, false, List, [], ◌∷◌, ◌++◌, length, take}
+use Rattle.std.proofs.Common.{◌≡◌, ℕ, ◌+◌, ◌-◌, ◌<◌, ◌≤◌, true, List, [], ◌∷◌, ◌++◌, length, take}
 use Rattle.std.proofs.Common.{refl, ap, ◌∙◌, sym, arith, append_assoc, inl, inr, subst, ◌⊎◌}
-use Rattle.std.proofs.lemmas.Bool.{false≢true}
 use Rattle.std.proofs.lemmas.Bool.Decides.{nat_tests, leb_tells}
-use Rattle.std.proofs.lemmas.List.{append-nil}
 use Rattle.enc_decoder.specs.Sequence.{Sequence}
 use Rattle.enc_decoder.specs.Remainder.{Remainder, AreBytes, AreFirstSequences, Determines, AreDetermined}
 use Rattle.enc_decoder.specs.CallRecord.{Call}
-use Rattle.enc_decoder.proofs.DeterminedLemmas.{begins_after, determines_fewer}
+use Rattle.enc_decoder.proofs.DeterminedLemmas.{begins_after, determines_fewer, determined_after}
 use Rattle.enc_decoder.proofs.ByteLemmas.{determines_by_more}
 use Rattle.enc_decoder.proofs.StageLemmas.{Stage}
 
@@ -99,24 +97,8 @@ module _ {old mid : Remainder} {stage : Stage} {inner : Call}
   pub determined_outside : (ts : List Sequence)
       → AreDetermined inner.last mid.sequences inner.src ts
       → AreDetermined inner.last old.sequences stage.src (stage.done ++ ts)
-  determined_outside ts = by_last inner.last shift.plain
-    where
-      by_last : (last : Bool) → ((z : List ℕ) → (last ≡ true → z ≡ [])
-          → old.sequences (stage.src ++ z) ≡ stage.done ++ mid.sequences (inner.src ++ z))
-          → AreDetermined last mid.sequences inner.src ts
-          → AreDetermined last old.sequences stage.src (stage.done ++ ts)
-      by_last true whole first = (
-        first.0,
-        ap old.sequences (sym (append-nil stage.src)) ∙ whole [] (λ _. refl)
-            ∙ ap (λ x. stage.done ++ mid.sequences x) (append-nil inner.src)
-            ∙ ap (λ x. stage.done ++ x) first.1
-            ∙ sym (append_assoc stage.done ts first.0),
-      )
-      by_last false whole determines = λ z are_bytes. let first = determines z are_bytes in (
-        first.0,
-        whole z (λ e. absurd (false≢true e)) ∙ ap (λ x. stage.done ++ x) first.1
-            ∙ sym (append_assoc stage.done ts first.0),
-      )
+  determined_outside = determined_after old.sequences mid.sequences stage.src inner.src stage.done
+      inner.last shift.plain
 
   -- the same for the bytes that a call has read
   module _ {read : ℕ} (reads : MatchesRead shift read) where

@@ -10,8 +10,8 @@ use Rattle.enc_units.specs.declared.decoder_result.DecoderResult.TheVariants.{In
 use Rattle.enc_units.specs.Output.{Output}
 use Rattle.enc_decoder.specs.Sequence.{Sequence, sequence_bytes, is_repeated_escape}
 use Rattle.enc_decoder.specs.Remainder.{Remainder, AreBytes, Determines, AreDetermined}
-use Rattle.enc_decoder.specs.Call.{DecoderCallInto, DecoderStops, DecodeErrorMode, ReadsToReported}
-use Rattle.enc_decoder.specs.CallRecord.{Call, IsCall}
+use Rattle.enc_decoder.specs.Call.{DecoderCallInto, DecoderStops, ReadsToReported}
+use Rattle.enc_decoder.specs.CallRecord.{Call, CallInto, IsCall, IsCallInto}
 use Rattle.enc_decoder.specs.Converting.{PrefixedCallInto}
 use Rattle.enc_decoder.proofs.ByteLemmas.{bytes-append, determines_by_more}
 use Rattle.enc_decoder.proofs.StageLemmas.{reports_in}
@@ -19,21 +19,7 @@ use Rattle.enc_decoder.proofs.InnerInputLemmas.{most_or_more}
 use Rattle.enc_decoder.proofs.SettledCallLemmas.{settled_stage, empty_leaves, settled_written, grown}
 use Rattle.enc_decoder.proofs.OutputStageLemmas.{Reaches, call_into}
 
--- a call that appends what it writes to an output, as one record
-pub record CallInto : Type 0 where
-  pub src : List ℕ
-  pub last : Bool
-  pub mode : DecodeErrorMode
-  pub before : Output
-  pub after : Output
-  pub result : DecoderResult
-  pub read : ℕ
-  pub replaced : Bool
-
-abbrev pub IsCallInto : (ℕ → List ℕ) → Remainder → Remainder → CallInto → Type 0
-IsCallInto units_of old new c =
-    DecoderCallInto units_of old new c.src c.last c.mode c.before c.after c.result c.read c.replaced
-
+-- the same for all bytes, held and others
 abbrev pub IsPrefixedInto : (ℕ → List ℕ) → Remainder → Remainder → CallInto → Type 0
 IsPrefixedInto units_of old new c =
     PrefixedCallInto units_of old new c.src c.last c.mode c.before c.after c.result c.read
