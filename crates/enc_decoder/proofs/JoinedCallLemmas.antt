@@ -4,10 +4,10 @@ use Rattle.std.proofs.Common.{◌≡◌, ℕ, ◌+◌, ◌-◌, ◌<◌, ◌≤�
 use Rattle.std.proofs.Common.{refl, ap, ◌∙◌, sym, arith, append_assoc, ◌||◌, inl, inr, subst, ◌⊎◌}
 use Rattle.std.proofs.lemmas.Bool.{false≢true}
 use Rattle.std.proofs.lemmas.List.{append-nil, length-append, take-append-le, drop-append-le}
-use Rattle.std.proofs.Math.Seq.{take-append_seam, drop-append_seam}
+use Rattle.std.proofs.Math.Seq.{take-append_seam}
 use Rattle.enc_units.specs.declared.decoder_result.DecoderResult.{DecoderResult}
 use Rattle.enc_units.specs.declared.decoder_result.DecoderResult.TheVariants.{InputEmpty, OutputFull, Malformed}
-use Rattle.enc_units.specs.Output.{Output}
+use Rattle.enc_units.specs.Output.{Output, with_appended}
 use Rattle.enc_decoder.specs.Sequence.{Sequence, sequence_bytes, is_repeated_escape}
 use Rattle.enc_decoder.specs.Remainder.{Remainder, AreBytes, Determines, AreDetermined}
 use Rattle.enc_decoder.specs.Call.{DecoderCallInto, DecoderStops, ReadsToReported}
@@ -16,8 +16,9 @@ use Rattle.enc_decoder.specs.Converting.{PrefixedCallInto}
 use Rattle.enc_decoder.proofs.ByteLemmas.{bytes-append, determines_by_more}
 use Rattle.enc_decoder.proofs.StageLemmas.{reports_in}
 use Rattle.enc_decoder.proofs.InnerInputLemmas.{most_or_more}
-use Rattle.enc_decoder.proofs.SettledCallLemmas.{settled_stage, empty_leaves, settled_written, grown}
-use Rattle.enc_decoder.proofs.OutputStageLemmas.{Reaches, call_into}
+use Rattle.enc_decoder.proofs.TwoCallsLemmas.{two_calls}
+use Rattle.enc_units.proofs.OutputLemmas.{with_appended-with_appended, room_left}
+use Rattle.std.proofs.Math.ListN.{drop_of_length-le}
 
 -- the same for all bytes, held and others
 abbrev pub IsPrefixedInto : (ℕ → List ℕ) → Remainder → Remainder → CallInto → Type 0
@@ -223,7 +224,7 @@ pub joins : {units_of : ℕ → List ℕ} {old mid new : Remainder} {held : List
       read = length held - 0 + c.read;
       replaced = had || c.replaced;
     })
-joins {units_of} {old} {mid} {new} {held} {before} {given} {had} {c} bytes also first second =
+joins {held = held} {before} {given} {had} {c} bytes also first second =
     let held_call : Call = record {
       src = held;
       last = false;
@@ -234,35 +235,37 @@ joins {units_of} {old} {mid} {new} {held} {before} {given} {had} {c} bytes also 
       wrote = first.wrote;
       replaced = had;
     } in
+    let next_call : Call = record {
+      src = c.src;
+      last = c.last;
+      mode = c.mode;
+      room = c.before.room;
+      result = c.result;
+      read = c.read;
+      wrote = second.wrote;
+      replaced = c.replaced;
+    } in
     let all_read = first.call.call.stops.all_read in
-    let rest : drop given (held ++ c.src) ≡ c.src =
-    ap (λ k. drop k (held ++ c.src)) all_read ∙ drop-append_seam held c.src in
-    let reaches : Reaches units_of old mid before c.before (record
-    (settled_stage units_of c.mode held_call first.call.call.done)
-    { src = held ++ c.src; last = c.last }) = record {
-      bytes = bytes-append held c.src bytes also;
-      leaves = grown c.src bytes also (empty_leaves held_call refl first.call) c.last refl;
-      written = settled_written held_call InputEmpty (record {
+    let both = two_calls {first = held_call} {second = next_call} bytes also (record {
+      src = ap (λ x. x ++ c.src) (sym (drop_of_length-le held (omega (arith, all_read))));
+      at_end = λ e. cc;
+      settled = record {
         keeps = refl;
         fatal = λ is_fatal. is_fatal;
         not_ended = refl;
         not_full = λ e. cc;
         replaces = λ l a e. cc;
-      }) first.call;
-      accounted = ap (λ x. old.pending ++ x)
-          (take-append-le given held c.src first.call.call.within) ∙ first.call.accounted;
-      onto = first.onto;
-      room = refl;
-    } in
-    let next = subst (λ x. IsCallInto units_of mid new (record c { src = x })) (sym rest) second in
-    let second_call : Call = record held_call {
-      src = c.src;
-      last = c.last;
-      room = c.before.room;
-      read = c.read;
-      wrote = second.wrote;
-      replaced = c.replaced;
-    } in
-    with_bytes refl (omega (arith, all_read))
-    (call_into reaches refl (λ is_fatal. is_fatal)
-    (reports_in second_call c.result second.call.call) next (λ _. omega arith))
+      };
+      part = λ done. record {
+        room = room_left before c.before first.wrote first.onto;
+        keeps = refl;
+        fatal = λ is_fatal. is_fatal;
+        reported = reports_in next_call c.result second.call.call;
+      };
+    }) first.call second.call in
+    with_bytes refl (omega (arith, all_read)) (record {
+      wrote = first.wrote ++ second.wrote;
+      onto = second.onto ∙ ap (λ o. with_appended o second.wrote) first.onto
+          ∙ with_appended-with_appended before first.wrote second.wrote;
+      call = both;
+    })

@@ -10,14 +10,8 @@ use Rattle.enc_decoder.specs.Remainder.{AreBytes, AreFirstSequences, Determines}
 use Rattle.enc_decoder.specs.RuleLaws.{IsDeterminedWithin, IsLookahead, IsDeterminedByEnd, HasLookahead}
 use Rattle.enc_decoder.specs.Lookahead.{CoverLookahead}
 use Rattle.enc_decoder.proofs.ByteLemmas.{bytes-append, bytes-drop}
-use Rattle.enc_decoder.proofs.SegmentationLemmas.{sequences_of-nil, sequences_of-cons}
+use Rattle.enc_decoder.proofs.SegmentationLemmas.{sequences_of-nil, sequences_of-cons, first_of, rest_of}
 use Rattle.enc_decoder.proofs.FirstSequenceLemmas.{same_by_sequence, within_by}
-
-first_is : (s t : Sequence) (ss ts : List Sequence) → s ∷ ss ≡ t ∷ ts → s ≡ t
-first_is s t ss ts e = cc
-
-rest_is : (s t : Sequence) (ss ts : List Sequence) → s ∷ ss ≡ t ∷ ts → ss ≡ ts
-rest_is s t ss ts e = cc
 
 none_begin : (s : Sequence) (ss : List Sequence) → AreFirstSequences (s ∷ ss) [] → ⊥
 none_begin s ss first = let none_is_one : [] ≡ s ∷ (ss ++ first.0) = first.1 in cc
@@ -35,10 +29,10 @@ module _ (rule : Rule) (law : HasLookahead rule) where
     more = (rule set b z).more
 
     s_is : s ≡ head_sequence (rule set b z) b z
-    s_is = first_is _ _ _ _ (sym whole ∙ sequences_of-cons rule set b z)
+    s_is = first_of _ _ _ _ (sym whole ∙ sequences_of-cons rule set b z)
 
     following : sequences_of rule (rule set b z).set (drop more z) ≡ ss ++ rest
-    following = rest_is _ _ _ _ (sym (sequences_of-cons rule set b z) ∙ whole)
+    following = rest_of _ _ _ _ (sym (sequences_of-cons rule set b z) ∙ whole)
 
     -- other bytes with the same first sequence have the same head
     same_head : (y : List ℕ) → AreFirstSequences (s ∷ ss) (sequences_of rule set (b ∷ y))
@@ -46,7 +40,7 @@ module _ (rule : Rule) (law : HasLookahead rule) where
     same_head y g =
         same_by_sequence (rule set b y) (rule set b z) b y z (within_by rule law set b y)
         (within_by rule law set b z)
-        (first_is _ _ _ _ (sym (sequences_of-cons rule set b y) ∙ g.1) ∙ s_is)
+        (first_of _ _ _ _ (sym (sequences_of-cons rule set b y) ∙ g.1) ∙ s_is)
 
     -- any bytes may follow the lookahead
     still_determined : (n j : ℕ) → IsDeterminedWithin rule set b z n → more + n ≤ j → (y : List ℕ)
@@ -132,7 +126,7 @@ module _ (rule : Rule) (law : HasLookahead rule) where
       rest_determined = λ y e.
           let first = determines y e in let lookahead = looked in (
             first.0,
-            rest_is _ _ _ _ (sym (shown lookahead.0 j lookahead.1.determined
+            rest_of _ _ _ _ (sym (shown lookahead.0 j lookahead.1.determined
                 (omega (arith, lookahead.2)) enough_bytes y) ∙ first.1),
           )
 

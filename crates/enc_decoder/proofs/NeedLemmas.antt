@@ -17,7 +17,8 @@ use Rattle.enc_decoder.specs.Need.{sequences_before_malformed, needed_sequences,
 use Rattle.enc_decoder.specs.Need.{MeetsDecodeNeed, MeetsDecodeNeedInto}
 use Rattle.enc_decoder.specs.CallRecord.{Call, CallInto, IsCall, IsCallInto}
 use Rattle.enc_decoder.proofs.SequenceLemmas.{units-append}
-use Rattle.enc_decoder.proofs.DeterminedLemmas.{determines_fewer, determined_at, LeavesOff, determined_after, determined_past}
+use Rattle.enc_decoder.proofs.DeterminedLemmas.{determines_fewer, determined_at, LeavesOff, determined_after}
+use Rattle.enc_decoder.proofs.DeterminedLemmas.{determined_past}
 
 -- of two lists that begin a third, one begins the other
 
@@ -122,7 +123,8 @@ none_needed units_of (Fatal keeps) = refl
 module _ (units_of : ℕ → List ℕ) where
   pub units-one : (s : Sequence) (text : List ℕ) → s.text ≡ text
       → units units_of (s ∷ []) ≡ length (units_of_text units_of text)
-  units-one s text is_text = ap (λ t. length (units_of_text units_of t)) (append-nil s.text ∙ is_text)
+  units-one s text is_text =
+      ap (λ t. length (units_of_text units_of t)) (append-nil s.text ∙ is_text)
 
   -- after one that is reported nothing more is needed
   needed_cut : (mode : DecodeErrorMode) (put : List Sequence) (s : Sequence) (ts : List Sequence)
@@ -251,8 +253,8 @@ module _ {units_of : ℕ → List ℕ} {old new : Remainder} (c : Call)
           → (last ≡ true → new.sequences [] ≡ [])
           → AreDetermined last old.sequences c.src (call.done ++ s ∷ ts) → ⊥
       by_last true leaves_off none_determined none_left determined =
-          let first = determined_past old.sequences new.sequences c.src rest call.done true leaves_off
-          (s ∷ ts) determined in
+          let first = determined_past old.sequences new.sequences c.src rest call.done true
+          leaves_off (s ∷ ts) determined in
           let none_unread : rest ≡ [] =
           drop_of_length-le c.src (omega (arith, stops.all_read)) in
           let none_is_one : [] ≡ s ∷ (ts ++ first.0) =

@@ -88,64 +88,67 @@ pub takes_none : {C : Type 0} (units_of : ℕ → List ℕ) (state : C → Codec
 takes_none units_of state c src o =
     record { run = takes_nothing units_of (state c) src o; none_malformed = refl }
 
--- A run is taken after another.
-pub takes_both : {C : Type 0} (units_of : ℕ → List ℕ) (state : C → CodecState) (c m n : C)
-    (src : List ℕ)
-    (read more : ℕ) (before mid after : Output) (rest : List ℕ) → rest ≡ drop read src
-    → TakesRun units_of state c m src read before mid
-    → TakesRun units_of state m n rest more mid after
-    → TakesRun units_of state c n src (read + more) before after
-takes_both units_of state c m n src read more before mid after rest e takes_run given =
-    let takes_more = subst (λ z. TakesRun units_of state m n z more mid after) e given in
-    let bytes = take more (drop read src) in
-    let first_units = units_of_text units_of (sequence_text takes_run.run.taken) in
-    let more_units = units_of_text units_of (sequence_text takes_more.run.taken) in
-    let both = units-append units_of takes_run.run.taken takes_more.run.taken in
-    record {
-      run = record {
-        taken = takes_run.run.taken ++ takes_more.run.taken;
-        within = omega (arith, takes_run.run.within, takes_more.run.within, length-drop read src);
-        bytes = sequence_bytes-append takes_run.run.taken takes_more.run.taken
-            ∙ ap (λ z. z ++ sequence_bytes takes_more.run.taken) takes_run.run.bytes
-            ∙ ap (λ z. take read src ++ z) takes_more.run.bytes
+-- more of them after those that are taken
+module _ {units_of : ℕ → List ℕ} {u v : CodecState} {src : List ℕ} {read : ℕ}
+    {before mid : Output} (first : TakesSequences units_of u v src read before mid) where
+  pub takes_more : {w : CodecState} {more : ℕ} {after : Output}
+      → TakesSequences units_of v w (drop read src) more mid after
+      → TakesSequences units_of u w src (read + more) before after
+  takes_more {w} {more} next =
+      let bytes = take more (drop read src) in
+      let first_units = units_of_text units_of (sequence_text first.taken) in
+      let more_units = units_of_text units_of (sequence_text next.taken) in
+      let both = units-append units_of first.taken next.taken in
+      record {
+        taken = first.taken ++ next.taken;
+        within = omega (arith, first.within, next.within, length-drop read src);
+        bytes = sequence_bytes-append first.taken next.taken
+            ∙ ap (λ z. z ++ sequence_bytes next.taken) first.bytes
+            ∙ ap (λ z. take read src ++ z) next.bytes
             ∙ sym (take-add read more src);
-        first = λ w may_follow. ap (remainder_of (state c)).sequences
-            (ap (λ z. z ++ w) (take-add read more src)
-            ∙ append_assoc (take read src) bytes w)
-            ∙ takes_run.run.first (bytes ++ w) (follows_first src read more w may_follow)
-            ∙ ap (λ ss. takes_run.run.taken ++ ss)
-            (takes_more.run.first w (follows_second src read more w may_follow))
-            ∙ sym (append_assoc takes_run.run.taken takes_more.run.taken
-            ((remainder_of (state n)).sequences w));
-        next_state =
-            takes_more.run.next_state ∙ ap
-            (λ (s : CodecState). record s { set = set_after s.set takes_more.run.taken })
-            takes_run.run.next_state
-            ∙ ap (λ k. record (state c) { set = k })
-            (sym (set_after-append (state c).set takes_run.run.taken takes_more.run.taken));
-        scalars = scalars_of-append takes_run.run.taken takes_more.run.taken takes_run.run.scalars
-            takes_more.run.scalars;
+        first = λ y may_follow. ap (remainder_of u).sequences
+            (ap (λ z. z ++ y) (take-add read more src) ∙ append_assoc (take read src) bytes y)
+            ∙ first.first (bytes ++ y) (follows_first src read more y may_follow)
+            ∙ ap (λ ss. first.taken ++ ss)
+            (next.first y (follows_second src read more y may_follow))
+            ∙ sym (append_assoc first.taken next.taken ((remainder_of w).sequences y));
+        next_state = next.next_state
+            ∙ ap (λ (s : CodecState). record s { set = set_after s.set next.taken })
+            first.next_state
+            ∙ ap (λ k. record u { set = k }) (sym (set_after-append u.set first.taken next.taken));
+        scalars = scalars_of-append first.taken next.taken first.scalars next.scalars;
         fits = omega (
           arith,
           ap length both,
           length-append first_units more_units,
-          takes_run.run.fits,
-          takes_more.run.fits,
-          room_left before mid first_units takes_run.run.written,
+          first.fits,
+          next.fits,
+          room_left before mid first_units first.written,
         );
-        written =
-            takes_more.run.written ∙ ap (λ o. with_appended o more_units) takes_run.run.written
+        written = next.written ∙ ap (λ o. with_appended o more_units) first.written
             ∙ with_appended-with_appended before first_units more_units
             ∙ ap (with_appended before) (sym both);
-        none_pending = λ h. elim (cases_lt 0 read) [
-          | inl r ↦ takes_run.run.none_pending r
-          | inr r ↦ sym (ap (λ (s : CodecState). s.pending) takes_run.run.next_state)
-              ∙ takes_more.run.none_pending (omega arith)
+        none_pending = λ some. elim (cases_lt 0 read) [
+          | inl some_first ↦ first.none_pending some_first
+          | inr none_first ↦ sym (ap (λ (s : CodecState). s.pending) first.next_state)
+              ∙ next.none_pending (omega arith)
         ];
-        none_taken = λ z. ap (λ ss. ss ++ takes_more.run.taken)
-            (takes_run.run.none_taken (omega arith))
-            ∙ takes_more.run.none_taken (omega arith);
-      };
-      none_malformed = any_malformed-append takes_run.run.taken takes_more.run.taken
-          ∙ rw (takes_run.none_malformed, takes_more.none_malformed) refl;
-    }
+        none_taken = λ none. ap (λ ss. ss ++ next.taken) (first.none_taken (omega arith))
+            ∙ next.none_taken (omega arith);
+      }
+
+-- a run is taken after another
+module _ {C : Type 0} {units_of : ℕ → List ℕ} {state : C → CodecState} {c : C} {src : List ℕ}
+    {before : Output} where
+  pub takes_both : {m n : C} {read more : ℕ} {mid after : Output} {rest : List ℕ}
+      → rest ≡ drop read src → TakesRun units_of state c m src read before mid
+      → TakesRun units_of state m n rest more mid after
+      → TakesRun units_of state c n src (read + more) before after
+  unfolding takes_more
+  takes_both {m} {n} {more = more} {mid} {after} is_rest first given =
+      let next = subst (λ z. TakesRun units_of state m n z more mid after) is_rest given in
+      record {
+        run = takes_more first.run next.run;
+        none_malformed = any_malformed-append first.run.taken next.run.taken
+            ∙ rw (first.none_malformed, next.none_malformed) refl;
+      }

@@ -225,7 +225,4 @@ pub takes_run_after : {units_of : ℕ → List ℕ} {c m n : Iso2022JpState} {sr
     → TakesRun units_of jp_state c m src read before mid
     → TakesRun units_of jp_state m n rest more mid after
     → TakesRun units_of jp_state c n src (read + more) before after
-takes_run_after {units_of} {c} {m} {n} {src} {rest} {read} {more} {before} {mid} {after} rest_is
-    first_run next_run =
-    takes_both units_of jp_state c m n src read more before mid after rest rest_is first_run
-    next_run
+takes_run_after rest_is first_run next_run = takes_both rest_is first_run next_run
