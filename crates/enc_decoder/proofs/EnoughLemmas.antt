@@ -128,12 +128,12 @@ pub never_passes : (units_of : ℕ → List ℕ) (mode : DecodeErrorMode) (most 
     → ((z : List ℕ) → needed_units units_of mode (sequences_of v.rule v.set z) ≤ most (length z))
     → (src : List ℕ) (last : Bool) (n : ℕ) → most (length v.pending + length src) ≤ n
     → NeedExceeds units_of mode (remainder_of v) src last n → ⊥
-never_passes units_of mode most v h src last n l p =
+never_passes units_of mode most v within src last n is_most exceeds =
     omega (
       arith,
-      l,
-      h (v.pending ++ src),
-      needs_all units_of mode v src last n p,
+      is_most,
+      within (v.pending ++ src),
+      needs_all units_of mode v src last n exceeds,
       ap most
           (length-append v.pending src),
     )

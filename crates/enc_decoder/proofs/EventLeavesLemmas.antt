@@ -5,6 +5,7 @@ use Rattle.std.proofs.Common.{length-drop}
 use Rattle.std.proofs.Math.ListN.{drop_of_length-le}
 use Rattle.enc_decoder.specs.declared.byte_codec.Emission.{Emission}
 use Rattle.enc_decoder.specs.declared.machine.NextEvent.TheVariants.{NeedsInput, HoldsByte, Emits}
+use Rattle.enc_units.specs.declared.decoder_result.DecoderResult.{DecoderResult}
 use Rattle.enc_units.specs.declared.decoder_result.DecoderResult.TheVariants.{InputEmpty, OutputFull, Malformed}
 use Rattle.enc_units.specs.Output.{units_of_text}
 use Rattle.enc_decoder.specs.Sequence.{Sequence, is_malformed, is_repeated_escape}
@@ -12,7 +13,7 @@ use Rattle.enc_decoder.specs.Segmentation.{sequences_of}
 use Rattle.enc_decoder.specs.Remainder.{Remainder, AreBytes, AreFirstSequences, Determines}
 use Rattle.enc_decoder.specs.CodecState.{CodecState, remainder_of}
 use Rattle.enc_decoder.specs.CodecLaw.{IsNextEvent, MayFollowRead, text_chars}
-use Rattle.enc_decoder.specs.Call.{RawDecoderCall, DecodeErrorMode, ReadsToReported, AreReportedLens}
+use Rattle.enc_decoder.specs.Call.{RawDecoderCall, DecoderStops, DecodeErrorMode, ReadsToReported, AreReportedLens}
 use Rattle.enc_decoder.specs.Call.{is_replacement_mode, keeps_room}
 use Rattle.enc_decoder.proofs.SegmentationLemmas.{sequences_of-nil, goes_on}
 use Rattle.enc_decoder.proofs.DeterminedLemmas.{determined_at, none_determined}
@@ -20,6 +21,29 @@ use Rattle.enc_decoder.proofs.ByteLemmas.{bytes-drop, determines_by_more}
 use Rattle.enc_decoder.proofs.NextEventLemmas as event
 use Rattle.enc_decoder.proofs.StageLemmas.{Stage}
 use Rattle.enc_decoder.proofs.LeavesLemmas.{Leaves, AreAccounted, stage_at}
+
+-- a call that reads and does nothing
+nothing_done : {units_of : ℕ → List ℕ} {now : Remainder} {src : List ℕ} {last : Bool}
+    {mode : DecodeErrorMode} {room : ℕ} {result : DecoderResult}
+    → DecoderStops units_of now now src last mode room [] [] 0 result
+    → RawDecoderCall units_of now now src last mode room result 0 [] false
+nothing_done {now = now} stops = record {
+  call = record {
+    put = [];
+    done = [];
+    within = omega arith;
+    residual = λ z _. refl;
+    set = refl;
+    text = refl;
+    scalars = refl;
+    fits = omega arith;
+    flag = refl;
+    none_replaced = λ _. refl;
+    stops = stops;
+  };
+  accounted = append-nil now.pending;
+  goes_on = λ y _ _. refl;
+}
 
 module _ {C : Type 0} (state : C → CodecState) (c : C) (stage : Stage) where
   abbrev now : Remainder
@@ -67,31 +91,15 @@ module _ {C : Type 0} (state : C → CodecState) (c : C) (stage : Stage) where
       → RawDecoderCall units_of now now rest stage.last stage.mode room InputEmpty 0 [] false
   input_empty needs =
       let all_read : rest ≡ [] = drop_of_length-le stage.src needs.0 in
-      record {
-        call = record {
-          put = [];
-          done = [];
-          within = omega arith;
-          residual = λ z _. refl;
-          set = refl;
-          text = refl;
-          scalars = refl;
-          fits = omega arith;
-          flag = refl;
-          none_replaced = λ _. refl;
-          stops = record {
-            only_put = refl;
-            all_read = sym (ap length all_read);
-            none_determined = λ _ s determines. needs.2 s
-                (subst (λ x. Determines now.sequences x (s ∷ [])) all_read determines);
-            none_left = λ is_last. ap (λ x. sequences_of (state c).rule (state c).set (x ++ []))
-                (needs.1 is_last) ∙ sequences_of-nil (state c).rule (state c).set;
-            none_pending = needs.1;
-          };
-        };
-        accounted = append-nil (state c).pending;
-        goes_on = λ y _ _. refl;
-      }
+      nothing_done (record {
+        only_put = refl;
+        all_read = sym (ap length all_read);
+        none_determined = λ _ s determines. needs.2 s
+            (subst (λ x. Determines now.sequences x (s ∷ [])) all_read determines);
+        none_left = λ is_last. ap (λ x. sequences_of (state c).rule (state c).set (x ++ []))
+            (needs.1 is_last) ∙ sequences_of-nil (state c).rule (state c).set;
+        none_pending = needs.1;
+      })
 
   -- a sequence
   module _ {s : Emission C} (emits : IsNextEvent state c stage.src stage.read stage.last (Emits s))
@@ -205,34 +213,18 @@ module _ {C : Type 0} (state : C → CodecState) (c : C) (stage : Stage) where
           → AreBytes stage.src → (keeps_room mode ≡ false → is_malformed s.kind ≡ false)
           → room < length (units_of_text units_of (text_chars s.text))
           → RawDecoderCall units_of now now rest stage.last mode room OutputFull 0 [] false
-      output_full bytes not_reported full = record {
-        call = record {
-          put = [];
-          done = [];
-          within = omega arith;
-          residual = λ z _. refl;
-          set = refl;
-          text = refl;
-          scalars = refl;
-          fits = omega arith;
-          flag = refl;
-          none_replaced = λ _. refl;
-          stops = record {
-            only_put = refl;
-            next = emitted;
-            determined = determined_at stage.last now.sequences rest (emitted ∷ []) (λ z ends.
-                comes (rest ++ z) (event.rest_follows stage.src stage.read stage.last z ends));
-            not_reported = not_reported;
-            full = omega (arith, full);
-            reads = record {
-              not_shown = inl refl;
-              shown_next = λ unread. shown_then 1 bytes (omega arith) (omega arith);
-            };
-          };
+      output_full bytes not_reported full = nothing_done (record {
+        only_put = refl;
+        next = emitted;
+        determined = determined_at stage.last now.sequences rest (emitted ∷ []) (λ z ends.
+            comes (rest ++ z) (event.rest_follows stage.src stage.read stage.last z ends));
+        not_reported = not_reported;
+        full = omega (arith, full);
+        reads = record {
+          not_shown = inl refl;
+          shown_next = λ unread. shown_then 1 bytes (omega arith) (omega arith);
         };
-        accounted = append-nil (state c).pending;
-        goes_on = λ y _ _. refl;
-      }
+      })
 
       -- it is malformed, and is reported
       abbrev pub reported : {units_of : ℕ → List ℕ} {mode : DecodeErrorMode} {room n a : ℕ}

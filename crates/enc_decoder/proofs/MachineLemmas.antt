@@ -19,7 +19,8 @@ use Rattle.enc_decoder.proofs.StageLemmas.{Stage, HasWritten, reports_in, nothin
 use Rattle.enc_decoder.proofs.InnerCallLemmas.{reports_escape}
 use Rattle.enc_decoder.proofs.LeavesLemmas.{Leaves, AreAccounted, call_at, stage_at}
 use Rattle.enc_decoder.proofs.OutputStageLemmas.{Reaches, Progress, progress_at, room_at, call_into, reaches_on}
-use Rattle.enc_decoder.proofs.NextEventLemmas.{takes_or, not_late}
+use Rattle.enc_decoder.proofs.FirstSequenceLemmas.{true_or_false}
+use Rattle.enc_decoder.proofs.NextEventLemmas.{not_late}
 use Rattle.enc_decoder.proofs.EventLeavesLemmas as event
 
 within_room : (m n : ℕ) → nat_le m n ≡ true → m ≤ n
@@ -76,7 +77,7 @@ module _ {C : Type 0} {units_of : ℕ → List ℕ} (state : C → CodecState) {
           before then OutputFull stage.read stage.replaced
       stops_full unchanged keeps none_for_replacement none_for_text =
           let full : at.room < length (units_of_text units_of (text_chars s.text)) =
-          elim (takes_or (is_malformed s.kind)) [
+          elim (true_or_false (is_malformed s.kind)) [
             | inl malformed ↦ omega (
               arith,
               none_for_replacement malformed,
@@ -87,7 +88,7 @@ module _ {C : Type 0} {units_of : ℕ → List ℕ} (state : C → CodecState) {
                 (none_for_text valid)
           ] in
           let not_reported : keeps_room stage.mode ≡ false → is_malformed s.kind ≡ false =
-          λ keeps_none. elim (takes_or (is_malformed s.kind)) [
+          λ keeps_none. elim (true_or_false (is_malformed s.kind)) [
             | inl malformed ↦ absurd (false≢true (sym keeps_none ∙ keeps malformed))
             | inr valid ↦ valid
           ] in

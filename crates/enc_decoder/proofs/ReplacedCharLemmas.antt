@@ -63,7 +63,11 @@ module _ {units_of : ℕ → List ℕ} (v : CodecState) {src : List ℕ} {at n c
             ∙ ap (λ q. next ∷ sequences_of v.rule v.set (q ++ y)) (sym none_pending);
         next_state = refl;
         scalars = scalar;
-        fits = omega (arith, ap length same_units, within_room (length (units_of c)) mid.room fits_room);
+        fits = omega (
+          arith,
+          ap length same_units,
+          within_room (length (units_of c)) mid.room fits_room,
+        );
         written = onto ∙ ap (with_appended mid) same_units;
         none_pending = λ _. none_pending;
         none_taken = λ none. absurd (omega arith);
