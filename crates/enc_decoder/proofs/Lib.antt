@@ -20,6 +20,7 @@ pub mod StageLemmas
 pub mod InnerInputLemmas
 pub mod InnerCallLemmas
 pub mod LeavesLemmas
+pub mod StateLeavesLemmas
 pub mod SettledCallLemmas
 pub mod TwoCallsLemmas
 pub mod DroppedPrefixLemmas

@@ -15,10 +15,11 @@ use Rattle.enc_decoder.specs.CodecState.{CodecState, remainder_of}
 use Rattle.enc_decoder.specs.CodecLaw.{IsNextEvent, text_chars}
 use Rattle.enc_decoder.specs.Call.{RawDecoderCall, DecoderCallInto, is_replacement_mode, keeps_room}
 use Rattle.enc_decoder.proofs.SequenceLemmas.{or_false}
-use Rattle.enc_decoder.proofs.StageLemmas.{Stage, HasWritten, reports_in, nothing_written}
+use Rattle.enc_decoder.proofs.StageLemmas.{Stage, reports_in, nothing_written}
 use Rattle.enc_decoder.proofs.InnerCallLemmas.{reports_escape}
-use Rattle.enc_decoder.proofs.LeavesLemmas.{Leaves, AreAccounted, call_at, stage_at}
-use Rattle.enc_decoder.proofs.OutputStageLemmas.{Reaches, Progress, progress_at, room_at, call_into, reaches_on}
+use Rattle.enc_decoder.proofs.StateLeavesLemmas.{LeadsOn}
+use Rattle.enc_decoder.proofs.LeavesLemmas.{call_at}
+use Rattle.enc_decoder.proofs.OutputStageLemmas.{Reaches, Progress, progress_at, room_at, call_into, reaches_state}
 use Rattle.enc_decoder.proofs.FirstSequenceLemmas.{true_or_false}
 use Rattle.enc_decoder.proofs.NextEventLemmas.{not_late}
 use Rattle.enc_decoder.proofs.EventLeavesLemmas as event
@@ -61,9 +62,8 @@ module _ {C : Type 0} {units_of : ℕ → List ℕ} (state : C → CodecState) {
   pub holds : {n : C} → IsNextEvent state c stage.src stage.read stage.last (HoldsByte n)
       → Progress units_of old (remainder_of (state n)) stage.src stage.last stage.mode before at
       (stage.read + 1) stage.replaced
-  holds held = progress_at (reaches_on reaches (event.hold_leaves state c stage held)
-      nothing_written (event.hold_accounted state c stage held) (sym (with_appended-nil at)))
-      refl (or_false stage.replaced)
+  holds held = progress_at (reaches_state reaches (event.holds_byte state c stage held)
+      nothing_written (sym (with_appended-nil at))) refl (or_false stage.replaced)
 
   module _ {s : Emission C} (emits : IsNextEvent state c stage.src stage.read stage.last (Emits s))
     where
@@ -92,55 +92,27 @@ module _ {C : Type 0} {units_of : ℕ → List ℕ} (state : C → CodecState) {
             | inl malformed ↦ absurd (false≢true (sym keeps_none ∙ keeps malformed))
             | inr valid ↦ valid
           ] in
-          goes_on reaches (event.output_full state c stage emits reaches.bytes not_reported full)
+          goes_on reaches (event.output_full state c stage emits not_reported full)
           (λ e. cc) unchanged (omega arith)
 
       -- the sequence is put out
-
-      puts : {n read : ℕ} {then : Output}
-          → ((wrote : List ℕ) → Leaves (remainder_of (state c)) (remainder_of (state s.next))
-          (stage_at stage n (event.emitted state c stage emits ∷ []) wrote false))
-          → ((wrote : List ℕ) → AreAccounted (remainder_of (state c)) (remainder_of (state s.next))
-          (stage_at stage n (event.emitted state c stage emits ∷ []) wrote false))
-          → is_malformed s.kind ≡ false → AreScalars (text_chars s.text)
+      pub puts : {n read : ℕ} {then : Output}
+          → LeadsOn (state c) (state s.next) stage n (event.emitted state c stage emits ∷ [])
+          → stage.read + n ≡ read → is_malformed s.kind ≡ false → AreScalars (text_chars s.text)
           → nat_le (length (units_of_text units_of (text_chars s.text))) at.room ≡ true
           → then ≡ with_appended at (units_of_text units_of (text_chars s.text))
-          → stage.read + n ≡ read
           → Progress units_of old (remainder_of (state s.next)) stage.src stage.last stage.mode
           before then read stage.replaced
-      puts leaves accounted valid scalars fits onto same_read =
+      puts leads same_read valid scalars fits onto =
           let units = units_of_text units_of (text_chars s.text) in
           let same_text = sym (append-nil (text_chars s.text)) in
-          let written : HasWritten units_of
-          (stage_at stage _ (event.emitted state c stage emits ∷ []) units false) = record {
+          progress_at (reaches_state reaches leads (record {
             text = ap (units_of_text units_of) same_text;
             scalars = subst AreScalars same_text scalars;
             fits = omega (arith, within_room (length units) at.room fits, room_at reaches);
             flag = sym (ap (λ b. b || false) valid);
             none_replaced = λ _. refl;
-          } in
-          progress_at (reaches_on reaches (leaves units) written (accounted units) onto) same_read
-          (or_false stage.replaced)
-
-      pub puts_with : s.takes_byte ≡ true → {then : Output} → is_malformed s.kind ≡ false
-          → AreScalars (text_chars s.text)
-          → nat_le (length (units_of_text units_of (text_chars s.text))) at.room ≡ true
-          → then ≡ with_appended at (units_of_text units_of (text_chars s.text))
-          → Progress units_of old (remainder_of (state s.next)) stage.src stage.last stage.mode
-          before then (stage.read + 1) stage.replaced
-      puts_with takes valid scalars fits onto =
-          puts (event.leaves_with state c stage emits takes reaches.bytes)
-          (event.accounted_with state c stage emits takes) valid scalars fits onto refl
-
-      pub puts_before : s.takes_byte ≡ false → {then : Output} → is_malformed s.kind ≡ false
-          → AreScalars (text_chars s.text)
-          → nat_le (length (units_of_text units_of (text_chars s.text))) at.room ≡ true
-          → then ≡ with_appended at (units_of_text units_of (text_chars s.text))
-          → Progress units_of old (remainder_of (state s.next)) stage.src stage.last stage.mode
-          before then stage.read stage.replaced
-      puts_before leaves valid scalars fits onto =
-          puts (event.leaves_before state c stage emits leaves reaches.bytes)
-          (event.accounted_before state c stage emits leaves) valid scalars fits onto (omega arith)
+          }) onto) same_read (or_false stage.replaced)
 
       -- the sequence is malformed, and is reported
       module _ {a : ℕ} (fatal : is_replacement_mode stage.mode ≡ false)
@@ -149,19 +121,16 @@ module _ {C : Type 0} {units_of : ℕ → List ℕ} (state : C → CodecState) {
         pub reports_with : s.takes_byte ≡ true
             → DecoderCallInto units_of old (remainder_of (state s.next)) stage.src stage.last
             stage.mode before at (Malformed s.len a) (stage.read + 1) stage.replaced
-        reports_with takes = goes_on reaches (event.reported state c stage emits
-            (event.leaves_with state c stage emits takes reaches.bytes [])
-            (event.accounted_with state c stage emits takes [])
+        reports_with takes = goes_on reaches (event.reported state c stage emits reaches.bytes
+            (event.leads_with state c stage emits takes)
             (event.reads_with state c stage emits takes reaches.bytes) fatal malformed is_pending
             kept) (λ _. reaches.leaves.soon) refl refl
 
         pub reports_before : s.takes_byte ≡ false
             → DecoderCallInto units_of old (remainder_of (state s.next)) stage.src stage.last
             stage.mode before at (Malformed s.len a) stage.read stage.replaced
-        reports_before leaves = goes_on reaches (event.reported state c stage emits
-            (event.leaves_before state c stage emits leaves reaches.bytes [])
-            (event.accounted_before state c stage emits leaves [])
-            (event.reads_before state c stage emits leaves reaches.bytes) fatal malformed is_pending
-            kept)
-            (λ escape. absurd (false≢true (sym (not_late emits.0 leaves) ∙ escape))) refl
+        reports_before keeps_off = goes_on reaches (event.reported state c stage emits
+            reaches.bytes (event.leads_before state c stage emits keeps_off)
+            (event.reads_before state c stage emits keeps_off) fatal malformed is_pending kept)
+            (λ escape. absurd (false≢true (sym (not_late emits.0 keeps_off) ∙ escape))) refl
             (omega arith)

@@ -1,5 +1,5 @@
 -- What comes next, as the loop takes it.
-use Rattle.std.proofs.Common.{◌≡◌, ℕ, ◌<◌, Bool, true, false, List, [], ◌∷◌, ◌++◌, length, get_or, refl, ap, ◌∙◌}
+use Rattle.std.proofs.Common.{◌≡◌, ℕ, ◌<◌, Bool, true, false, List, [], ◌∷◌, ◌++◌, length, get_or, ap, ◌∙◌}
 use Rattle.std.proofs.Common.{sym, subst, append_assoc, inl, inr}
 use Rattle.std.proofs.lemmas.List.{append-nil}
 use Rattle.std.proofs.lemmas.Bool.{false≢true}
@@ -10,22 +10,6 @@ use Rattle.enc_decoder.specs.Remainder.{AreFirstSequences}
 use Rattle.enc_decoder.proofs.FirstSequenceLemmas.{true_or_false}
 use Rattle.enc_decoder.specs.CodecState.{CodecState, remainder_of}
 use Rattle.enc_decoder.specs.CodecLaw.{MayFollowRead, taken_bytes, text_chars, IsNextSequence}
-use Rattle.std.proofs.Common.{drop, drop-cons, suc, arith}
-use Rattle.std.proofs.Math.ListN.{drop_of_length-le}
-
--- what may follow the bytes read: a byte that is next, whatever follows it; or the unread bytes
-pub byte_follows : (src : List ℕ) (read : ℕ) (last : Bool) (y : List ℕ) → read < length src
-    → MayFollowRead src read last (get_or src read 0 ∷ y)
-byte_follows src read last y has_next =
-    record { more = λ _. (y, refl); ended = λ all_read. absurd (omega arith) }
-
-pub rest_follows : (src : List ℕ) (read : ℕ) (last : Bool) (z : List ℕ) → (last ≡ true → z ≡ [])
-    → MayFollowRead src read last (drop read src ++ z)
-rest_follows src read last z ends = record {
-  more = λ has_next.
-      (drop (suc read) src ++ z, ap (λ x. x ++ z) (drop-cons src read 0 has_next));
-  ended = λ all_read is_last. ap (λ x. x ++ z) (drop_of_length-le src all_read) ∙ ends is_last;
-}
 
 -- a held byte is pending, and the state goes on with it
 pub holds_pending : (v n : CodecState) (b : ℕ) → n ≡ record v { pending = v.pending ++ b ∷ [] }

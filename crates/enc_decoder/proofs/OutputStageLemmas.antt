@@ -10,6 +10,8 @@ use Rattle.enc_decoder.specs.Remainder.{Remainder, AreBytes}
 use Rattle.enc_decoder.specs.Call.{RawDecoderCall, DecoderCallInto, DecodeErrorMode, is_replacement_mode, keeps_room}
 use Rattle.enc_decoder.proofs.StageLemmas.{Stage, HasWritten, nothing_written}
 use Rattle.enc_decoder.proofs.InnerCallLemmas.{reports_escape}
+use Rattle.enc_decoder.specs.CodecState.{CodecState, remainder_of}
+use Rattle.enc_decoder.proofs.StateLeavesLemmas.{LeadsOn, state_leaves}
 use Rattle.enc_decoder.proofs.LeavesLemmas.{Leaves, AreAccounted, call_at, stage_at, stage_after, raw_call, leaves_on}
 use Rattle.enc_decoder.proofs.LeavesLemmas.{written_on, accounted_on}
 
@@ -128,3 +130,13 @@ module _ {units_of : ℕ → List ℕ} {old now : Remainder} {before at : Output
     onto = onto_on more onto;
     room = reaches.room;
   }
+
+-- the same where a codec goes on to another state
+pub reaches_state : {units_of : ℕ → List ℕ} {old : Remainder} {v w : CodecState}
+    {before at then : Output} {stage : Stage} {n : ℕ} {ss : List Sequence} {more : List ℕ}
+    {replaced : Bool} → Reaches units_of old (remainder_of v) before at stage
+    → LeadsOn v w stage n ss → HasWritten units_of (stage_at stage n ss more replaced)
+    → then ≡ with_appended at more
+    → Reaches units_of old (remainder_of w) before then (stage_after stage n ss more replaced)
+reaches_state reaches leads written onto =
+    reaches_on reaches (state_leaves reaches.bytes leads) written leads.accounted onto

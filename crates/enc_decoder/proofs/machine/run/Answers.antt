@@ -4,7 +4,8 @@ use Rattle.enc_decoder.proofs.ByteLemmas.{bytes_of_slice}
 use Rattle.enc_decoder.proofs.NextEventLemmas.{holds_rule}
 use Rattle.enc_decoder.proofs.OutputStageLemmas.{start}
 use Rattle.enc_decoder.proofs.TakenRunLemmas.{past_run}
-use Rattle.enc_decoder.proofs.MachineLemmas.{stays, holds, stops_full, puts_with, puts_before, reports_with}
+use Rattle.enc_decoder.proofs.EventLeavesLemmas.{leads_with, leads_before}
+use Rattle.enc_decoder.proofs.MachineLemmas.{stays, holds, stops_full, puts, reports_with}
 use Rattle.enc_decoder.proofs.MachineLemmas.{reports_before}
 use Rattle.enc_decoder.proofs.TakingLemmas.{fewer_with, fewer_before}
 use Rattle.enc_decoder.proofs.NeedLemmas.{meets_into}
@@ -68,11 +69,13 @@ loop-state-preserved g c =
     record {
       progress = elim c.if-shown.branch [
         | then-shown shown ↦ rw shown.end-is
-            (puts_with g.C.ByteCodec.state c.take_run-taken.result.0 progress.reaches
-            c.in-Emits.ensures shown.if-shown.true valid scalars fits written)
+            (puts g.C.ByteCodec.state c.take_run-taken.result.0 progress.reaches c.in-Emits.ensures
+            (leads_with _ _ _ c.in-Emits.ensures shown.if-shown.true) refl valid scalars fits
+            written)
         | else-shown shown ↦ rw shown.end-is
-            (puts_before g.C.ByteCodec.state c.take_run-taken.result.0 progress.reaches
-            c.in-Emits.ensures shown.if-shown.false valid scalars fits written)
+            (puts g.C.ByteCodec.state c.take_run-taken.result.0 progress.reaches c.in-Emits.ensures
+            (leads_before _ _ _ c.in-Emits.ensures shown.if-shown.false) (omega arith) valid scalars
+            fits written)
       ];
       rule = c.in-Emits.ensures.0.same_rule
           ∙ ap (λ (s : CodecState). s.rule) run.run.next_state ∙ c.loop-state.invariant.rule;
