@@ -98,16 +98,16 @@ module _ {C : Type 0} (state : C → CodecState) (c next : C) (text : Text) (kin
         ∷ (remainder_of (state next)).sequences y)
         → IsNextSequence state c may_follow []
         (record { text = text; kind = kind; len = len; takes_byte = false; next = next })
-    shows_before may_follow bytes same_rule parts is_len some not_repeated malformed first = record {
+    shows_before may_follow bytes same_rule parts is_len some not_repeated faults first = record {
       bytes = bytes;
       some = omega arith;
       len = is_len;
       parts = append-nil (state c).pending ∙ parts;
       first = first;
       same_rule = same_rule;
-      replacement = λ faulty. (malformed faulty).0;
+      replacement = λ faulty. (faults faulty).0;
       bounds = λ faulty. are_bounded kind len (length (state next).pending) not_repeated
-          (malformed faulty).1;
+          (faults faulty).1;
       late = λ repeated. absurd (false≢true (sym not_repeated ∙ repeated));
       clean = λ takes. absurd (false≢true takes);
     }

@@ -132,11 +132,11 @@ module _ {units_of : ℕ → List ℕ} {old now : Remainder} {before at : Output
   }
 
 -- the same where a codec goes on to another state
-pub reaches_state : {units_of : ℕ → List ℕ} {old : Remainder} {v w : CodecState}
-    {before at then : Output} {stage : Stage} {n : ℕ} {ss : List Sequence} {more : List ℕ}
-    {replaced : Bool} → Reaches units_of old (remainder_of v) before at stage
-    → LeadsOn v w stage n ss → HasWritten units_of (stage_at stage n ss more replaced)
-    → then ≡ with_appended at more
-    → Reaches units_of old (remainder_of w) before then (stage_after stage n ss more replaced)
-reaches_state reaches leads written onto =
-    reaches_on reaches (state_leaves reaches.bytes leads) written leads.accounted onto
+module _ {units_of : ℕ → List ℕ} {old : Remainder} {v : CodecState} {before at : Output}
+    {stage : Stage} (reaches : Reaches units_of old (remainder_of v) before at stage) where
+  pub reaches_state : {w : CodecState} {then : Output} {n : ℕ} {ss : List Sequence}
+      {more : List ℕ} {replaced : Bool} → LeadsOn v w stage n ss
+      → HasWritten units_of (stage_at stage n ss more replaced) → then ≡ with_appended at more
+      → Reaches units_of old (remainder_of w) before then (stage_after stage n ss more replaced)
+  reaches_state leads written onto =
+      reaches_on reaches (state_leaves reaches.bytes leads) written leads.accounted onto
