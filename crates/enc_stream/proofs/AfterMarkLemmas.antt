@@ -29,7 +29,9 @@ use Rattle.enc_stream.specs.Decoding.{DecoderState, has_ended, remaining_sequenc
 use Rattle.enc_stream.specs.Decoding.{HeldBytesMatchCodec, DecodesInto}
 use Rattle.enc_decoder.proofs.ShiftedInputLemmas.{Carries, Reads, Follows, nothing_wrote, carries_empty, carries_full}
 use Rattle.enc_decoder.proofs.ShiftedInputLemmas.{carries_malformed}
-use Rattle.enc_stream.proofs.UnmarkedTextLemmas.{held_unmarked, marked_sequences, undetermined_in_front, none_begins}
+use Rattle.enc_stream.proofs.LifeCycleLemmas.{held_unmarked}
+use Rattle.enc_stream.proofs.MarkFirstLemmas.{none_begun}
+use Rattle.enc_stream.proofs.UnmarkedTextLemmas.{marked_sequences, undetermined_in_front}
 use Rattle.enc_stream.proofs.UnmarkedTextLemmas.{pending_of_held}
 use Rattle.enc_stream.proofs.HeldMarkLemmas.{own_state}
 
@@ -173,7 +175,7 @@ module _ (e : Encoding) {to : Encoding} {life : LifeCycle} {v : CodecState} (src
     within = in_src;
     set = sym (holds.unread completes.awaits).0;
     same = after_mark;
-    nothing = λ s ss d. none_begins s ss _ (after_mark [] ∙ sequences_of-nil (rule_of to) 0)
+    nothing = λ s ss d. none_begun _ s ss (after_mark [] ∙ sequences_of-nil (rule_of to) 0)
         (d [] tt);
   }
 
@@ -367,12 +369,6 @@ module _ (e : Encoding) {life now : LifeCycle} {v : CodecState} (src : List ℕ)
               (append-nil (held_mark_bytes now) ∙ sym all);
         };
       }
-
-pub awaiting_goes_on : (life : LifeCycle) → awaits_mark (phase_of life) ≡ true
-    → has_ended life ≡ false
-awaiting_goes_on Finished h = absurd (false≢true h)
-awaiting_goes_on AtStart h = refl
-awaiting_goes_on _ h = refl
 
 none_more : (x y : List ℕ) → x ++ y ≡ x → length y ≡ 0
 none_more x y e = let same_length = ap length e in let joined_length = length-append x y in

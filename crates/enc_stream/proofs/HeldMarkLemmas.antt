@@ -1,7 +1,7 @@
 -- The state of a decoder after a call over text, by the state of its codec.
 use Rattle.std.specs.Prelude.{if◌then◌else◌, bytes_eq}
 use Rattle.std.proofs.Common.{◌≡◌, ℕ, ◌+◌, ◌-◌, ◌<◌, ◌≤◌, zero, suc, Bool, true, false, ◌&&◌, eqb, List, [], ◌∷◌, ◌++◌}
-use Rattle.std.proofs.Common.{length, take, drop, refl, ap, ◌∙◌, sym, arith, append_assoc, inl, inr, ◌⊎◌, None, subst}
+use Rattle.std.proofs.Common.{length, take, drop, refl, ap, ◌∙◌, sym, arith, append_assoc, inl, inr, ◌⊎◌, None, Some, subst}
 use Rattle.std.proofs.lemmas.Bool.{false≢true}
 use Rattle.std.proofs.lemmas.Bool.Decides.{nat_tests}
 use Rattle.std.proofs.lemmas.List.{append-nil, length-append, take-append-drop}
@@ -35,6 +35,7 @@ use Rattle.enc_stream.specs.Decoding.{PendingAreHeldBytes, DecodesInto}
 use Rattle.enc_decoder.proofs.ShiftedInputLemmas.{most_or_more, Follows, nothing_wrote, carries_empty, carries_full}
 use Rattle.enc_decoder.proofs.ShiftedInputLemmas.{carries_malformed}
 use Rattle.enc_decoder.proofs.JoinedCallLemmas.{no_bytes}
+use Rattle.enc_stream.proofs.LifeCycleLemmas.{own_prefix, second_if_two}
 use Rattle.enc_stream.proofs.UnmarkedTextLemmas.{ReadsText, settled_from, awaited_unless_settled, carries, reads_on}
 use Rattle.enc_stream.proofs.UnmarkedTextLemmas.{unmarked_read, by_codec, unmarked_all, bytes_unread, few_unread}
 use Rattle.enc_stream.proofs.UnmarkedTextLemmas.{at_hand, first_byte, pending_of_held}
@@ -66,31 +67,15 @@ none_malformed done put s e f =
     omega arith
 
 -- the state of the bytes held is its own
-pub own_state : (life : LifeCycle) (p : List ℕ) → has_ended life ≡ false
-    → (awaits_mark (phase_of life) ≡ true → p ≡ held_mark_bytes life)
-    → ((b : ℕ) (held : List ℕ) → held_mark_bytes life ≡ b ∷ held → p ≡ held_mark_bytes life)
-    → life_after_sequences (life_at_prefix (mark_prefixes life) p) [] ≡ life
-own_state AtStart p h f g =
-    ap (λ x. life_after_sequences (life_at_prefix (mark_prefixes AtStart) x) []) (f refl)
-own_state AtUtf8Start p h f g =
-    ap (λ x. life_after_sequences (life_at_prefix (mark_prefixes AtUtf8Start) x) []) (f refl)
-own_state AtUtf16BeStart p h f g =
-    ap (λ x. life_after_sequences (life_at_prefix (mark_prefixes AtUtf16BeStart) x) []) (f refl)
-own_state AtUtf16LeStart p h f g =
-    ap (λ x. life_after_sequences (life_at_prefix (mark_prefixes AtUtf16LeStart) x) []) (f refl)
-own_state SeenUtf8First p h f g =
-    ap (λ x. life_after_sequences (life_at_prefix (mark_prefixes SeenUtf8First) x) []) (f refl)
-own_state SeenUtf8Second p h f g =
-    ap (λ x. life_after_sequences (life_at_prefix (mark_prefixes SeenUtf8Second) x) []) (f refl)
-own_state SeenUtf16BeFirst p h f g =
-    ap (λ x. life_after_sequences (life_at_prefix (mark_prefixes SeenUtf16BeFirst) x) []) (f refl)
-own_state SeenUtf16LeFirst p h f g =
-    ap (λ x. life_after_sequences (life_at_prefix (mark_prefixes SeenUtf16LeFirst) x) []) (f refl)
-own_state ConvertingWithPendingBb p h f g =
-    ap (λ x. life_after_sequences (life_at_prefix (mark_prefixes ConvertingWithPendingBb) x) [])
-    (g _ _ refl)
-own_state Converting p h f g = refl
-own_state Finished p h f g = absurd (false≢true (sym h))
+pub own_state : (life : LifeCycle) (pending : List ℕ) → has_ended life ≡ false
+    → (awaits_mark (phase_of life) ≡ true → pending ≡ held_mark_bytes life)
+    → ((b : ℕ) (rest : List ℕ) → held_mark_bytes life ≡ b ∷ rest → pending ≡ held_mark_bytes life)
+    → life_after_sequences (life_at_prefix (mark_prefixes life) pending) [] ≡ life
+own_state life pending going in_front held =
+    elim (own_prefix life pending going in_front held) [
+      | inl converting ↦ rw converting refl
+      | inr own ↦ rw (own.0, own.1) refl
+    ]
 
 held_first : (held p : List ℕ) (b : ℕ) (rest : List ℕ) → held ≡ b ∷ rest
     → held_or_pending_bytes held p ≡ held
@@ -121,62 +106,34 @@ none_left SeenUtf8Second bytes h =
 none_left AtStart bytes h = refl
 none_left _ bytes h = refl
 
--- the same, by what was held
-converts : (life : LifeCycle) (p : List ℕ) (done : List Sequence) → has_ended life ≡ false
-    → (awaits_mark (phase_of life) ≡ true → p ≡ [])
-    → (done ≡ [] → ⊥) → (life ≡ SeenUtf8Second → length (sequence_bytes done) ≡ 1 → ⊥)
-    → life_after_sequences
-    (life_at_prefix (mark_prefixes life) (held_or_pending_bytes (held_mark_bytes life) p)) done
-    ≡ Converting
-converts life p [] h f g i = absurd (g refl)
-converts life p (s ∷ ss) h f g i = by_state life h f i
-  where
-    by_state : (l : LifeCycle) → has_ended l ≡ false → (awaits_mark (phase_of l) ≡ true → p ≡ [])
-        → (l ≡ SeenUtf8Second → length (sequence_bytes (s ∷ ss)) ≡ 1 → ⊥)
-        → life_after_sequences
-        (life_at_prefix (mark_prefixes l) (held_or_pending_bytes (held_mark_bytes l) p))
-        (s ∷ ss)
-        ≡ Converting
-    by_state AtStart a b c =
-        ap (λ x. life_after_sequences (life_at_prefix (mark_prefixes AtStart) x) (s ∷ ss)) (b refl)
-    by_state AtUtf8Start a b c =
-        ap (λ x. life_after_sequences (life_at_prefix (mark_prefixes AtUtf8Start) x) (s ∷ ss))
-        (b refl)
-    by_state AtUtf16BeStart a b c =
-        ap (λ x. life_after_sequences (life_at_prefix (mark_prefixes AtUtf16BeStart) x) (s ∷ ss))
-        (b refl)
-    by_state AtUtf16LeStart a b c =
-        ap (λ x. life_after_sequences (life_at_prefix (mark_prefixes AtUtf16LeStart) x) (s ∷ ss))
-        (b refl)
-    by_state SeenUtf8First a b c = refl
-    by_state SeenUtf8Second a b c = none_left SeenUtf8Second (sequence_bytes (s ∷ ss)) c
-    by_state SeenUtf16BeFirst a b c = refl
-    by_state SeenUtf16LeFirst a b c = refl
-    by_state ConvertingWithPendingBb a b c = refl
-    by_state Converting a b c = refl
-    by_state Finished a b c = absurd (false≢true (sym a))
+module _ (e : Encoding) (life : LifeCycle) (v : CodecState) (going : has_ended life ≡ false)
+    (holds : HeldBytesMatchCodec life v) where
+  abbrev now_pending : List ℕ
+  now_pending = held_or_pending_bytes (held_mark_bytes life) v.pending
 
--- bytes that extend no held mark extend no pending bytes
-no_front_at : (life : LifeCycle) (p x : List ℕ) → has_ended life ≡ false
-    → (awaits_mark (phase_of life) ≡ true → p ≡ [])
-    → life_at_prefix (mark_prefixes life) (held_mark_bytes life ++ x) ≡ None
-    → life_at_prefix (mark_prefixes life) (held_or_pending_bytes (held_mark_bytes life) p ++ x)
-    ≡ None
-no_front_at AtStart p x h f g = ap (λ y. life_at_prefix (mark_prefixes AtStart) (y ++ x)) (f refl)
-    ∙ g
-no_front_at AtUtf8Start p x h f g =
-    ap (λ y. life_at_prefix (mark_prefixes AtUtf8Start) (y ++ x)) (f refl) ∙ g
-no_front_at AtUtf16BeStart p x h f g =
-    ap (λ y. life_at_prefix (mark_prefixes AtUtf16BeStart) (y ++ x)) (f refl) ∙ g
-no_front_at AtUtf16LeStart p x h f g =
-    ap (λ y. life_at_prefix (mark_prefixes AtUtf16LeStart) (y ++ x)) (f refl) ∙ g
-no_front_at SeenUtf8First p x h f g = g
-no_front_at SeenUtf8Second p x h f g = g
-no_front_at SeenUtf16BeFirst p x h f g = g
-no_front_at SeenUtf16LeFirst p x h f g = g
-no_front_at ConvertingWithPendingBb p x h f g = g
-no_front_at Converting p x h f g = refl
-no_front_at Finished p x h f g = absurd (false≢true (sym h))
+  abbrev own : (life ≡ Converting) ⊎ ((now_pending ≡ held_mark_bytes life)
+      × (life_at_prefix (mark_prefixes life) (held_mark_bytes life) ≡ Some life))
+  own = own_prefix life now_pending going (shows_held e life v holds).in_front
+      (shows_held e life v holds).held
+
+  -- the same, by what was held
+  converts : (done : List Sequence) → (done ≡ [] → ⊥)
+      → (life ≡ SeenUtf8Second → length (sequence_bytes done) ≡ 1 → ⊥)
+      → life_after_sequences (life_at_prefix (mark_prefixes life) now_pending) done ≡ Converting
+  converts [] some not_ef = absurd (some refl)
+  converts (s ∷ ss) some not_ef = elim own [
+    | inl converting ↦ rw converting refl
+    | inr at_own ↦ rw (at_own.0, at_own.1) (none_left life (sequence_bytes (s ∷ ss)) not_ef)
+  ]
+
+  -- bytes that extend no held mark extend no pending bytes
+  no_front_at : (x : List ℕ)
+      → life_at_prefix (mark_prefixes life) (held_mark_bytes life ++ x) ≡ None
+      → life_at_prefix (mark_prefixes life) (now_pending ++ x) ≡ None
+  no_front_at x none = elim own [
+    | inl converting ↦ rw converting refl
+    | inr at_own ↦ rw at_own.0 none
+  ]
 
 held_or_pending : (none : Bool) (h : List ℕ) (n : ℕ) → eqb n 0 ≡ none
     → (length (if none then h else []) ≡ 0) ⊎ (n ≡ 0)
@@ -189,20 +146,7 @@ two_bytes : (life : LifeCycle) (none : Bool)
     → length (if none then held_mark_bytes life else []) ≡ 2
     → (life ≡ SeenUtf8Second) × (none ≡ true)
 two_bytes life false h = absurd (omega arith)
-two_bytes life true h = (by_state life h, refl)
-  where
-    by_state : (l : LifeCycle) → length (held_mark_bytes l) ≡ 2 → l ≡ SeenUtf8Second
-    by_state AtStart i = absurd (omega arith)
-    by_state AtUtf8Start i = absurd (omega arith)
-    by_state AtUtf16BeStart i = absurd (omega arith)
-    by_state AtUtf16LeStart i = absurd (omega arith)
-    by_state SeenUtf8First i = absurd (omega arith)
-    by_state SeenUtf8Second i = refl
-    by_state SeenUtf16BeFirst i = absurd (omega arith)
-    by_state SeenUtf16LeFirst i = absurd (omega arith)
-    by_state ConvertingWithPendingBb i = absurd (omega arith)
-    by_state Converting i = absurd (omega arith)
-    by_state Finished i = absurd (omega arith)
+two_bytes life true h = (second_if_two life h, refl)
 
 one_and_rest : (front rest bytes : List ℕ) (b : ℕ) → front ++ rest ≡ b ∷ bytes → length front ≡ 1
     → (front ≡ b ∷ []) × (rest ≡ bytes)
@@ -588,7 +532,7 @@ module _ {e : Encoding} {life : LifeCycle} {v : CodecState} {src : List ℕ} {la
       state_on zero n_is_read =
           ap (λ x. life_after_sequences (life_at_prefix (mark_prefixes life) x) made.call.done)
           (append-nil pending)
-          ∙ converts life v.pending made.call.done text.going (λ x. (text.holds.unread x).1)
+          ∙ converts e life v text.going text.holds made.call.done
           (λ d. touched (sym n_is_read) (let none_long = ap (λ x. length (sequence_bytes x)) d in
           let all_done = done_len in let all_held_read = nothing_left in omega arith))
           (λ s l. no_bb (sym n_is_read) (two_held s)
@@ -607,7 +551,7 @@ module _ {e : Encoding} {life : LifeCycle} {v : CodecState} {src : List ℕ} {la
           ap (λ o. life_after_sequences o made.call.done)
           (ap (λ x. life_at_prefix (mark_prefixes life) (pending ++ x))
           (sym (append-nil (take (suc n) src)) ∙ first.4)
-          ∙ no_front_at life v.pending (first.0 ∷ first.2) text.going (λ x. (text.holds.unread x).1)
+          ∙ no_front_at e life v text.going text.holds (first.0 ∷ first.2)
           ((text.no_mark.rules_out first.0 first.1 first.3).no_front first.2))
 
       pub goes_on : DecodesInto units_of mode (decoder_state_of e life v)

@@ -1,3 +1,6 @@
+pub mod FoundMarkLemmas
+pub mod MarkFirstLemmas
+pub mod LifeCycleLemmas
 pub mod UnmarkedTextLemmas
 pub mod HeldMarkLemmas
 pub mod AfterMarkLemmas
@@ -13,7 +16,6 @@ pub mod ReferenceLemmas
 pub mod EncoderProgressLemmas
 pub mod Latin1Lemmas
 pub mod SniffingLemmas
-pub mod MarkFirstLemmas
 pub mod OneShotDecodeLemmas
 pub mod UnreadTextLemmas
 pub mod OneShotEncodeLemmas

@@ -42,7 +42,8 @@ use Rattle.enc_decoder.proofs.SegmentationLemmas.{sequences_of-nil}
 use Rattle.enc_decoder_utf.proofs.Utf8Rule.{utf_8_has_texts}
 use Rattle.enc_decoder_utf.proofs.Utf16Rule.{utf_16_has_texts}
 use Rattle.enc_stream.proofs.EncodingLemmas.{small_texts}
-use Rattle.enc_stream.proofs.UnmarkedTextLemmas.{held_unmarked, marked_sequences}
+use Rattle.enc_stream.proofs.LifeCycleLemmas.{held_unmarked}
+use Rattle.enc_stream.proofs.UnmarkedTextLemmas.{marked_sequences}
 use Rattle.enc_stream.proofs.HeldMarkLemmas.{own_state}
 use Rattle.enc_decoder.proofs.JoinedCallLemmas.{no_bytes}
 use Rattle.enc_stream.proofs.EndOfInputLemmas.{ends_at_end}

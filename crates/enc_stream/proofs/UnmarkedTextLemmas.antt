@@ -9,10 +9,6 @@ use Rattle.std.proofs.lemmas.List.{append-nil, length-append}
 use Rattle.std.proofs.Math.Seq.{take-append-add}
 use Rattle.enc_stream.specs.declared.encoding.Encoding.{Encoding}
 use Rattle.enc_stream.specs.declared.life_cycle.LifeCycle.{LifeCycle}
-use Rattle.enc_stream.specs.declared.life_cycle.LifeCycle.TheVariants.{AtStart, AtUtf8Start, AtUtf16BeStart}
-use Rattle.enc_stream.specs.declared.life_cycle.LifeCycle.TheVariants.{AtUtf16LeStart, SeenUtf8First, SeenUtf8Second}
-use Rattle.enc_stream.specs.declared.life_cycle.LifeCycle.TheVariants.{SeenUtf16BeFirst, SeenUtf16LeFirst}
-use Rattle.enc_stream.specs.declared.life_cycle.LifeCycle.TheVariants.{ConvertingWithPendingBb, Converting, Finished}
 use Rattle.enc_decoder.specs.Sequence.{Sequence}
 use Rattle.enc_decoder.specs.Segmentation.{Rule, sequences_of}
 use Rattle.enc_decoder.specs.CodecState.{CodecState, remainder_of}
@@ -26,114 +22,10 @@ use Rattle.enc_stream.specs.Sniffing.{HasNoMark}
 use Rattle.enc_decoder.specs.Converting.{ReadsHeldFirst}
 use Rattle.enc_stream.specs.Decoding.{has_ended, remaining_sequences, decoder_remainder, held_or_pending_bytes}
 use Rattle.enc_stream.specs.Decoding.{decoder_state_of, unread_bytes, HeldBytesMatchCodec}
+use Rattle.enc_stream.proofs.MarkFirstLemmas.{undetermined_in}
+use Rattle.enc_stream.proofs.LifeCycleLemmas.{IsOpen, open_phase, held_unmarked, held_are_bytes, held_are_few}
+use Rattle.enc_stream.proofs.LifeCycleLemmas.{MayBegin, may_begin}
 use Rattle.enc_decoder.proofs.ShiftedInputLemmas.{Carries, Reads}
-
--- The states.
-
-abbrev IsOpen : Phase → Type 0
-IsOpen (InFront looked_for) = Unit {0}
-IsOpen Within = Unit {0}
-IsOpen Ended = ⊥
-
-pub open_phase : (life : LifeCycle) → has_ended life ≡ false → IsOpen (phase_of life)
-open_phase AtStart h = tt
-open_phase AtUtf8Start h = tt
-open_phase AtUtf16BeStart h = tt
-open_phase AtUtf16LeStart h = tt
-open_phase SeenUtf8First h = tt
-open_phase SeenUtf8Second h = tt
-open_phase SeenUtf16BeFirst h = tt
-open_phase SeenUtf16LeFirst h = tt
-open_phase ConvertingWithPendingBb h = tt
-open_phase Converting h = tt
-open_phase Finished h = absurd (false≢true (sym h))
-
--- the bytes held are no whole mark
-pub held_unmarked : (life : LifeCycle) → mark_in (phase_of life) (held_mark_bytes life ++ []) ≡ None
-held_unmarked AtStart = refl
-held_unmarked AtUtf8Start = refl
-held_unmarked AtUtf16BeStart = refl
-held_unmarked AtUtf16LeStart = refl
-held_unmarked SeenUtf8First = refl
-held_unmarked SeenUtf8Second = refl
-held_unmarked SeenUtf16BeFirst = refl
-held_unmarked SeenUtf16LeFirst = refl
-held_unmarked ConvertingWithPendingBb = refl
-held_unmarked Converting = refl
-held_unmarked Finished = refl
-
--- bytes that make a whole mark of those held, and nothing more
-record CanEnd (life : LifeCycle) : Type 0 where
-  more : List ℕ
-  bytes : AreBytes more
-  mark : Mark
-  found : mark_in (phase_of life) (held_mark_bytes life ++ more) ≡ Some mark
-  nothing : drop (length mark.bytes) (held_mark_bytes life ++ more) ≡ []
-
-can_end : (life : LifeCycle) → awaits_mark (phase_of life) ≡ true → CanEnd life
-can_end AtStart h = record {
-  more = 0xFE ∷ 0xFF ∷ [];
-  bytes = (omega arith, (omega arith, tt));
-  mark = utf_16be_mark;
-  found = refl;
-  nothing = refl;
-}
-can_end AtUtf8Start h = record {
-  more = 0xEF ∷ 0xBB ∷ 0xBF ∷ [];
-  bytes = (omega arith, (omega arith, (omega arith, tt)));
-  mark = utf_8_mark;
-  found = refl;
-  nothing = refl;
-}
-can_end AtUtf16BeStart h = record {
-  more = 0xFE ∷ 0xFF ∷ [];
-  bytes = (omega arith, (omega arith, tt));
-  mark = utf_16be_mark;
-  found = refl;
-  nothing = refl;
-}
-can_end AtUtf16LeStart h = record {
-  more = 0xFF ∷ 0xFE ∷ [];
-  bytes = (omega arith, (omega arith, tt));
-  mark = utf_16le_mark;
-  found = refl;
-  nothing = refl;
-}
-can_end SeenUtf8First h = record {
-  more = 0xBB ∷ 0xBF ∷ [];
-  bytes = (omega arith, (omega arith, tt));
-  mark = utf_8_mark;
-  found = refl;
-  nothing = refl;
-}
-can_end SeenUtf8Second h = record {
-  more = 0xBF ∷ [];
-  bytes = (omega arith, tt);
-  mark = utf_8_mark;
-  found = refl;
-  nothing = refl;
-}
-can_end SeenUtf16BeFirst h = record {
-  more = 0xFF ∷ [];
-  bytes = (omega arith, tt);
-  mark = utf_16be_mark;
-  found = refl;
-  nothing = refl;
-}
-can_end SeenUtf16LeFirst h = record {
-  more = 0xFE ∷ [];
-  bytes = (omega arith, tt);
-  mark = utf_16le_mark;
-  found = refl;
-  nothing = refl;
-}
-can_end ConvertingWithPendingBb h = absurd (false≢true h)
-can_end Converting h = absurd (false≢true h)
-can_end Finished h = absurd (false≢true h)
-
-pub none_begins : (s : Sequence) (ss all : List Sequence) → all ≡ []
-    → AreFirstSequences (s ∷ ss) all → ⊥
-none_begins s ss all e b = let comes_first = b.1 in cc
 
 -- after a mark the sequences are those of its encoding
 pub marked_sequences : (p : Phase) (e : Encoding) (set : ℕ) (m : Mark) (x : List ℕ)
@@ -148,12 +40,15 @@ pub undetermined_in_front : (e : Encoding) (set : ℕ) (life : LifeCycle)
     → awaits_mark (phase_of life) ≡ true → (s : Sequence) (ss : List Sequence)
     → Determines (λ y. sequences_in (phase_of life) e set (held_mark_bytes life ++ y)) [] (s ∷ ss)
     → ⊥
-undetermined_in_front e set life h s ss d =
-    let end_allowed = can_end life h in
-    none_begins s ss _ (marked_sequences (phase_of life) e set end_allowed.mark
-    (held_mark_bytes life ++ end_allowed.more) end_allowed.found
-    ∙ ap (sequences_of (rule_of end_allowed.mark.encoding) 0) end_allowed.nothing
-    ∙ sequences_of-nil (rule_of end_allowed.mark.encoding) 0) (d end_allowed.more end_allowed.bytes)
+undetermined_in_front e set life awaits s ss = by_phase (phase_of life) (may_begin life awaits)
+  where
+    by_phase : (p : Phase) → MayBegin p (held_mark_bytes life)
+        → Determines (λ y. sequences_in p e set (held_mark_bytes life ++ y)) [] (s ∷ ss) → ⊥
+    by_phase (InFront looked_for) begins determines =
+        undetermined_in looked_for looked_for e (held_mark_bytes life) s ss begins.0 begins.1
+        determines
+    by_phase Within begins determines = absurd begins
+    by_phase Ended begins determines = absurd begins
 
 -- without a mark, the sequences are those of the rule
 pub unmarked_sequences : (p : Phase) (e : Encoding) (set : ℕ) (x : List ℕ)
@@ -327,22 +222,6 @@ module _ {e : Encoding} {life : LifeCycle} {v : CodecState} {src : List ℕ} {la
       ∙ unmarked_after (suc n) (λ _. omega arith) h []
 
 -- the bytes held
-
-pub held_are_bytes : (life : LifeCycle) → AreBytes (held_mark_bytes life)
-held_are_bytes SeenUtf8First = (omega arith, tt)
-held_are_bytes SeenUtf8Second = (omega arith, (omega arith, tt))
-held_are_bytes SeenUtf16BeFirst = (omega arith, tt)
-held_are_bytes SeenUtf16LeFirst = (omega arith, tt)
-held_are_bytes ConvertingWithPendingBb = (omega arith, tt)
-held_are_bytes _ = tt
-
-held_are_few : (life : LifeCycle) → length (held_mark_bytes life) ≤ 2
-held_are_few SeenUtf8First = omega arith
-held_are_few SeenUtf8Second = omega arith
-held_are_few SeenUtf16BeFirst = omega arith
-held_are_few SeenUtf16LeFirst = omega arith
-held_are_few ConvertingWithPendingBb = omega arith
-held_are_few _ = omega arith
 
 unread_are_bytes : (life : LifeCycle) (none : Bool)
     → AreBytes (if none then held_mark_bytes life else [])

@@ -30,8 +30,8 @@ use Rattle.enc_stream.specs.LifeCycle.{encoding_of_mark_or, sequences_in, mark_p
 use Rattle.enc_stream.specs.LifeCycle.{life_after_bytes, life_after_sequences, life_after}
 use Rattle.enc_stream.specs.Decoding.{DecoderState, has_finished, has_ended, removal_start, fresh_decoder}
 use Rattle.enc_stream.specs.Decoding.{remaining_sequences, whole_encoding, DecodesChunk}
-use Rattle.enc_stream.proofs.MarkFirstLemmas.{start_fits}
-use Rattle.enc_stream.proofs.WholeInputLemmas.{joined_by, found_is}
+use Rattle.enc_stream.proofs.FoundMarkLemmas.{start_fits, found_is}
+use Rattle.enc_stream.proofs.WholeInputLemmas.{joined_by}
 use Rattle.enc_stream.proofs.EndOfInputLemmas.{has_finished_by}
 use Rattle.enc_stream.proofs.DecoderProgressLemmas.{ends_read}
 
