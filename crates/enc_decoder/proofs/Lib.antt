@@ -19,4 +19,11 @@ pub mod LookaheadLemmas
 pub mod SuccessiveCallLemmas
 pub mod ReplacingLemmas
 pub mod ShiftedInputLemmas
+pub mod StageLemmas
+pub mod InnerInputLemmas
+pub mod InnerCallLemmas
+pub mod LeavesLemmas
+pub mod SettledCallLemmas
+pub mod TwoCallsLemmas
+pub mod DroppedPrefixLemmas
 pub mod JoinedCallLemmas
