@@ -31,7 +31,7 @@ returns-in-Open g c =
     c.requires
     (rw (← c.self.view_is, sniffed.1)
     (all_held _ _ _ c.self.invariant.0.1 c.sniff-sniffed.ensures.within extends
-    (sym extends.awaits ∙ sniffed.2)
+    (sym extends.awaits ∙ sniffed.2) (bytes_of_slice _ c.type_inv.src)
     (awaiting_goes_on _ sniffed.2) sniffed.0))
 
 pub convert_text-result-requires-clause-text : goal.convert_text-result-requires-clause-text
