@@ -31,8 +31,8 @@ use Rattle.enc_decoder.proofs.DroppedPrefixLemmas.{LeadsTo, called_after}
 use Rattle.enc_stream.proofs.LifeCycleLemmas.{held_unmarked}
 use Rattle.enc_stream.proofs.MarkFirstLemmas.{none_begun}
 use Rattle.enc_stream.proofs.UnmarkedTextLemmas.{marked_sequences, undetermined_in_front}
-use Rattle.enc_stream.proofs.UnmarkedTextLemmas.{pending_of_held}
-use Rattle.enc_stream.proofs.HeldMarkLemmas.{own_state}
+use Rattle.enc_stream.proofs.PendingBytesLemmas.{pending_of_held}
+use Rattle.enc_stream.proofs.PendingBytesLemmas.{own_state}
 
 -- After the first bytes of its chunk a decoder goes on as another one: a byte order mark before the
 -- bytes pending is dropped, or none is and more bytes are held.

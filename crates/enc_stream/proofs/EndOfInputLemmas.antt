@@ -1,6 +1,7 @@
 -- How a decoder starts, and where it has come to the end.
 use Rattle.std.proofs.Common.{◌≡◌, ℕ, Bool, true, false, true≢false, List, [], ◌∷◌, ◌++◌, take, refl, ap, ◌∙◌, sym}
 use Rattle.std.proofs.Common.{◌||◌, append-nil}
+use Rattle.std.proofs.lemmas.Bool.{false≢true}
 use Rattle.std.specs.Prelude.{Option, Some, if◌then◌else◌, bytes_eq}
 use Rattle.std.specs.Char.{encode_utf8}
 use Rattle.enc_stream.specs.declared.bom.BomHandling.{BomHandling}
@@ -12,6 +13,9 @@ use Rattle.enc_stream.specs.declared.life_cycle.LifeCycle.{LifeCycle}
 use Rattle.enc_stream.specs.declared.life_cycle.LifeCycle.TheVariants.{AtStart, SeenUtf8Second, ConvertingWithPendingBb}
 use Rattle.enc_stream.specs.declared.life_cycle.LifeCycle.TheVariants.{Converting, Finished}
 use Rattle.enc_units.specs.declared.decoder_result.DecoderResult.{DecoderResult}
+use Rattle.enc_units.specs.declared.decoder_result.DecoderResult.TheVariants.{Malformed}
+use Rattle.enc_units.specs.declared.decoder_result.DecoderResult.TheVariants as decoder
+use Rattle.enc_decoder.specs.Converting.{shifted_result}
 use Rattle.enc_units.specs.declared.coder_result.CoderResult.{CoderResult}
 use Rattle.enc_units.specs.declared.coder_result.CoderResult.TheVariants.{InputEmpty, OutputFull}
 use Rattle.enc_units.specs.Output.{units_of_text}
@@ -24,6 +28,26 @@ use Rattle.enc_units.specs.Results.{decoder_result_of}
 use Rattle.enc_stream.specs.Decoding.{DecoderState, has_ended, has_finished, removal_start, fresh_decoder}
 use Rattle.enc_stream.specs.Decoding.{remaining_sequences, whole_sequences, whole_utf_8, whole_malformed, DecodesChunk}
 use Rattle.enc_stream.specs.Decoding.{DecodesReplacing, HasDecoded}
+
+-- Whether a call reaches the end.
+
+-- a stop reaches the end exactly if the shifted stop does
+pub end_placed : (last : Bool) (stop : DecoderResult) (n : ℕ)
+    → reaches_end last (shifted_result stop n) ≡ reaches_end last stop
+end_placed last decoder.InputEmpty n = refl
+end_placed last decoder.OutputFull n = refl
+end_placed last (Malformed l a) n = refl
+
+pub at_end : (last : Bool) (stop : DecoderResult) → reaches_end last stop ≡ true → (last ≡ true)
+    × (stop ≡ decoder.InputEmpty)
+at_end last decoder.InputEmpty ends = (ends, refl)
+at_end last decoder.OutputFull ends = absurd (false≢true ends)
+at_end last (Malformed l a) ends = absurd (false≢true ends)
+
+pub not_at_end : (last : Bool) (stop : DecoderResult) → reaches_end last stop ≡ false → last ≡ true
+    → stop ≡ decoder.InputEmpty → ⊥
+not_at_end last stop goes_on is_last is_empty =
+    false≢true (sym goes_on ∙ ap (reaches_end last) is_empty ∙ is_last)
 
 -- whether a state that may come next is the end
 any_ended : List (List ℕ × LifeCycle) → Bool

@@ -1,11 +1,13 @@
 pub mod FoundMarkLemmas
 pub mod MarkFirstLemmas
 pub mod LifeCycleLemmas
+pub mod EndOfInputLemmas
+pub mod PendingBytesLemmas
 pub mod UnmarkedTextLemmas
+pub mod PendingBbLemmas
 pub mod HeldMarkLemmas
 pub mod AfterMarkLemmas
 pub mod OutputFullLemmas
-pub mod EndOfInputLemmas
 pub mod DecoderProgressLemmas
 pub mod WholeInputLemmas
 pub mod WholeEncodingLemmas

@@ -44,7 +44,7 @@ use Rattle.enc_decoder_utf.proofs.Utf16Rule.{utf_16_has_texts}
 use Rattle.enc_stream.proofs.EncodingLemmas.{small_texts}
 use Rattle.enc_stream.proofs.LifeCycleLemmas.{held_unmarked}
 use Rattle.enc_stream.proofs.UnmarkedTextLemmas.{marked_sequences}
-use Rattle.enc_stream.proofs.HeldMarkLemmas.{own_state}
+use Rattle.enc_stream.proofs.PendingBytesLemmas.{own_state}
 use Rattle.enc_decoder.proofs.JoinedCallLemmas.{no_bytes}
 use Rattle.enc_stream.proofs.EndOfInputLemmas.{ends_at_end}
 

@@ -13,7 +13,7 @@ use Rattle.enc_stream.specs.declared.life_cycle.LifeCycle.TheVariants.{Convertin
 use Rattle.enc_stream.specs.LifeCycle.{life_at_prefix, mark_prefixes}
 use Rattle.enc_stream.specs.Decoding.{DecoderState, HasFormulasOf, LooksForOwnMark}
 use Rattle.enc_stream.specs.Encodings.{rule_of}
-use Rattle.enc_stream.proofs.HeldMarkLemmas.{shows_held}
+use Rattle.enc_stream.proofs.PendingBytesLemmas.{shows_held}
 use Rattle.enc_stream.proofs.OutputFullLemmas.{converts_into}
 use Rattle.enc_stream.proofs.LifeCycleLemmas.{awaiting_goes_on, own_stays}
 use Rattle.enc_stream.proofs.AfterMarkLemmas.{all_held, after_a_mark, after_text}
