@@ -20,7 +20,8 @@ use Rattle.enc_units.specs.declared.coder_result.CoderResult.{CoderResult}
 use Rattle.enc_units.specs.declared.coder_result.CoderResult.TheVariants.{InputEmpty, OutputFull}
 use Rattle.enc_units.specs.Output.{units_of_text}
 use Rattle.enc_decoder.specs.Sequence.{Sequence, sequence_bytes, sequence_text, any_malformed}
-use Rattle.enc_decoder.specs.Call.{DecodeErrorMode, reaches_end}
+use Rattle.enc_decoder.specs.Remainder.{Remainder}
+use Rattle.enc_decoder.specs.Call.{DecoderStops, Replacement, reaches_end}
 use Rattle.enc_stream.specs.Bom.{marks_of_encoding, find_mark, sequences_by_mark}
 use Rattle.enc_stream.specs.LifeCycle.{phase_of, sequences_in, mark_prefixes, life_at_prefix, life_after_bytes}
 use Rattle.enc_stream.specs.LifeCycle.{life_after_sequences, life_after}
@@ -102,40 +103,6 @@ pub ends_at_end : (life : LifeCycle) (end : Bool) (bytes : List ℕ) (done : Lis
     → has_ended (life_after life end bytes done) ≡ end
 ends_at_end life true bytes done = refl
 ends_at_end life false bytes done = open_at (mark_prefixes life) bytes done (none_ended life)
-
--- so a call has finished exactly if it came to the end
-pub has_finished_by : {units_of : ℕ → List ℕ} {mode : DecodeErrorMode} {old new : DecoderState}
-    {src : List ℕ}
-    {last : Bool} {room : ℕ} {result : DecoderResult} {read : ℕ} {wrote : List ℕ} {replaced : Bool}
-    → DecodesChunk units_of mode old new src last room result read wrote replaced
-    → has_finished new ≡ reaches_end last result
-has_finished_by {old} {src} {last} {result} {read} decodes =
-    ap has_ended decodes.life
-    ∙ ends_at_end old.life (reaches_end last result) (old.pending ++ take read src)
-    decodes.call.done
-
-pub finishes : (old new : DecoderState) (src : List ℕ) (last : Bool) (room : ℕ)
-    (result : CoderResult) (read : ℕ)
-    (wrote : List ℕ) (replaced : Bool)
-    → DecodesReplacing encode_utf8 old new src last room result read wrote replaced
-    → has_finished new ≡ reaches_end last (decoder_result_of result)
-finishes old new src last room result read wrote replaced decodes = has_finished_by decodes
-
--- a call that replaces has put out all that it has done
-pub puts_all : {old new : DecoderState} {src : List ℕ} {last : Bool} {room : ℕ}
-    (result : CoderResult) {read : ℕ}
-    {wrote : List ℕ} {replaced : Bool}
-    (decodes : DecodesReplacing encode_utf8 old new src last room result read wrote replaced)
-    → decodes.call.put ≡ decodes.call.done
-puts_all InputEmpty decodes = sym decodes.call.stops.only_put
-puts_all OutputFull decodes = sym decodes.call.stops.only_put
-
-pub only_put : (old new : DecoderState) (src : List ℕ) (last : Bool) (room : ℕ)
-    (result : CoderResult) (read : ℕ)
-    (wrote : List ℕ) (replaced : Bool)
-    (decodes : DecodesReplacing encode_utf8 old new src last room result read wrote replaced)
-    → decodes.call.put ≡ decodes.call.done
-only_put old new src last room result read wrote replaced decodes = puts_all result decodes
 
 removal_sequences : (id : EncodingId) (e : Encoding) (bytes : List ℕ) → sequences_by_mark
     (find_mark (marks_of_encoding id) bytes) e bytes

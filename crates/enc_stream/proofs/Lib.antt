@@ -7,7 +7,10 @@ pub mod UnmarkedTextLemmas
 pub mod PendingBbLemmas
 pub mod HeldMarkLemmas
 pub mod AfterMarkLemmas
+pub mod DecoderCallLemmas
+pub mod RemainingRuleLemmas
 pub mod OutputFullLemmas
+pub mod AppendedOutputLemmas
 pub mod DecoderProgressLemmas
 pub mod WholeInputLemmas
 pub mod WholeEncodingLemmas

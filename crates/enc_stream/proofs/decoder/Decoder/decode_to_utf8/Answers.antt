@@ -1,7 +1,8 @@
 use Rattle.std.proofs.Common.{refl, arith, rules}
 use Rattle.enc_units.proofs.AsciiPrefixLemmas.{text_utf8}
-use Rattle.enc_stream.proofs.EndOfInputLemmas.{has_finished_by}
-use Rattle.enc_stream.proofs.OutputFullLemmas.{over_slice, reports_none, four_bytes, still_goes_on}
+use Rattle.enc_stream.proofs.EndOfInputLemmas.{ends_at_end}
+use Rattle.enc_stream.proofs.AppendedOutputLemmas.{over_slice, reports_none, still_goes_on}
+use Rattle.enc_stream.proofs.OutputFullLemmas.{four_bytes}
 use Rattle.enc_stream.proofs.decoder.Decoder.decode_to_utf8.Goals as goal
 
 pub unreported-requires : goal.unreported-requires
@@ -21,7 +22,7 @@ returns-clause-text c = let call = (returns-clause-call c).decodes.call in
     text_utf8 _ _ call.scalars call.text
 
 pub returns-clause-ended : goal.returns-clause-ended
-returns-clause-ended c = has_finished_by (returns-clause-call c).decodes
+returns-clause-ended c = rw (returns-clause-call c).decodes.life (search (ends_at_end))
 
 pub returns-clause-progress : goal.returns-clause-progress
 returns-clause-progress c = λ on. (returns-clause-call c).progress (still_goes_on _ on)
