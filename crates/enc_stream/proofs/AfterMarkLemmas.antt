@@ -154,7 +154,7 @@ sequences_alike Within q e set x awaits still same = absurd (false≢true awaits
 sequences_alike Ended q e set x awaits still same = absurd (false≢true awaits)
 
 module _ (e : Encoding) {life now : LifeCycle} {v : CodecState} (src : List ℕ) (len : ℕ)
-    (holds : HeldBytesMatchCodec life v) (within : len ≤ length src)
+    (holds : HeldBytesMatchCodec life v)
     (extends : ExtendsHeldMark life now (take len src))
     (awaits : awaits_mark (phase_of life) ≡ true) where
   abbrev from : DecoderState
@@ -192,8 +192,8 @@ module _ (e : Encoding) {life now : LifeCycle} {v : CodecState} (src : List ℕ)
       subst (λ x. AreFirstSequences (s ∷ ss) (sequences_in (phase_of now) e v.set (x ++ y)))
       held_pending (determines y bytes))
 
-  goes_on_after_held : GoesOnAs from held src len
-  goes_on_after_held = record {
+  goes_on_after_held : len ≤ length src → GoesOnAs from held src len
+  goes_on_after_held within = record {
     leads_to = record {
       within = within;
       set = refl;
@@ -209,12 +209,12 @@ module _ (e : Encoding) {life now : LifeCycle} {v : CodecState} (src : List ℕ)
         (ap (λ o. life_after_sequences o done) (rw held_pending (extends.states y)));
   }
 
-  pub after_held_bytes : AreBytes src
+  pub after_held_bytes : len ≤ length src → AreBytes src
       → {units_of : ℕ → List ℕ} {mode : DecodeErrorMode} {last : Bool} {before after : Output}
       {new : DecoderState} {result : DecoderResult} {n : ℕ} {replaced : Bool}
       → DecodesInto units_of mode held new (drop len src) last before after result n replaced
       → DecodesInto units_of mode from new src last before after result (len + n) replaced
-  after_held_bytes bytes = after_prefix bytes goes_on_after_held
+  after_held_bytes within bytes = after_prefix bytes (goes_on_after_held within)
 
   -- a call without input does nothing
   idle : {units_of : ℕ → List ℕ} {mode : DecodeErrorMode} {out : Output} → has_ended now ≡ false
@@ -262,7 +262,7 @@ module _ (e : Encoding) {life now : LifeCycle} {v : CodecState} (src : List ℕ)
       let none_left : drop len src ≡ [] = drop_of_length-le src (omega arith) in
       let none_more : len + 0 ≡ len = omega arith in
       subst (λ n. DecodesInto units_of mode from held src false out out InputEmpty n false)
-      none_more (after_held_bytes bytes (rw none_left (idle going)))
+      none_more (after_held_bytes (omega arith) bytes (rw none_left (idle going)))
 
 none_more : (x y : List ℕ) → x ++ y ≡ x → length y ≡ 0
 none_more x y same = omega (arith, ap length same, length-append x y)
@@ -279,7 +279,7 @@ pub after_text : (e : Encoding) {life now : LifeCycle} {v : CodecState} (src : L
     → DecodesInto units_of mode (decoder_state_of e life v) new src last before after result
     (len + n) replaced
 after_text e src len true holds within extends awaits bytes rest =
-    after_held_bytes e src len holds within extends awaits bytes rest
+    after_held_bytes e src len holds extends awaits within bytes rest
 after_text e {life} {now} {v} src len false holds within extends awaits bytes {n} rest =
     let same : now ≡ life = extends.stays awaits in
     let none : len ≡ 0 =

@@ -57,14 +57,6 @@ pub still_goes_on : (result : CoderResult) → (result ≡ coder.InputEmpty → 
 still_goes_on coder.InputEmpty goes_on is_empty = goes_on refl
 still_goes_on coder.OutputFull goes_on is_empty = cc
 
--- a call that reports replaces nothing
-pub reports : {units_of : ℕ → List ℕ} {least : ℕ} {old new : DecoderState} {src : List ℕ}
-    {last : Bool} {room : ℕ}
-    → {result : DecoderResult} {read : ℕ} {wrote : List ℕ} {replaced : Bool}
-    → AnswersDecode units_of least (Fatal false) old new src last room result read wrote replaced
-    → AnswersDecode units_of least (Fatal false) old new src last room result read wrote false
-reports answers = rw (answers.decodes.call.none_replaced refl) at answers
-
 -- a call that replaces reports nothing
 pub reports_none : {units_of : ℕ → List ℕ} {least : ℕ} → TakesSmallTexts units_of least
     → {old new : DecoderState} {src : List ℕ} {last : Bool} {before after : Output}
@@ -80,29 +72,31 @@ pub over_slice : {units_of : ℕ → List ℕ} {least : ℕ} → TakesSmallTexts
     → {mode : DecodeErrorMode} {old new : DecoderState} {src : List ℕ} {last : Bool}
     {before after : Output} {result : DecoderResult} {read : ℕ} {replaced : Bool}
     → AnswersDecodeInto units_of mode old new src last before after result read replaced
-    → {text : List ℕ} {room : ℕ}
-    → before.written ≡ [] → before.room ≡ room → after.written ≡ text
-    → AnswersDecode units_of least mode old new src last room result read text replaced
-over_slice {least} takes answers {text} none_before room_is text_is =
+    → {text : List ℕ} {room : ℕ} {flag : Bool}
+    → before.written ≡ [] → before.room ≡ room → after.written ≡ text → replaced ≡ flag
+    → AnswersDecode units_of least mode old new src last room result read text flag
+over_slice {least} takes answers {text} none_before room_is text_is flag_is =
     let wrote_text : answers.wrote ≡ text =
     sym (ap (λ x. x ++ answers.wrote) none_before)
     ∙ sym (ap (λ (o : Output). o.written) answers.onto) ∙ text_is in
-    rw (wrote_text, room_is) at (answers.converts least takes)
+    rw (wrote_text, room_is, flag_is) at (answers.converts least takes)
 
 -- A call over an output that has a text already.
 pub over_text : {units_of : ℕ → List ℕ} {least : ℕ} {text now : List ℕ} {len room : ℕ}
+    {flag : Bool}
     → TakesSmallTexts units_of least
     → {mode : DecodeErrorMode} {old new : DecoderState} {src : List ℕ} {last : Bool}
     {before after : Output} {result : DecoderResult} {read : ℕ} {replaced : Bool}
     → AnswersDecodeInto units_of mode old new src last before after result read replaced
     → before.written ≡ text → length text ≡ len → before.room ≡ room → after.written ≡ now
-    → AnswersDecode units_of least mode old new src last room result read (drop len now) replaced
-over_text {least} {text} {now} {len} takes {before} answers text_is len_is room_is now_is =
+    → replaced ≡ flag
+    → AnswersDecode units_of least mode old new src last room result read (drop len now) flag
+over_text {least} {text} {now} {len} takes {before} answers text_is len_is room_is now_is flag_is =
     let all : text ++ answers.wrote ≡ now =
     rw (← text_is) (sym (ap (λ (o : Output). o.written) answers.onto) ∙ now_is) in
     let wrote_rest : answers.wrote ≡ drop len now =
     sym (drop-append_seam text answers.wrote) ∙ rw (len_is, all) refl in
-    rw (wrote_rest, room_is) at (answers.converts least takes)
+    rw (wrote_rest, room_is, flag_is) at (answers.converts least takes)
 
 -- what was there stays in front
 pub in_front : (wrote : List ℕ) {before after text now : List ℕ} {len : ℕ} → after ≡ before ++ wrote

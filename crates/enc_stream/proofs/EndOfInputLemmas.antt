@@ -104,6 +104,16 @@ pub ends_at_end : (life : LifeCycle) (end : Bool) (bytes : List ℕ) (done : Lis
 ends_at_end life true bytes done = refl
 ends_at_end life false bytes done = open_at (mark_prefixes life) bytes done (none_ended life)
 
+-- so a call that replaces has finished exactly if it came to the end
+pub finishes : (result : CoderResult) {old new : DecoderState} {src : List ℕ} {last : Bool}
+    {room read : ℕ} {wrote : List ℕ} {replaced : Bool}
+    → DecodesReplacing encode_utf8 old new src last room result read wrote replaced
+    → has_finished new ≡ reaches_end last (decoder_result_of result)
+finishes result {old} {src = src} {last} {read = read} decodes =
+    ap has_ended decodes.life
+    ∙ ends_at_end old.life (reaches_end last (decoder_result_of result))
+    (old.pending ++ take read src) decodes.call.done
+
 removal_sequences : (id : EncodingId) (e : Encoding) (bytes : List ℕ) → sequences_by_mark
     (find_mark (marks_of_encoding id) bytes) e bytes
     ≡ sequences_in (phase_of (removal_start id)) e 0 bytes

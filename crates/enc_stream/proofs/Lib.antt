@@ -28,4 +28,5 @@ pub mod OwnTextLemmas
 pub mod OwnMarkLemmas
 pub mod OwnBytesLemmas
 pub mod NeedLemmas
+pub mod FormulaLemmas
 pub mod EnoughLemmas

@@ -37,7 +37,7 @@ use Rattle.enc_stream.specs.OneShot.{first_length, IsTooLongAfterFull, MayLackMe
 use Rattle.enc_decoder.specs.CallRecord.{Call}
 use Rattle.enc_decoder.specs.Need.{NeedExceeds}
 use Rattle.enc_stream.proofs.DecoderCallLemmas.{Decodes, only_put, finished_by}
-use Rattle.enc_stream.proofs.EndOfInputLemmas.{fresh_sequences, ends_at_end, whole_text, whole_flag}
+use Rattle.enc_stream.proofs.EndOfInputLemmas.{fresh_sequences, finishes, whole_text, whole_flag}
 
 pub nothing : (bytes : List ℕ) → true ≡ (length bytes == 0) → bytes ≡ []
 nothing [] h = refl
@@ -162,11 +162,10 @@ any_of_last (t ∷ ss) ts s h = ap (λ b. is_malformed t.kind || b) (any_of_last
     ∙ or_true (is_malformed t.kind)
 
 -- a malformed sequence that is reported is one of the whole input
-is_malformed_input : {handling : BomHandling} {e : Encoding} {bytes : List ℕ}
-    {old new : DecoderState} {before : List ℕ} {had : Bool} {l a : ℕ} (c : Call)
-    → HasDecoded handling e bytes c.src true old before had
+is_malformed_input : {e : Encoding} {bytes : List ℕ} {old new : DecoderState} {before : List ℕ}
+    {l a : ℕ} (c : Call) → HasDecoded Off e bytes c.src true old before false
     → Decodes encode_utf8 old new (record c { last = true; result = Malformed l a })
-    → whole_malformed handling e bytes ≡ true
+    → whole_malformed Off e bytes ≡ true
 is_malformed_input {new} {l} {a} c decoded decodes =
     let stops = decodes.call.stops in
     let rest = remaining_sequences new (drop c.read c.src ++ []) in
@@ -180,27 +179,19 @@ not_at_end : (result : CoderResult) → ¬ (result ≡ coder.InputEmpty)
 not_at_end coder.InputEmpty goes_on = absurd (goes_on refl)
 not_at_end coder.OutputFull goes_on = refl
 
--- a call that replaces has finished exactly if it came to the end
-finished_if : (result : CoderResult) {old new : DecoderState} {src : List ℕ} {room : ℕ}
-    {read : ℕ} {wrote : List ℕ} {replaced : Bool}
-    → DecodesReplacing encode_utf8 old new src true room result read wrote replaced
-    → has_finished new ≡ reaches_end true (decoder_result_of result)
-finished_if result {old} {src = src} {read} decodes =
-    ap has_ended decodes.life
-    ∙ ends_at_end old.life (reaches_end true (decoder_result_of result))
-    (old.pending ++ take read src) decodes.call.done
-
+-- a call that is not at the end leaves a decoder open
 pub still_open : (result : CoderResult) {old new : DecoderState} {src : List ℕ} {room : ℕ}
     {read : ℕ} {wrote : List ℕ} {replaced : Bool}
     → DecodesReplacing encode_utf8 old new src true room result read wrote replaced
     → ¬ (result ≡ coder.InputEmpty) → has_finished new ≡ false
-still_open result decodes goes_on = finished_if result decodes ∙ not_at_end result goes_on
+still_open result decodes goes_on = finishes result decodes ∙ not_at_end result goes_on
 
+-- and one that is leaves it finished
 pub now_finished : (result : CoderResult) {old new : DecoderState} {src : List ℕ} {room : ℕ}
     {read : ℕ} {wrote : List ℕ} {replaced : Bool}
     → DecodesReplacing encode_utf8 old new src true room result read wrote replaced
     → result ≡ coder.InputEmpty → has_finished new ≡ true
-now_finished result decodes at_end = finished_if result decodes
+now_finished result decodes at_end = finishes result decodes
     ∙ ap (λ r. reaches_end true (decoder_result_of r)) at_end
 
 -- with enough room a call is never full

@@ -10,7 +10,7 @@ use Rattle.enc_decoder.proofs.ByteLemmas.{bytes_of_slice}
 use Rattle.enc_stream.specs.declared.lengths.Query.TheVariants.{Utf8Reporting}
 use Rattle.enc_stream.specs.Lengths.{max_length}
 use Rattle.enc_stream.proofs.EndOfInputLemmas.{whole_text, whole_flag}
-use Rattle.enc_stream.proofs.EnoughLemmas.{are_bytes_drop}
+use Rattle.enc_decoder.proofs.ByteLemmas.{bytes-drop}
 use Rattle.enc_stream.proofs.OneShotDecodeLemmas.{nothing, none_whole, first_call, next_call, still_open, now_finished}
 use Rattle.enc_stream.proofs.OneShotDecodeLemmas.{never_full, too_long_after, asks_for_memory, there_is_a_length}
 use Rattle.enc_stream.proofs.one_shot.convert_whole.Goals as goal
@@ -89,7 +89,7 @@ decode_to_string-requires c =
 pub unreachable-requires : goal.unreachable-requires
 unreachable-requires c =
     let are_bytes : AreBytes c.split_at.result.1.now =
-    rw c.split_at.ensures.back (are_bytes_drop _ _ (bytes_of_slice _ c.type_inv.bytes)) in
+    rw c.split_at.ensures.back (bytes-drop _ _ (bytes_of_slice _ c.type_inv.bytes)) in
     never_full _ _ c.max_utf8_buffer_length-length.ensures.enough
     c.in_ok-make_room.ensures.enough are_bytes
     (c.decode_to_string.ensures.call.need.full.0

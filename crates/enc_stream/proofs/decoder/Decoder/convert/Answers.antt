@@ -30,7 +30,7 @@ returns-in-Open g c =
     converts_into c.laws.ensures (rw (← c.self.view_is) (shows_held _ _ _ c.self.invariant.0.1))
     c.requires
     (rw (← c.self.view_is, sniffed.1)
-    (all_held _ _ _ c.self.invariant.0.1 c.sniff-sniffed.ensures.within extends
+    (all_held _ _ _ c.self.invariant.0.1 extends
     (sym extends.awaits ∙ sniffed.2) (bytes_of_slice _ c.type_inv.src)
     (awaiting_goes_on _ sniffed.2) sniffed.0))
 

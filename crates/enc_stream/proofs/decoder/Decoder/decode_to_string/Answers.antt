@@ -15,7 +15,7 @@ pub returns-clause-call : goal.returns-clause-call
 returns-clause-call c =
     rw c.unreported.ensures (over_text {text = string_bytes c.args.dst.now} four_bytes
     c.convert-result.ensures
-    (rw c.new-tail.ensures.now refl) refl (rw c.new-tail.ensures.room refl) (search rules))
+    (rw c.new-tail.ensures.now refl) refl (rw c.new-tail.ensures.room refl) (search rules) refl)
 
 pub returns-clause-appended : goal.returns-clause-appended
 returns-clause-appended c =

@@ -3,14 +3,15 @@ use Rattle.std.specs.String.{string_bytes, string_len, string_capacity}
 use Rattle.std.proofs.Common.{◌≡◌, ap, length, arith}
 use Rattle.enc_units.specs.Output.{Output}
 use Rattle.enc_stream.proofs.EndOfInputLemmas.{ends_at_end}
-use Rattle.enc_stream.proofs.AppendedOutputLemmas.{over_text, reports, in_front, capacity_stays}
+use Rattle.enc_stream.proofs.AppendedOutputLemmas.{over_text, in_front, capacity_stays}
 use Rattle.enc_stream.proofs.OutputFullLemmas.{four_bytes}
 use Rattle.enc_stream.proofs.decoder.Decoder.decode_to_string_without_replacement.Goals as goal
 
 pub returns-clause-call : goal.returns-clause-call
 returns-clause-call c =
-    reports (over_text {text = string_bytes c.args.dst.now} four_bytes c.convert-result.ensures
-    (rw c.new-tail.ensures.now refl) refl (rw c.new-tail.ensures.room refl) (search rules))
+    over_text {text = string_bytes c.args.dst.now} four_bytes c.convert-result.ensures
+    (rw c.new-tail.ensures.now refl) refl (rw c.new-tail.ensures.room refl) (search rules)
+    ((c.convert-result.ensures.converts _ four_bytes).decodes.call.none_replaced refl)
 
 pub returns-clause-appended : goal.returns-clause-appended
 returns-clause-appended c =

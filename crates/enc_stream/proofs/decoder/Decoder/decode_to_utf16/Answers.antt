@@ -11,7 +11,7 @@ pub returns-clause-call : goal.returns-clause-call
 returns-clause-call c =
     rw c.unreported.ensures (over_slice two_units c.convert-result.ensures
     (rw c.new-units.ensures.len refl)
-    (rw (c.new-units.ensures.now, c.new-units.ensures.len) (omega arith)) (search rules))
+    (rw (c.new-units.ensures.now, c.new-units.ensures.len) (omega arith)) (search rules) refl)
 
 pub returns-clause-read : goal.returns-clause-read
 returns-clause-read c = (returns-clause-call c).decodes.call.within

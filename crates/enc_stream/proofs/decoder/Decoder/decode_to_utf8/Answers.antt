@@ -12,7 +12,7 @@ pub returns-clause-call : goal.returns-clause-call
 returns-clause-call c =
     rw c.unreported.ensures (over_slice four_bytes c.convert-result.ensures
     (rw c.new-out.ensures.len refl)
-    (rw (c.new-out.ensures.now, c.new-out.ensures.len) (omega arith)) (search rules))
+    (rw (c.new-out.ensures.now, c.new-out.ensures.len) (omega arith)) (search rules) refl)
 
 pub returns-clause-read : goal.returns-clause-read
 returns-clause-read c = (returns-clause-call c).decodes.call.within
