@@ -37,3 +37,33 @@ pub none_determined : (remaining rest : List ℕ → List Sequence) (x : List �
     → (s : Sequence) → Determines remaining x (done ++ s ∷ []) → ⊥
 none_determined remaining rest x done e u s d =
     u s (λ z b. begins_after done (s ∷ []) (rest z) (remaining (x ++ z)) (e z) (d z b))
+
+-- what is determined after the sequences that a call has done, by what follows them
+module _ (old new : List ℕ → List Sequence) (src rest : List ℕ) (done : List Sequence) where
+  abbrev pub LeavesOff : Bool → Type 0
+  LeavesOff last = (z : List ℕ) → (last ≡ true → z ≡ []) → old (src ++ z) ≡ done ++ new (rest ++ z)
+
+  at_end : LeavesOff true → old src ≡ done ++ new rest
+  at_end leaves_off = ap old (sym (append-nil src)) ∙ leaves_off [] (λ _. refl)
+      ∙ ap (λ x. done ++ new x) (append-nil rest)
+
+  pub determined_after : (last : Bool) → LeavesOff last → (ts : List Sequence)
+      → AreDetermined last new rest ts → AreDetermined last old src (done ++ ts)
+  determined_after true leaves_off ts first = (
+    first.0,
+    at_end leaves_off ∙ ap (λ ss. done ++ ss) first.1 ∙ sym (append_assoc done ts first.0),
+  )
+  determined_after false leaves_off ts determines = λ z are_bytes.
+      let first = determines z are_bytes in (
+        first.0,
+        leaves_off z (λ e. absurd (false≢true e)) ∙ ap (λ ss. done ++ ss) first.1
+            ∙ sym (append_assoc done ts first.0),
+      )
+
+  pub determined_past : (last : Bool) → LeavesOff last → (ts : List Sequence)
+      → AreDetermined last old src (done ++ ts) → AreDetermined last new rest ts
+  determined_past true leaves_off ts first =
+      begins_after done ts (new rest) (old src) (at_end leaves_off) first
+  determined_past false leaves_off ts determines = λ z are_bytes.
+      begins_after done ts (new (rest ++ z)) (old (src ++ z))
+      (leaves_off z (λ e. absurd (false≢true e))) (determines z are_bytes)

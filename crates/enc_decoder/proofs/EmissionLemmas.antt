@@ -37,9 +37,9 @@ none_is_first s all e g = let begins_with_s = g.1 in cc
 pub undetermined_by : (remaining : List ℕ → List Sequence) (y z : List ℕ) (s t : Sequence)
     (ss ts : List Sequence) → AreBytes y → AreBytes z
     → remaining y ≡ s ∷ ss → remaining z ≡ t ∷ ts → (s ≡ t → ⊥) → IsUndetermined remaining
-undetermined_by remaining y z s t ss ts a b e f n q determines =
-    n (sym (first_is q s ss (remaining y) e (determines y a))
-    ∙ first_is q t ts (remaining z) f (determines z b))
+undetermined_by remaining y z s t ss ts bytes also first other differ q determines =
+    differ (sym (first_is q s ss (remaining y) first (determines y bytes))
+    ∙ first_is q t ts (remaining z) other (determines z also))
 
 -- no pending bytes
 pub nothing_pending : (v : CodecState) → v.pending ≡ [] → IsUndetermined (remainder_of v).sequences
@@ -63,24 +63,24 @@ module _ {C : Type 0} (state : C → CodecState) (c next : C) (text : Text) (kin
         } ∷ (remainder_of (state next)).sequences z)
         → HandlesByte state c b
         (Emit (record { text = text; kind = kind; len = len; takes_byte = true; next = next }))
-    shows_with b r none_pending n not_repeated malformed_text f =
+    shows_with b same_rule none_pending is_len not_repeated malformed_text comes =
         let one_longer : length ((state c).pending ++ b ∷ []) ≡ length (state c).pending + 1 =
         length-append (state c).pending (b ∷ []) in
         let none_after : length (state next).pending ≡ 0 = ap length none_pending in (
           record {
             bytes = (state c).pending ++ b ∷ [];
             some = omega (arith, one_longer);
-            len = n ∙ sym one_longer;
+            len = is_len ∙ sym one_longer;
             parts = sym (append-nil ((state c).pending ++ b ∷ []))
                 ∙ ap (λ x. ((state c).pending ++ b ∷ []) ++ x) (sym none_pending);
-            first = λ y _. f y;
-            same_rule = r;
-            replacement = λ w. (malformed_text w).0;
-            bounds = λ w.
-                let at_most_four = (malformed_text w).1 in
+            first = λ y _. comes y;
+            same_rule = same_rule;
+            replacement = λ faulty. (malformed_text faulty).0;
+            bounds = λ faulty.
+                let at_most_four = (malformed_text faulty).1 in
                 are_bounded kind len (length (state next).pending) not_repeated
                 (at_most_four, omega (arith, none_after), omega (arith, none_after, at_most_four));
-            late = λ w. absurd (false≢true (sym not_repeated ∙ w));
+            late = λ repeated. absurd (false≢true (sym not_repeated ∙ repeated));
             clean = λ _ _. none_pending;
           },
           λ _. nothing_pending (state next) none_pending,
@@ -98,18 +98,18 @@ module _ {C : Type 0} (state : C → CodecState) (c next : C) (text : Text) (kin
         ∷ (remainder_of (state next)).sequences y)
         → IsNextSequence state c may_follow []
         (record { text = text; kind = kind; len = len; takes_byte = false; next = next })
-    shows_before may_follow bytes r p n s not_repeated malformed_text f = record {
+    shows_before may_follow bytes same_rule parts is_len some not_repeated faults first = record {
       bytes = bytes;
       some = omega arith;
-      len = n;
-      parts = append-nil (state c).pending ∙ p;
-      first = f;
-      same_rule = r;
-      replacement = λ w. (malformed_text w).0;
-      bounds = λ w. are_bounded kind len (length (state next).pending) not_repeated
-          (malformed_text w).1;
-      late = λ w. absurd (false≢true (sym not_repeated ∙ w));
-      clean = λ t. absurd (false≢true t);
+      len = is_len;
+      parts = append-nil (state c).pending ∙ parts;
+      first = first;
+      same_rule = same_rule;
+      replacement = λ faulty. (faults faulty).0;
+      bounds = λ faulty. are_bounded kind len (length (state next).pending) not_repeated
+          (faults faulty).1;
+      late = λ repeated. absurd (false≢true (sym not_repeated ∙ repeated));
+      clean = λ takes. absurd (false≢true takes);
     }
 
     -- the next byte shows it
@@ -123,14 +123,15 @@ module _ {C : Type 0} (state : C → CodecState) (c next : C) (text : Text) (kin
         ∷ (remainder_of (state next)).sequences (b ∷ z))
         → HandlesByte state c b
         (Emit (record { text = text; kind = kind; len = len; takes_byte = false; next = next }))
-    shows_at b bytes r p n s l m f = (
-      shows_before (BeginsWithByte b) bytes r p n s l m
-          (λ y w. ap (remainder_of (state c)).sequences w.1 ∙ f w.0
+    shows_at b bytes same_rule parts is_len some not_repeated malformed_text comes = (
+      shows_before (BeginsWithByte b) bytes same_rule parts is_len some not_repeated
+          malformed_text
+          (λ y begins. ap (remainder_of (state c)).sequences begins.1 ∙ comes begins.0
           ∙ ap (λ x. record {
             bytes = bytes;
             text = text_chars text;
             kind = kind;
             set = (state next).set;
-          } ∷ (remainder_of (state next)).sequences x) (sym w.1)),
-      λ t. absurd (false≢true t),
+          } ∷ (remainder_of (state next)).sequences x) (sym begins.1)),
+      λ takes. absurd (false≢true takes),
     )

@@ -13,7 +13,9 @@ use Rattle.enc_decoder.specs.Segmentation.{Rule, head_sequence, sequences_after,
 use Rattle.enc_decoder.specs.CodecState.{CodecState, remainder_of}
 use Rattle.enc_decoder.specs.Call.{DecodeErrorMode, Replacement, Fatal}
 use Rattle.enc_decoder.specs.RuleLaws.{HasSmallTexts}
+use Rattle.enc_decoder.specs.declared.text_lengths.TextLengths.{TextLengths}
 use Rattle.enc_decoder.specs.declared.text_lengths.TextLengths.TheVariants as lengths
+use Rattle.enc_decoder.specs.Lengths.{utf_8_length, reporting_length, utf_16_length}
 use Rattle.enc_decoder.specs.Need.{sequences_before_malformed, needed_units, NeedExceeds, AreEnoughForCodec, IsBmpText}
 use Rattle.enc_decoder.proofs.NeedLemmas.{units, units-both, units-one, needed_more, at_end}
 
@@ -126,12 +128,12 @@ pub never_passes : (units_of : ℕ → List ℕ) (mode : DecodeErrorMode) (most 
     → ((z : List ℕ) → needed_units units_of mode (sequences_of v.rule v.set z) ≤ most (length z))
     → (src : List ℕ) (last : Bool) (n : ℕ) → most (length v.pending + length src) ≤ n
     → NeedExceeds units_of mode (remainder_of v) src last n → ⊥
-never_passes units_of mode most v h src last n l p =
+never_passes units_of mode most v within src last n is_most exceeds =
     omega (
       arith,
-      l,
-      h (v.pending ++ src),
-      needs_all units_of mode v src last n p,
+      is_most,
+      within (v.pending ++ src),
+      needs_all units_of mode v src last n exceeds,
       ap most
           (length-append v.pending src),
     )
@@ -206,46 +208,49 @@ module _ (v : CodecState) (few : HasFewUnits v.rule) where
             (sequences_of v.rule v.set z),
       )
 
-  pub multi_byte_enough : AreEnoughForCodec lengths.MultiByte v
-  multi_byte_enough = record {
-    utf_8 = λ src last n _ e.
+  -- by formulas that have so many code units for all bytes
+  enough_by : (formulas : TextLengths)
+      → ((src : List ℕ) (n : ℕ) → utf_8_length formulas (length src) (length v.pending) ≡ Some n
+      → 3 * (length v.pending + length src) ≤ n)
+      → ((src : List ℕ) (n : ℕ) → reporting_length formulas (length src) (length v.pending) ≡ Some n
+      → 3 * (length v.pending + length src) ≤ n)
+      → ((src : List ℕ) (n : ℕ) → utf_16_length formulas (length src) (length v.pending) ≡ Some n
+      → length v.pending + length src ≤ n)
+      → AreEnoughForCodec formulas v
+  enough_by formulas utf_8 reporting utf_16 = record {
+    utf_8 = λ src last n _ is_length.
         never_passes encode_utf8 Replacement (λ k. 3 * k) v utf_8_bounded src last n
-        (thrice src n e);
-    reporting = λ keeps src last n _ e.
+        (utf_8 src n is_length);
+    reporting = λ keeps src last n _ is_length.
         never_passes encode_utf8 (Fatal keeps) (λ k. 3 * k) v (reporting_bounded keeps) src last n
-        (thrice src n e);
-    utf_16 = λ mode src last n _ e.
+        (reporting src n is_length);
+    utf_16 = λ mode src last n _ is_length.
         never_passes encode_utf16 mode (λ k. k) v (utf_16_bounded mode) src last n
-        (omega (arith, sum_is (length src) (length v.pending) n e));
+        (utf_16 src n is_length);
   }
+
+  pub multi_byte_enough : AreEnoughForCodec lengths.MultiByte v
+  multi_byte_enough = enough_by lengths.MultiByte thrice thrice
+      (λ src n is_length. omega (arith, sum_is (length src) (length v.pending) n is_length))
     where
       thrice : (src : List ℕ) (n : ℕ)
           → checked_mul (checked_add (Some (length src)) (length v.pending)) 3 ≡ Some n
           → 3 * (length v.pending + length src) ≤ n
-      thrice src n e = omega (
+      thrice src n is_length = omega (
         arith,
         thrice_is (checked_add (Some (length src)) (length v.pending))
-            (length src + length v.pending) n (λ a f. sum_is (length src) (length v.pending) a f) e,
+            (length src + length v.pending) n (sum_is (length src) (length v.pending)) is_length,
       )
 
   pub one_byte_enough : v.pending ≡ [] → AreEnoughForCodec lengths.OneByte v
-  one_byte_enough none = record {
-    utf_8 = λ src last n _ e.
-        never_passes encode_utf8 Replacement (λ k. 3 * k) v utf_8_bounded src last n
-        (thrice src n e);
-    reporting = λ keeps src last n _ e.
-        never_passes encode_utf8 (Fatal keeps) (λ k. 3 * k) v (reporting_bounded keeps) src last n
-        (thrice src n e);
-    utf_16 = λ mode src last n _ e.
-        never_passes encode_utf16 mode (λ k. k) v (utf_16_bounded mode) src last n
-        (omega (arith, same_some (length src) n e, ap length none));
-  }
+  one_byte_enough none = enough_by lengths.OneByte thrice thrice
+      (λ src n is_length. omega (arith, same_some (length src) n is_length, ap length none))
     where
       thrice : (src : List ℕ) (n : ℕ) → checked_mul (Some (length src)) 3 ≡ Some n
           → 3 * (length v.pending + length src) ≤ n
-      thrice src n e = omega (
+      thrice src n is_length = omega (
         arith,
         thrice_is (Some (length src)) (length src) n
-            (λ a f. sym (same_some (length src) a f)) e,
+            (λ a is_some. sym (same_some (length src) a is_some)) is_length,
         ap length none,
       )

@@ -22,9 +22,10 @@ pub determined_by_head : (rule : Rule) (set b : ℕ) (z : List ℕ) (n : ℕ) (h
     → rule set b z ≡ h
     → h.more + n ≤ length z
     → ((y : List ℕ) → rule set b (take (h.more + n) z ++ y) ≡ h) → IsDeterminedWithin rule set b z n
-determined_by_head rule set b z n h is_head l f = record {
-  there = subst (λ (k : Head). k.more + n ≤ length z) (sym is_head) l;
-  same = λ y. ap (λ (k : Head). rule set b (take (k.more + n) z ++ y)) is_head ∙ f y ∙ sym is_head;
+determined_by_head rule set b z n h is_head enough same = record {
+  there = subst (λ (k : Head). k.more + n ≤ length z) (sym is_head) enough;
+  same = λ y. ap (λ (k : Head). rule set b (take (k.more + n) z ++ y)) is_head ∙ same y
+      ∙ sym is_head;
 }
 
 -- the bytes themselves are enough
@@ -37,16 +38,16 @@ pub looks_by : (rule : Rule) (set b : ℕ) (z : List ℕ) (n k : ℕ)
     → IsDeterminedWithin rule set b z (suc n)
     → k ≡ (rule set b z).more + n
     → IsDeterminedByEnd rule set b (take k z) → IsLookahead rule set b z (suc n)
-looks_by rule set b z n k t e by_end = record {
-  determined = t;
-  least = λ a m l same.
+looks_by rule set b z n k determined is_short by_end = record {
+  determined = determined;
+  least = λ are_bytes m less same.
       let short_input = take k z in
       let fewer = (rule set b z).more + m in
-      let few : fewer ≤ k = omega (arith, e, l) in
+      let few : fewer ≤ k = omega (arith, is_short, less) in
       let front : take fewer z ++ drop fewer short_input ≡ short_input =
       ap (λ w. w ++ drop fewer short_input) (sym (take-take fewer k z few))
       ∙ take-append-drop fewer short_input in
-      let rest = bytes-drop fewer short_input (bytes-take k z a) in
+      let rest = bytes-drop fewer short_input (bytes-take k z are_bytes) in
       let first = ap (rule set b) (sym front) ∙ same (drop fewer short_input) rest in
       let then = ap (rule set b) (ap (λ w. w ++ by_end.more) (sym front)
       ∙ append_assoc (take fewer z) (drop fewer short_input) by_end.more)
@@ -81,22 +82,22 @@ within_by rule h set b z = elim (h.others set b z) [
 
 same_head : (h k : Head) → h.more ≡ k.more → h.text ≡ k.text → h.kind ≡ k.kind → h.set ≡ k.set
     → h ≡ k
-same_head h k m t n s =
+same_head h k same_more same_text same_kind same_set =
     let made : ℕ → List ℕ → Kind → ℕ
     → Head = λ a b c d. record { more = a; text = b; kind = c; set = d } in
-    ap (λ a. made a h.text h.kind h.set) m ∙ ap (λ b. made k.more b h.kind h.set) t
-    ∙ ap (λ c. made k.more k.text c h.set) n ∙ ap (made k.more k.text k.kind) s
+    ap (λ a. made a h.text h.kind h.set) same_more ∙ ap (λ b. made k.more b h.kind h.set) same_text
+    ∙ ap (λ c. made k.more k.text c h.set) same_kind ∙ ap (made k.more k.text k.kind) same_set
 
 tails : (a b : ℕ) (y z : List ℕ) → a ∷ y ≡ b ∷ z → y ≡ z
 tails a b y z e = cc
 
 pub same_by_sequence : (h k : Head) (b : ℕ) (y z : List ℕ) → h.more ≤ length y → k.more ≤ length z
     → head_sequence h b y ≡ head_sequence k b z → h ≡ k
-same_by_sequence h k b y z m n same =
+same_by_sequence h k b y z within also same =
     let same_following : take h.more y ≡ take k.more z =
     tails b b _ _ (ap (λ (s : Sequence). s.bytes) same) in
-    same_head h k (sym (length-take-le h.more y m) ∙ ap length same_following
-    ∙ length-take-le k.more z n)
+    same_head h k (sym (length-take-le h.more y within) ∙ ap length same_following
+    ∙ length-take-le k.more z also)
     (ap (λ (s : Sequence). s.text) same) (ap (λ (s : Sequence). s.kind) same)
     (ap (λ (s : Sequence). s.set) same)
 

@@ -13,7 +13,8 @@ use Rattle.enc_decoder.specs.CodecLaw.{text_chars, taken_bytes, IsNextSequence, 
 use Rattle.enc_decoder.specs.Latin1.{IsLatin1Sequence, AreLatin1Sequences, IsLatin1Prefix, HasNoByteSequences}
 use Rattle.enc_decoder.specs.Latin1.{CodecMayBeLatin1}
 use Rattle.enc_decoder.proofs.DeterminedLemmas.{begins_after, none_determined}
-use Rattle.enc_decoder.proofs.NextEventLemmas.{takes_or, holds_sequences}
+use Rattle.enc_decoder.proofs.FirstSequenceLemmas.{true_or_false}
+use Rattle.enc_decoder.proofs.NextEventLemmas.{holds_sequences}
 
 -- a byte that is a valid sequence by itself
 pub has_bytes_by : (rule : Rule) (b : ℕ) (z : List ℕ) → (rule 0 b z).kind ≡ Valid
@@ -189,7 +190,7 @@ module _ {C : Type 0} {state : C → CodecState} {v : CodecState} {bytes : List 
         → IsLatin1Prefix (remainder_of v).sequences bytes k
     latin1_ends_showing shows n = prefix_if (λ l q is_latin1 d.
         let first = comes_first has_next q d in
-        elim (takes_or s.takes_byte) [
+        elim (true_or_false s.takes_byte) [
           | inl takes ↦
               let is_byte : q ≡ sequence (byte ∷ []) =
               same q (sequence (byte ∷ [])) first.0 ((remainder_of (state s.next)).sequences [])

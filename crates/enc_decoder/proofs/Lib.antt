@@ -2,8 +2,6 @@ pub mod SequenceLemmas
 pub mod SegmentationLemmas
 pub mod DeterminedLemmas
 pub mod ByteLemmas
-pub mod DecodeProgressLemmas
-pub mod CallLemmas
 pub mod NextEventLemmas
 pub mod MachineLemmas
 pub mod RuleLemmas
@@ -16,7 +14,17 @@ pub mod Latin1Lemmas
 pub mod NeedLemmas
 pub mod EnoughLemmas
 pub mod LookaheadLemmas
-pub mod SuccessiveCallLemmas
 pub mod ReplacingLemmas
 pub mod ShiftedInputLemmas
+pub mod StageLemmas
+pub mod InnerInputLemmas
+pub mod InnerCallLemmas
+pub mod LeavesLemmas
+pub mod StateLeavesLemmas
+pub mod SettledCallLemmas
+pub mod TwoCallsLemmas
+pub mod DroppedPrefixLemmas
+pub mod OutputStageLemmas
+pub mod TakenRunLemmas
+pub mod EventLeavesLemmas
 pub mod JoinedCallLemmas

@@ -10,14 +10,8 @@ use Rattle.enc_decoder.specs.Remainder.{AreBytes, AreFirstSequences, Determines}
 use Rattle.enc_decoder.specs.RuleLaws.{IsDeterminedWithin, IsLookahead, IsDeterminedByEnd, HasLookahead}
 use Rattle.enc_decoder.specs.Lookahead.{CoverLookahead}
 use Rattle.enc_decoder.proofs.ByteLemmas.{bytes-append, bytes-drop}
-use Rattle.enc_decoder.proofs.SegmentationLemmas.{sequences_of-nil, sequences_of-cons}
+use Rattle.enc_decoder.proofs.SegmentationLemmas.{sequences_of-nil, sequences_of-cons, first_of, rest_of}
 use Rattle.enc_decoder.proofs.FirstSequenceLemmas.{same_by_sequence, within_by}
-
-first_is : (s t : Sequence) (ss ts : List Sequence) → s ∷ ss ≡ t ∷ ts → s ≡ t
-first_is s t ss ts e = cc
-
-rest_is : (s t : Sequence) (ss ts : List Sequence) → s ∷ ss ≡ t ∷ ts → ss ≡ ts
-rest_is s t ss ts e = cc
 
 none_begin : (s : Sequence) (ss : List Sequence) → AreFirstSequences (s ∷ ss) [] → ⊥
 none_begin s ss first = let none_is_one : [] ≡ s ∷ (ss ++ first.0) = first.1 in cc
@@ -35,10 +29,10 @@ module _ (rule : Rule) (law : HasLookahead rule) where
     more = (rule set b z).more
 
     s_is : s ≡ head_sequence (rule set b z) b z
-    s_is = first_is _ _ _ _ (sym whole ∙ sequences_of-cons rule set b z)
+    s_is = first_of _ _ _ _ (sym whole ∙ sequences_of-cons rule set b z)
 
     following : sequences_of rule (rule set b z).set (drop more z) ≡ ss ++ rest
-    following = rest_is _ _ _ _ (sym (sequences_of-cons rule set b z) ∙ whole)
+    following = rest_of _ _ _ _ (sym (sequences_of-cons rule set b z) ∙ whole)
 
     -- other bytes with the same first sequence have the same head
     same_head : (y : List ℕ) → AreFirstSequences (s ∷ ss) (sequences_of rule set (b ∷ y))
@@ -46,26 +40,26 @@ module _ (rule : Rule) (law : HasLookahead rule) where
     same_head y g =
         same_by_sequence (rule set b y) (rule set b z) b y z (within_by rule law set b y)
         (within_by rule law set b z)
-        (first_is _ _ _ _ (sym (sequences_of-cons rule set b y) ∙ g.1) ∙ s_is)
+        (first_of _ _ _ _ (sym (sequences_of-cons rule set b y) ∙ g.1) ∙ s_is)
 
     -- any bytes may follow the lookahead
     still_determined : (n j : ℕ) → IsDeterminedWithin rule set b z n → more + n ≤ j → (y : List ℕ)
         → rule set b (take j z ++ y) ≡ rule set b z
-    still_determined n j t l y =
+    still_determined n j determined contains y =
         let enough_len = more + n in
         ap (rule set b) (ap (λ x. x ++ y) (sym (take-append-drop enough_len (take j z))
-        ∙ ap (λ x. x ++ drop enough_len (take j z)) (take-take enough_len j z l))
+        ∙ ap (λ x. x ++ drop enough_len (take j z)) (take-take enough_len j z contains))
         ∙ append_assoc (take enough_len z) (drop enough_len (take j z)) y)
-        ∙ t.same (drop enough_len (take j z) ++ y)
+        ∙ determined.same (drop enough_len (take j z) ++ y)
 
     -- then this sequence comes first, and the others are those of the rest
     shown : (n j : ℕ) → IsDeterminedWithin rule set b z n → more + n ≤ j → j ≤ length z
         → (y : List ℕ)
         → sequences_of rule set (b ∷ (take j z ++ y)) ≡ s ∷ sequences_of rule (rule set b z).set
         (take (j - more) (drop more z) ++ y)
-    shown n j t contains w y =
-        let as_long : length (take j z) ≡ j = length-take-le j z w in
-        let same_front = still_determined n j t contains y in
+    shown n j determined contains within y =
+        let as_long : length (take j z) ≡ j = length-take-le j z within in
+        let same_front = still_determined n j determined contains y in
         sequences_of-cons rule set b (take j z ++ y)
         ∙ ap (λ (h : Head). head_sequence h b (take j z ++ y)
         ∷ sequences_of rule h.set (drop h.more (take j z ++ y))) same_front
@@ -111,14 +105,14 @@ module _ (rule : Rule) (law : HasLookahead rule) where
           nil_after (c ∷ x) = ap (λ y. c ∷ y) (nil_after x)
 
       enough : (n : ℕ) → IsLookahead rule set b z n → more + n ≤ j
-      enough n t = elim (leb_tells (more + n) j) [
-        | inl l ↦ l.1
-        | inr f ↦ absurd (
+      enough n lookahead = elim (leb_tells (more + n) j) [
+        | inl is_enough ↦ is_enough.1
+        | inr too_few ↦ absurd (
             let contains = own_bytes in
             let parted : more + (j - more) ≡ j = omega (arith, contains) in
-            t.least are_bytes (j - more) (omega (arith, contains, f.1))
-            (λ y e. ap (λ k. rule set b (take k z ++ y)) parted
-            ∙ same_head (take j z ++ y) (determines y e)))
+            lookahead.least are_bytes (j - more) (omega (arith, contains, too_few.1))
+            (λ y are_bytes. ap (λ k. rule set b (take k z ++ y)) parted
+            ∙ same_head (take j z ++ y) (determines y are_bytes)))
       ]
 
       looked : (n : ℕ) × IsLookahead rule set b z n × (1 + more + n ≤ suc j)
@@ -132,7 +126,7 @@ module _ (rule : Rule) (law : HasLookahead rule) where
       rest_determined = λ y e.
           let first = determines y e in let lookahead = looked in (
             first.0,
-            rest_is _ _ _ _ (sym (shown lookahead.0 j lookahead.1.determined
+            rest_of _ _ _ _ (sym (shown lookahead.0 j lookahead.1.determined
                 (omega (arith, lookahead.2)) enough_bytes y) ∙ first.1),
           )
 
@@ -199,29 +193,30 @@ module _ (rule : Rule) (law : HasLookahead rule) where
 pub determined_not_by_end : (rule : Rule) (set b : ℕ) (z : List ℕ) (n : ℕ)
     → IsDeterminedWithin rule set b z n
     → IsDeterminedByEnd rule set b z → ⊥
-determined_not_by_end rule set b z n t by_end =
+determined_not_by_end rule set b z n determined by_end =
     let enough_len = (rule set b z).more + n in
     by_end.other (
     ap (rule set b) (ap (λ x. x ++ by_end.more) (sym (take-append-drop enough_len z))
     ∙ append_assoc (take enough_len z) (drop enough_len z) by_end.more)
-    ∙ t.same (drop enough_len z ++ by_end.more)
+    ∙ determined.same (drop enough_len z ++ by_end.more)
     )
 
 -- the lookahead is the least
 pub no_more_than : (rule : Rule) (set b : ℕ) (z : List ℕ) (n m : ℕ) → AreBytes z
     → IsLookahead rule set b z n
     → IsDeterminedWithin rule set b z m → n ≤ m
-no_more_than rule set b z n m a l t = elim (leb_tells n m) [
-  | inl h ↦ h.1
-  | inr f ↦ absurd (l.least a m f.1 (λ y _. t.same y))
+no_more_than rule set b z n m are_bytes lookahead determined = elim (leb_tells n m) [
+  | inl within ↦ within.1
+  | inr more ↦ absurd (lookahead.least are_bytes m more.1 (λ y _. determined.same y))
 ]
 
 -- it is at most three
 pub at_most_three : (rule : Rule) → HasLookahead rule → (set b : ℕ) (z : List ℕ) (n : ℕ)
     → AreBytes z
     → IsLookahead rule set b z n → n ≤ 3
-at_most_three rule law set b z n a lookahead = elim (law.others set b z) [
+at_most_three rule law set b z n are_bytes lookahead = elim (law.others set b z) [
   | inl found ↦
-      omega (arith, found.1, no_more_than rule set b z n found.0 a lookahead found.2.determined)
-  | inr e ↦ absurd (determined_not_by_end rule set b z n lookahead.determined e)
+      let least = no_more_than rule set b z n found.0 are_bytes lookahead found.2.determined in
+      omega (arith, found.1, least)
+  | inr by_end ↦ absurd (determined_not_by_end rule set b z n lookahead.determined by_end)
 ]

@@ -1,5 +1,6 @@
 -- What a call needs, by what it does.
-use Rattle.std.proofs.Common.{◌≡◌, ◌⊎◌, ℕ, ◌+◌, ◌-◌, ◌<◌, ◌≤◌, Bool, true, false, cond, ◌||◌, List, [], ◌∷◌, ◌++◌}
+use Rattle.std.proofs.Common.{◌↔◌}
+use Rattle.std.proofs.Common.{◌≡◌, ◌⊎◌, ℕ, ◌+◌, ◌<◌, ◌≤◌, Bool, true, false, cond, ◌||◌, List, [], ◌∷◌, ◌++◌}
 use Rattle.std.proofs.Common.{length, drop, refl, ap, ◌∙◌, sym, arith, subst, append_assoc, inl, inr}
 use Rattle.std.proofs.lemmas.List.{append-nil, length-append}
 use Rattle.std.proofs.Math.ListN.{drop_of_length-le}
@@ -11,12 +12,13 @@ use Rattle.enc_units.specs.Output.{Output, units_of_text}
 use Rattle.enc_decoder.specs.Sequence.{Sequence, is_malformed, any_malformed, sequence_text}
 use Rattle.enc_decoder.specs.Remainder.{Remainder, AreFirstSequences, Determines, AreDetermined}
 use Rattle.enc_decoder.specs.Call.{DecodeErrorMode, Replacement, Fatal, is_replacement_mode, keeps_room}
-use Rattle.enc_decoder.specs.Call.{DecoderAtInputEmpty, DecoderAtOutputFull, AtMalformed, DecoderStops, DecoderCall}
-use Rattle.enc_decoder.specs.Call.{DecoderCallInto}
+use Rattle.enc_decoder.specs.Call.{DecoderStops}
 use Rattle.enc_decoder.specs.Need.{sequences_before_malformed, needed_sequences, needed_units, NeedExceeds, kept_room}
-use Rattle.enc_decoder.specs.Need.{MeetsDecodeNeed}
+use Rattle.enc_decoder.specs.Need.{MeetsDecodeNeed, MeetsDecodeNeedInto}
+use Rattle.enc_decoder.specs.CallRecord.{Call, CallInto, IsCall, IsCallInto}
 use Rattle.enc_decoder.proofs.SequenceLemmas.{units-append}
-use Rattle.enc_decoder.proofs.DeterminedLemmas.{determines_fewer, begins_after}
+use Rattle.enc_decoder.proofs.DeterminedLemmas.{determines_fewer, determined_at, LeavesOff, determined_after}
+use Rattle.enc_decoder.proofs.DeterminedLemmas.{determined_past}
 
 -- of two lists that begin a third, one begins the other
 
@@ -102,151 +104,6 @@ at_end true remaining x ss are_determined = are_determined
 at_end false remaining x ss are_determined =
     subst (λ y. AreFirstSequences ss (remaining y)) (append-nil x) (are_determined [] tt)
 
-none_needed : (last : Bool) (remaining : List ℕ → List Sequence) (x : List ℕ)
-    → AreDetermined last remaining x []
-none_needed true remaining x = (remaining x, refl)
-none_needed false remaining x = λ z _. (remaining (x ++ z), refl)
-
--- a call that leaves sequences off: those still to come are theirs and the ones after them
-module _ (old new : List ℕ → List Sequence) (src rest : List ℕ) (done : List Sequence) where
-  abbrev LeavesOff : Bool → Type 0
-  LeavesOff last = (z : List ℕ) → (last ≡ true → z ≡ []) → old (src ++ z) ≡ done ++ new (rest ++ z)
-
-  whole : LeavesOff true → old src ≡ done ++ new rest
-  whole h = ap old (sym (append-nil src)) ∙ h [] (λ _. refl)
-      ∙ ap (λ x. done ++ new x) (append-nil rest)
-
-  after_done : (last : Bool) → LeavesOff last → (ts : List Sequence)
-      → AreDetermined last new rest ts
-      → AreDetermined last old src (done ++ ts)
-  after_done true leaves_off ts are_determined = (
-    are_determined.0,
-    whole leaves_off ∙ ap (λ ss. done ++ ss) are_determined.1
-        ∙ sym (append_assoc done ts are_determined.0),
-  )
-  after_done false leaves_off ts are_determined = λ z b.
-      let first = are_determined z b in (
-        first.0,
-        leaves_off z (λ n. absurd (false≢true n)) ∙ ap (λ ss. done ++ ss) first.1
-            ∙ sym (append_assoc done ts first.0),
-      )
-
-  past_done : (last : Bool) → LeavesOff last → (ts : List Sequence)
-      → AreDetermined last old src (done ++ ts) → AreDetermined last new rest ts
-  past_done true leaves_off ts are_determined =
-      begins_after done ts (new rest) (old src) (whole leaves_off) are_determined
-  past_done false leaves_off ts are_determined =
-      λ z b. begins_after done ts (new (rest ++ z)) (old (src ++ z))
-      (leaves_off z (λ n. absurd (false≢true n)))
-      (are_determined z b)
-
-  done_determined : (last : Bool) → LeavesOff last → AreDetermined last old src done
-  done_determined last h =
-      subst (AreDetermined last old src) (append-nil done)
-      (after_done last h [] (none_needed last new rest))
-
-  -- the determined sequences are some of those done, or go on after them
-  compare : (last : Bool) → LeavesOff last → (ss : List Sequence) → AreDetermined last old src ss
-      → AreFirstSequences ss done ⊎ ((s : Sequence) × (ts : List Sequence) × (ss ≡ done ++ s ∷ ts))
-  compare last h ss d = begin_alike ss done (old src) (at_end last old src ss d)
-      (at_end last old src done (done_determined last h))
-
-module _ (units_of : ℕ → List ℕ) (mode : DecodeErrorMode) (old new : Remainder) (src : List ℕ)
-    (last : Bool) (room read : ℕ) where
-  abbrev Passes : ℕ → Type 0
-  Passes n = NeedExceeds units_of mode old src last n
-
-  abbrev of_sequences : List Sequence → ℕ
-  of_sequences ss = needed_units units_of mode ss
-
-  within : (ss done : List Sequence) → AreFirstSequences ss done
-      → of_sequences ss ≤ of_sequences done
-  within ss done first =
-      subst (λ ts. of_sequences ss ≤ of_sequences ts) (sym first.1)
-      (needed_more units_of mode ss first.0)
-
-  module _ (put done : List Sequence)
-      (clean : is_replacement_mode mode ≡ false → any_malformed put ≡ false)
-      (leaves_off : LeavesOff old.sequences new.sequences src (drop read src) done last) where
-    -- where all that is done was put out
-    module _ (all_put : done ≡ put) where
-      clean_done : is_replacement_mode mode ≡ false → any_malformed done ≡ false
-      clean_done r = ap any_malformed all_put ∙ clean r
-
-      needed_done : (ts : List Sequence)
-          → of_sequences (done ++ ts) ≡ units units_of put + of_sequences ts
-      needed_done ts =
-          ap (units units_of) (needed_clean mode done ts clean_done)
-          ∙ units-both units_of done (needed_sequences mode ts)
-          ∙ ap (λ ss. units units_of ss + of_sequences ts) all_put
-
-      all_done : of_sequences done ≡ units units_of put
-      all_done = ap of_sequences (sym (append-nil done)) ∙ needed_done []
-          ∙ plus_none (units units_of put) (of_sequences []) (none mode)
-        where
-          plus_none : (a b : ℕ) → b ≡ 0 → a + b ≡ a
-          plus_none a b f = omega arith
-
-          none : (t : DecodeErrorMode) → needed_units units_of t [] ≡ 0
-          none Replacement = refl
-          none (Fatal keeps) = refl
-
-      goes_on : (n : ℕ) → Passes (units units_of put + n)
-          → NeedExceeds units_of mode new (drop read src) last n
-      goes_on n exceeds =
-          elim (compare old.sequences new.sequences src (drop read src) done last leaves_off
-          exceeds.sequences
-          exceeds.determined) [
-            | inl b ↦ absurd (omega
-                (arith, within exceeds.sequences done b, exceeds.more, all_done))
-            | inr more ↦ record {
-              sequences = more.0 ∷ more.1;
-              determined =
-                  past_done old.sequences new.sequences src (drop read src) done last leaves_off
-                  (more.0 ∷ more.1)
-                  (subst (AreDetermined last old.sequences src) more.2 exceeds.determined);
-              more = omega (
-                arith,
-                exceeds.more,
-                ap of_sequences more.2,
-                needed_done
-                    (more.0 ∷ more.1),
-              );
-            }
-          ]
-
-      comes_back : (n : ℕ) → NeedExceeds units_of mode new (drop read src) last n
-          → Passes (units units_of put + n)
-      comes_back n exceeds = record {
-        sequences = done ++ exceeds.sequences;
-        determined = after_done old.sequences new.sequences src (drop read src) done last leaves_off
-            exceeds.sequences
-            exceeds.determined;
-        more = omega (arith, exceeds.more, needed_done exceeds.sequences);
-      }
-
-      reaches : (n : ℕ) → n < units units_of put → Passes n
-      reaches n l = record {
-        sequences = done;
-        determined = done_determined old.sequences new.sequences src (drop read src) done last
-            leaves_off;
-        more = omega (arith, l, all_done);
-      }
-
--- where all is read, and nothing more is determined
-nothing_more : (last : Bool) (old new : List ℕ → List Sequence) (src rest : List ℕ)
-    (done : List Sequence) → LeavesOff old new src rest done last
-    → rest ≡ [] → (last ≡ false → (s : Sequence) → Determines old src (done ++ s ∷ []) → ⊥)
-    → (last ≡ true → new [] ≡ [])
-    → (s : Sequence) (ts : List Sequence) → AreDetermined last old src (done ++ s ∷ ts) → ⊥
-nothing_more true old new src rest done h e n l s ts are_determined =
-    let first = past_done old new src rest done true h (s ∷ ts) are_determined in
-    let none_is_one : [] ≡ s ∷ (ts ++ first.0) = sym (l refl) ∙ ap new (sym e) ∙ first.1 in
-    cc
-nothing_more false old new src rest done h e n l s ts are_determined =
-    n refl s (determines_fewer old src (done ++ s ∷ []) ts
-    (subst (Determines old src) (sym (append_assoc done (s ∷ []) ts)) are_determined))
-
 same_either : (t : Bool) (x : List Sequence) → cond t x x ≡ x
 same_either true x = refl
 same_either false x = refl
@@ -255,200 +112,264 @@ same_either false x = refl
 one_needed : (mode : DecodeErrorMode) (s : Sequence)
     → (keeps_room mode ≡ false → is_malformed s.kind ≡ false)
     → needed_sequences mode (s ∷ []) ≡ s ∷ []
-one_needed Replacement s n = refl
-one_needed (Fatal true) s n = same_either (is_malformed s.kind) (s ∷ [])
-one_needed (Fatal false) s n = cond-false _ _ _ (n refl)
+one_needed Replacement s not_reported = refl
+one_needed (Fatal true) s not_reported = same_either (is_malformed s.kind) (s ∷ [])
+one_needed (Fatal false) s not_reported = cond-false _ _ _ (not_reported refl)
+
+none_needed : (units_of : ℕ → List ℕ) (mode : DecodeErrorMode) → needed_units units_of mode [] ≡ 0
+none_needed units_of Replacement = refl
+none_needed units_of (Fatal keeps) = refl
 
 module _ (units_of : ℕ → List ℕ) where
   pub units-one : (s : Sequence) (text : List ℕ) → s.text ≡ text
       → units units_of (s ∷ []) ≡ length (units_of_text units_of text)
-  units-one s text e = ap (λ t. length (units_of_text units_of t)) (append-nil s.text ∙ e)
+  units-one s text is_text =
+      ap (λ t. length (units_of_text units_of t)) (append-nil s.text ∙ is_text)
 
   -- after one that is reported nothing more is needed
-  needed_cut : (mode : DecodeErrorMode) (put done : List Sequence) (s : Sequence)
-      (ts : List Sequence) → done ≡ put ++ s ∷ [] → any_malformed put ≡ false
-      → is_malformed s.kind ≡ true → s.text ≡ 0xFFFD ∷ [] → is_replacement_mode mode ≡ false
-      → needed_units units_of mode (done ++ ts) ≡ units units_of put + kept_room units_of mode
-  needed_cut Replacement put done s ts ends_with valid malformed r t = absurd (false≢true (sym t))
-  needed_cut (Fatal true) put done s ts ends_with valid malformed r t =
-      ap (λ d. needed_units units_of (Fatal true) (d ++ ts)) ends_with
-      ∙ ap (needed_units units_of (Fatal true)) (append_assoc put (s ∷ []) ts)
-      ∙ ap (units units_of) (before_cut true put s ts valid malformed)
+  needed_cut : (mode : DecodeErrorMode) (put : List Sequence) (s : Sequence) (ts : List Sequence)
+      → any_malformed put ≡ false → is_malformed s.kind ≡ true → s.text ≡ 0xFFFD ∷ []
+      → is_replacement_mode mode ≡ false
+      → needed_units units_of mode (put ++ s ∷ ts) ≡ units units_of put + kept_room units_of mode
+  needed_cut Replacement put s ts valid malformed replaced fatal = absurd (false≢true (sym fatal))
+  needed_cut (Fatal true) put s ts valid malformed replaced fatal =
+      ap (units units_of) (before_cut true put s ts valid malformed)
       ∙ units-both units_of put (s ∷ [])
       ∙ ap (λ k. units units_of put + k)
-      (units-one s (0xFFFD ∷ []) r ∙ ap length (append-nil (units_of 0xFFFD)))
-  needed_cut (Fatal false) put done s ts ends_with valid malformed r t =
-      ap (λ d. needed_units units_of (Fatal false) (d ++ ts)) ends_with
-      ∙ ap (needed_units units_of (Fatal false)) (append_assoc put (s ∷ []) ts)
-      ∙ ap (units units_of) (before_cut false put s ts valid malformed) ∙ units-both units_of put []
+      (units-one s (0xFFFD ∷ []) replaced ∙ ap length (append-nil (units_of 0xFFFD)))
+  needed_cut (Fatal false) put s ts valid malformed replaced fatal =
+      ap (units units_of) (before_cut false put s ts valid malformed) ∙ units-both units_of put []
 
   kept_fits : (mode : DecodeErrorMode) (n room : ℕ)
       → (keeps_room mode ≡ true → n + length (units_of 0xFFFD) ≤ room) → n ≤ room
       → is_replacement_mode mode ≡ false
       → n + kept_room units_of mode ≤ room
-  kept_fits Replacement n room k l r = absurd (false≢true (sym r))
-  kept_fits (Fatal true) n room k l r = k refl
-  kept_fits (Fatal false) n room k l r = omega (arith, l)
+  kept_fits Replacement n room kept fits fatal = absurd (false≢true (sym fatal))
+  kept_fits (Fatal true) n room kept fits fatal = kept refl
+  kept_fits (Fatal false) n room kept fits fatal = omega (arith, fits)
 
-module _ (units_of : ℕ → List ℕ) (mode : DecodeErrorMode) (old new : Remainder) (src : List ℕ)
-    (last : Bool) (room read : ℕ) (put done : List Sequence)
-    (clean : is_replacement_mode mode ≡ false → any_malformed put ≡ false)
-    (leaves_off : LeavesOff old.sequences new.sequences src (drop read src) done last)
-    (fits : units units_of put ≤ room) where
+module _ {units_of : ℕ → List ℕ} {old new : Remainder} (c : Call)
+    (call : IsCall units_of old new c) where
+  abbrev rest : List ℕ
+  rest = drop c.read c.src
+
+  -- the number of code units that sequences need, and those that are put out
+  abbrev need : List Sequence → ℕ
+  need ss = needed_units units_of c.mode ss
+
+  abbrev put_units : ℕ
+  put_units = units units_of call.put
+
+  abbrev Exceeds : ℕ → Type 0
+  Exceeds n = NeedExceeds units_of c.mode old c.src c.last n
+
+  none_malformed : is_replacement_mode c.mode ≡ false → any_malformed call.put ≡ false
+  none_malformed fatal = sym call.flag ∙ call.none_replaced fatal
+
+  done_determined : AreDetermined c.last old.sequences c.src call.done
+  done_determined = determined_at c.last old.sequences c.src call.done
+      (λ z ends. (_, call.residual z ends))
+
+  -- the determined sequences are some of those done, or go on after them
+  compared : (ss : List Sequence) → AreDetermined c.last old.sequences c.src ss
+      → (need ss ≤ need call.done)
+      ⊎ ((s : Sequence) × (ts : List Sequence) × (ss ≡ call.done ++ s ∷ ts))
+  compared ss determined = elim (begin_alike ss call.done (old.sequences c.src)
+      (at_end c.last old.sequences c.src ss determined)
+      (at_end c.last old.sequences c.src call.done done_determined)) [
+        | inl fewer ↦ inl (subst (λ ts. need ss ≤ need ts) (sym fewer.1)
+            (needed_more units_of c.mode ss fewer.0))
+        | inr more ↦ inr more
+      ]
+
+  -- where all that is done was put out
+  module _ (all_put : call.done ≡ call.put) where
+    needed_done : (ts : List Sequence) → need (call.done ++ ts) ≡ put_units + need ts
+    needed_done ts =
+        ap (units units_of) (needed_clean c.mode call.done ts
+        (λ fatal. ap any_malformed all_put ∙ none_malformed fatal))
+        ∙ units-both units_of call.done (needed_sequences c.mode ts)
+        ∙ ap (λ ss. units units_of ss + need ts) all_put
+
+    all_done : need call.done ≡ put_units
+    all_done = omega (
+      arith,
+      ap need (append-nil call.done),
+      needed_done [],
+      none_needed units_of c.mode,
+    )
+
+    reaches : (n : ℕ) → n < put_units → Exceeds n
+    reaches n fewer = record {
+      sequences = call.done;
+      determined = done_determined;
+      more = omega (arith, fewer, all_done);
+    }
+
+    left : (n : ℕ) → Exceeds (put_units + n) ↔ NeedExceeds units_of c.mode new rest c.last n
+    left n = (
+      λ exceeds. elim (compared exceeds.sequences exceeds.determined) [
+        | inl fewer ↦ absurd (omega (arith, fewer, exceeds.more, all_done))
+        | inr more ↦ record {
+          sequences = more.0 ∷ more.1;
+          determined = determined_past old.sequences new.sequences c.src rest call.done c.last
+              call.residual (more.0 ∷ more.1)
+              (subst (AreDetermined c.last old.sequences c.src) more.2 exceeds.determined);
+          more = omega (
+            arith,
+            exceeds.more,
+            ap need more.2,
+            needed_done (more.0 ∷ more.1),
+          );
+        }
+      ],
+      λ exceeds. record {
+        sequences = call.done ++ exceeds.sequences;
+        determined = determined_after old.sequences new.sequences c.src rest call.done c.last
+            call.residual exceeds.sequences exceeds.determined;
+        more = omega (arith, exceeds.more, needed_done exceeds.sequences);
+      },
+    )
+
   abbrev Meets : DecoderResult → Type 0
-  Meets result = MeetsDecodeNeed units_of mode old new src last room result read
-      (units units_of put)
+  Meets result = MeetsDecodeNeed units_of c.mode old new c.src c.last c.room result c.read put_units
 
-  compared : (ss : List Sequence) → AreDetermined last old.sequences src ss
-      → AreFirstSequences ss done ⊎ ((s : Sequence) × (ts : List Sequence) × (ss ≡ done ++ s ∷ ts))
-  compared = compare old.sequences new.sequences src (drop read src) done last leaves_off
+  abbrev Stops : DecoderResult → Type 0
+  Stops result = DecoderStops units_of old new c.src c.last c.mode c.room call.put call.done c.read
+      result
 
-  shorter : (ss : List Sequence) → AreFirstSequences ss done
-      → needed_units units_of mode ss ≤ needed_units units_of mode done
-  shorter ss b = within units_of mode old new src last room read ss done b
+  fits : put_units ≤ c.room
+  fits = omega (arith, call.fits, ap length call.text)
 
-  -- all is read
-  meets_empty : DecoderAtInputEmpty old new src last put done read → Meets InputEmpty
+  -- where all is read, nothing more is determined
+  none_further : Stops InputEmpty → (s : Sequence) (ts : List Sequence)
+      → AreDetermined c.last old.sequences c.src (call.done ++ s ∷ ts) → ⊥
+  none_further stops s ts = by_last c.last call.residual stops.none_determined stops.none_left
+    where
+      by_last : (last : Bool)
+          → LeavesOff old.sequences new.sequences c.src rest call.done last
+          → (last ≡ false → (t : Sequence)
+          → Determines old.sequences c.src (call.done ++ t ∷ []) → ⊥)
+          → (last ≡ true → new.sequences [] ≡ [])
+          → AreDetermined last old.sequences c.src (call.done ++ s ∷ ts) → ⊥
+      by_last true leaves_off none_determined none_left determined =
+          let first = determined_past old.sequences new.sequences c.src rest call.done true
+          leaves_off (s ∷ ts) determined in
+          let none_unread : rest ≡ [] =
+          drop_of_length-le c.src (omega (arith, stops.all_read)) in
+          let none_is_one : [] ≡ s ∷ (ts ++ first.0) =
+          sym (none_left refl) ∙ ap new.sequences (sym none_unread) ∙ first.1 in
+          cc
+      by_last false leaves_off none_determined none_left determines =
+          none_determined refl s (determines_fewer old.sequences c.src (call.done ++ s ∷ []) ts
+          (subst (Determines old.sequences c.src) (sym (append_assoc call.done (s ∷ []) ts))
+          determines))
+
+  meets_empty : Stops InputEmpty → Meets InputEmpty
   meets_empty stops = record {
     full = (
       λ e. absurd (cc),
       λ exceeds. absurd (elim (compared exceeds.sequences exceeds.determined) [
-        | inl b ↦ omega (
-          arith,
-          exceeds.more,
-          shorter exceeds.sequences b,
-          all_done units_of mode old new src last room read put done clean leaves_off
-              stops.only_put,
-        )
-        | inr more ↦ nothing_more last old.sequences new.sequences src (drop read src) done
-            leaves_off
-            (drop_of_length-le src (omega (arith, stops.all_read)))
-            stops.none_determined stops.none_left more.0 more.1
-            (subst (AreDetermined last old.sequences src) more.2 exceeds.determined)
+        | inl fewer ↦ omega (arith, exceeds.more, fewer, all_done stops.only_put, fits)
+        | inr more ↦ none_further stops more.0 more.1
+            (subst (AreDetermined c.last old.sequences c.src) more.2 exceeds.determined)
       ]),
     );
-    reaches = reaches units_of mode old new src last room read put done clean leaves_off
-        stops.only_put;
-    left = λ n. (
-      goes_on units_of mode old new src last room read put done clean leaves_off stops.only_put n,
-      comes_back units_of mode old new src last room read put done clean leaves_off stops.only_put
-          n,
-    );
+    reaches = reaches stops.only_put;
+    left = left stops.only_put;
   }
 
   -- the next one doesn't fit
-  meets_full : DecoderAtOutputFull units_of old src last mode room put done read → Meets OutputFull
+  meets_full : Stops OutputFull → Meets OutputFull
   meets_full stops = record {
     full = (
       λ _. record {
-        sequences = done ++ stops.next ∷ [];
+        sequences = call.done ++ stops.next ∷ [];
         determined = stops.determined;
         more = omega (
           arith,
           stops.full,
-          needed_done units_of mode old new src last room read put done clean leaves_off
-              stops.only_put
-              (stops.next ∷ []),
-          ap (units units_of) (one_needed mode stops.next stops.not_reported),
+          needed_done stops.only_put (stops.next ∷ []),
+          ap (units units_of) (one_needed c.mode stops.next stops.not_reported),
           units-one units_of stops.next stops.next.text refl,
           ap (units units_of) stops.only_put,
         );
       },
       λ _. refl,
     );
-    reaches = reaches units_of mode old new src last room read put done clean leaves_off
-        stops.only_put;
-    left = λ n. (
-      goes_on units_of mode old new src last room read put done clean leaves_off stops.only_put n,
-      comes_back units_of mode old new src last room read put done clean leaves_off stops.only_put
-          n,
-    );
+    reaches = reaches stops.only_put;
+    left = left stops.only_put;
   }
 
   -- one is reported
-  module _ (l a : ℕ) (stops : AtMalformed units_of old new src last mode room put done read l a)
-    where
-      needed_all : (ts : List Sequence)
-          → needed_units units_of mode (done ++ ts) ≡ units units_of put + kept_room units_of mode
-      needed_all ts =
-          needed_cut units_of mode put done stops.next ts stops.then_next (clean stops.not_replaced)
-          stops.malformed stops.replacement stops.not_replaced
+  module _ (l a : ℕ) (stops : Stops (stop.Malformed l a)) where
+    needed_all : (ts : List Sequence)
+        → need (call.done ++ ts) ≡ put_units + kept_room units_of c.mode
+    needed_all ts =
+        ap (λ ss. need (ss ++ ts)) stops.then_next
+        ∙ ap need (append_assoc call.put (stops.next ∷ []) ts)
+        ∙ needed_cut units_of c.mode call.put stops.next ts (none_malformed stops.not_replaced)
+        stops.malformed stops.replacement stops.not_replaced
 
-      needed_none : needed_units units_of mode done ≡ units units_of put + kept_room units_of mode
-      needed_none = ap (needed_units units_of mode) (sym (append-nil done)) ∙ needed_all []
+    needed_none : need call.done ≡ put_units + kept_room units_of c.mode
+    needed_none = ap need (sym (append-nil call.done)) ∙ needed_all []
 
-      bounded : (n : ℕ) → NeedExceeds units_of mode old src last n
-          → n < units units_of put + kept_room units_of mode
-      bounded n exceeds = let needs_more = exceeds.more in
-          elim (compared exceeds.sequences exceeds.determined) [
-            | inl b ↦ omega (arith, needs_more, shorter exceeds.sequences b, needed_none)
-            | inr more ↦ omega (
-              arith,
-              needs_more,
-              ap (needed_units units_of mode) more.2,
-              needed_all
-                  (more.0 ∷ more.1),
-            )
-          ]
+    bounded : (n : ℕ) → Exceeds n → n < put_units + kept_room units_of c.mode
+    bounded n exceeds = let needs_more = exceeds.more in
+        elim (compared exceeds.sequences exceeds.determined) [
+          | inl fewer ↦ omega (arith, needs_more, fewer, needed_none)
+          | inr more ↦ omega (arith, needs_more, ap need more.2, needed_all (more.0 ∷ more.1))
+        ]
 
-      passes : (n : ℕ) → n < units units_of put + kept_room units_of mode
-          → NeedExceeds units_of mode old src last n
-      passes n g = record {
-        sequences = done;
-        determined = done_determined old.sequences new.sequences src (drop read src) done last
-            leaves_off;
-        more = omega (arith, g, needed_none);
-      }
+    passes : (n : ℕ) → n < put_units + kept_room units_of c.mode → Exceeds n
+    passes n fewer = record {
+      sequences = call.done;
+      determined = done_determined;
+      more = omega (arith, fewer, needed_none);
+    }
 
-      meets_malformed : Meets (stop.Malformed l a)
-      meets_malformed = record {
-        full = (
-          λ e. absurd (cc),
-          λ p. absurd
-              (omega (
-                arith,
-                bounded room p,
-                kept_fits units_of mode (units units_of put) room stops.room_kept fits
-                    stops.not_replaced,
-              )),
-        );
-        reaches = λ n g. passes n (omega (arith, g));
-        left = λ n. (
-          λ p. omega (arith, bounded (units units_of put + n) p),
-          λ g.
-              passes (units units_of put + n) (omega (arith, g)),
-        );
-      }
+    meets_malformed : Meets (stop.Malformed l a)
+    meets_malformed = record {
+      full = (
+        λ e. absurd (cc),
+        λ exceeds. absurd (omega (
+          arith,
+          bounded c.room exceeds,
+          kept_fits units_of c.mode put_units c.room stops.room_kept fits stops.not_replaced,
+        )),
+      );
+      reaches = λ n fewer. passes n (omega (arith, fewer));
+      left = λ n. (
+        λ exceeds. omega (arith, bounded (put_units + n) exceeds),
+        λ fewer. passes (put_units + n) (omega (arith, fewer)),
+      );
+    }
 
-  meets_by : (result : DecoderResult)
-      → DecoderStops units_of old new src last mode room put done read result → Meets result
+  meets_by : (result : DecoderResult) → Stops result → Meets result
   meets_by InputEmpty stops = meets_empty stops
   meets_by OutputFull stops = meets_full stops
   meets_by (stop.Malformed l a) stops = meets_malformed l a stops
 
--- Every call meets what it needs.
-pub meets_need : (units_of : ℕ → List ℕ) (old new : Remainder) (src : List ℕ) (last : Bool)
-    (mode : DecodeErrorMode) (room : ℕ) (result : DecoderResult) (read : ℕ) (wrote : List ℕ)
-    (replaced : Bool)
-    → DecoderCall units_of old new src last mode room result read wrote replaced
-    → MeetsDecodeNeed units_of mode old new src last room result read (length wrote)
-meets_need units_of old new src last mode room result read wrote replaced this_call =
-    let as_put : length wrote ≡ units units_of this_call.put = ap length this_call.text in
-    subst (λ n. MeetsDecodeNeed units_of mode old new src last room result read n) (sym as_put)
-    (meets_by units_of mode old new src last room read this_call.put this_call.done
-    (λ r. sym this_call.flag ∙ this_call.none_replaced r) this_call.residual
-    (omega (arith, this_call.fits, as_put)) result this_call.stops)
+  -- Every call meets what it needs.
+  pub meets_need : MeetsDecodeNeed units_of c.mode old new c.src c.last c.room c.result c.read
+      (length c.wrote)
+  meets_need = subst (MeetsDecodeNeed units_of c.mode old new c.src c.last c.room c.result c.read)
+      (sym (ap length call.text)) (meets_by c.result call.stops)
 
 -- the same by the rooms of an output before and after
-pub meets_into : {units_of : ℕ → List ℕ} {old new : Remainder} {src : List ℕ} {last : Bool}
-    {mode : DecodeErrorMode}
-    {before after : Output} {result : DecoderResult} {read : ℕ} {replaced : Bool}
-    → DecoderCallInto units_of old new src last mode before after result read replaced
-    → MeetsDecodeNeed units_of mode old new src last before.room result read
-    (before.room - after.room)
-meets_into {units_of} {old} {new} {src} {last} {mode} {before} {after} {result} {read} {replaced}
-    this_call =
-    subst (λ n. MeetsDecodeNeed units_of mode old new src last before.room result read n)
-    (omega (arith, this_call.call.call.fits, ap (λ (o : Output). o.room) this_call.onto))
-    (meets_need units_of old new src last mode before.room result read this_call.wrote replaced
-    this_call.call.call)
+pub meets_into : {units_of : ℕ → List ℕ} {old new : Remainder} {c : CallInto}
+    → IsCallInto units_of old new c
+    → MeetsDecodeNeedInto units_of c.mode old new c.src c.last c.before c.after c.result c.read
+meets_into {units_of} {old} {new} {c} into =
+    subst (MeetsDecodeNeed units_of c.mode old new c.src c.last c.before.room c.result c.read)
+    (omega (arith, into.call.call.fits, ap (λ (o : Output). o.room) into.onto))
+    (meets_need (record {
+      src = c.src;
+      last = c.last;
+      mode = c.mode;
+      room = c.before.room;
+      result = c.result;
+      read = c.read;
+      wrote = into.wrote;
+      replaced = c.replaced;
+    }) into.call.call)

@@ -111,50 +111,40 @@ takes_pieces units_of state c src n before after none_pending puts =
       none_malformed = whole_valid value.rule value.set pieces puts.reads.mean;
     }
 
--- the bytes that a piece of one byte has, or of two
-pub one_of : (src : List ℕ) (at : ℕ) → at < length src → take 1 (drop at src) ≡ get_or src at 0 ∷ []
-one_of src at h = ap (take 1) (drop-cons src at 0 h)
-
-pub two_of : (src : List ℕ) (at : ℕ) → at + 1 < length src
-    → take 2 (drop at src) ≡ get_or src at 0 ∷ get_or src (at + 1) 0 ∷ []
-two_of src at h =
-    ap (take 2) (drop-cons src at 0 (omega arith)
-    ∙ ap (λ x. get_or src at 0 ∷ x) (ap (λ k. drop k src) next ∙ drop-cons src (at + 1) 0 h))
-  where
-    next : suc at ≡ at + 1
-    next = omega arith
-
 pub same_piece : (rule : Rule) (set : ℕ) (bytes bytes' : List ℕ) (c : ℕ) → bytes ≡ bytes'
     → IsWholeChar rule set bytes' c → IsWholeChar rule set bytes c
 same_piece rule set bytes bytes' c e p = subst (λ z. IsWholeChar rule set z c) (sym e) p
 
-pub three_of : (src : List ℕ) (at : ℕ) → at + 2 < length src
-    → take 3 (drop at src) ≡ get_or src at 0 ∷ get_or src (at + 1) 0 ∷ get_or src (at + 2) 0 ∷ []
-three_of src at h =
-    ap (take 3) (drop-cons src at 0 (omega arith)
-    ∙ ap (λ x. get_or src at 0 ∷ x)
-    (ap (λ k. drop k src) next ∙ drop-cons src (at + 1) 0 (omega arith)
-    ∙ ap (λ x. get_or src (at + 1) 0 ∷ x) (ap (λ k. drop k src) then ∙ drop-cons src (at + 2) 0 h)))
-  where
-    next : suc at ≡ at + 1
-    next = omega arith
-
-    then : suc (at + 1) ≡ at + 2
-    then = omega arith
+-- the bytes that a piece of one byte has, or of more
 
 next_of : (src : List ℕ) (at n next : ℕ) → next ≡ suc at → at < length src
     → take (suc n) (drop at src) ≡ get_or src at 0 ∷ take n (drop next src)
-next_of src at n next e h =
-    ap (take (suc n)) (drop-cons src at 0 h)
-    ∙ ap (λ k. get_or src at 0 ∷ take n (drop k src)) (sym e)
+next_of src at n next is_next has_byte =
+    ap (take (suc n)) (drop-cons src at 0 has_byte)
+    ∙ ap (λ k. get_or src at 0 ∷ take n (drop k src)) (sym is_next)
+
+pub one_of : (src : List ℕ) (at : ℕ) → at < length src → take 1 (drop at src) ≡ get_or src at 0 ∷ []
+one_of src at has_byte = next_of src at 0 (suc at) refl has_byte
+
+pub two_of : (src : List ℕ) (at : ℕ) → at + 1 < length src
+    → take 2 (drop at src) ≡ get_or src at 0 ∷ get_or src (at + 1) 0 ∷ []
+two_of src at has_bytes =
+    next_of src at 1 (at + 1) (omega arith) (omega arith)
+    ∙ ap (λ x. get_or src at 0 ∷ x) (one_of src (at + 1) has_bytes)
+
+pub three_of : (src : List ℕ) (at : ℕ) → at + 2 < length src
+    → take 3 (drop at src) ≡ get_or src at 0 ∷ get_or src (at + 1) 0 ∷ get_or src (at + 2) 0 ∷ []
+three_of src at has_bytes =
+    next_of src at 2 (at + 1) (omega arith) (omega arith)
+    ∙ ap (λ x. get_or src at 0 ∷ x) (next_of src (at + 1) 1 (at + 2) (omega arith) (omega arith)
+    ∙ ap (λ x. get_or src (at + 1) 0 ∷ x) (one_of src (at + 2) has_bytes))
 
 pub four_of : (src : List ℕ) (at : ℕ) → at + 3 < length src
     → take 4 (drop at src) ≡ get_or src at 0 ∷ get_or src (at + 1) 0 ∷ get_or src (at + 2) 0
     ∷ get_or src (at + 3) 0 ∷ []
-four_of src at h =
-    next_of src at 3 (at + 1) (omega arith) (omega arith) ∙ ap (λ z. get_or src at 0 ∷ z)
+four_of src at has_bytes =
+    next_of src at 3 (at + 1) (omega arith) (omega arith) ∙ ap (λ x. get_or src at 0 ∷ x)
     (next_of src (at + 1) 2 (at + 2) (omega arith) (omega arith)
-    ∙ ap (λ z. get_or src (at + 1) 0 ∷ z)
+    ∙ ap (λ x. get_or src (at + 1) 0 ∷ x)
     (next_of src (at + 2) 1 (at + 3) (omega arith) (omega arith)
-    ∙ ap (λ z. get_or src (at + 2) 0 ∷ z)
-    (next_of src (at + 3) 0 (at + 4) (omega arith) h)))
+    ∙ ap (λ x. get_or src (at + 2) 0 ∷ x) (one_of src (at + 3) has_bytes)))

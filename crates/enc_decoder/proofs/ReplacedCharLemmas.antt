@@ -1,17 +1,16 @@
 -- Sequences that are put out one by one, malformed ones among them.
 use Rattle.std.proofs.Common.{◌≡◌, ℕ, ◌+◌, ◌<◌, ◌≤◌, true, List, [], ◌∷◌, ◌++◌, length, get_or, take, drop, ap}
-use Rattle.std.proofs.Common.{◌∙◌, sym, subst, arith, append_assoc, append-nil, length-append, length-drop, take-add}
+use Rattle.std.proofs.Common.{◌∙◌, sym, subst, arith, append-nil, length-drop}
 use Rattle.std.proofs.Common.{nat_le}
 use Rattle.std.proofs.lemmas.Bool.Decides.{nat_tests}
-use Rattle.enc_units.specs.Output.{Output, AreScalars, with_appended, units_of_text}
-use Rattle.enc_units.proofs.OutputLemmas.{with_appended-with_appended, room_left}
+use Rattle.enc_units.specs.Output.{Output, AreScalars, with_appended}
 use Rattle.enc_decoder.specs.declared.byte_codec.Kind.{Kind}
-use Rattle.enc_decoder.specs.Sequence.{Sequence, sequence_text}
+use Rattle.enc_decoder.specs.Sequence.{Sequence}
 use Rattle.enc_decoder.specs.Segmentation.{Rule, sequences_of}
-use Rattle.enc_decoder.specs.CodecState.{CodecState, remainder_of}
+use Rattle.enc_decoder.specs.CodecState.{CodecState}
 use Rattle.enc_decoder.specs.Taking.{IsSequenceBefore, IsWholeSequence, IsReplacedCharAt, TakesSequences}
-use Rattle.enc_decoder.proofs.SequenceLemmas.{sequence_bytes-one, units-one, set_after-one, scalars_of-one}
-use Rattle.enc_decoder.proofs.TakingLemmas.{follows_first}
+use Rattle.enc_decoder.proofs.TakingLemmas.{takes_more}
+use Rattle.std.proofs.Common.{get_or-drop, refl}
 
 -- bytes that are a sequence whatever follows them
 pub whole_at : {rule : Rule} {set : ℕ} {src : List ℕ} {at n c : ℕ} (kind : Kind) (bytes : List ℕ)
@@ -36,6 +35,9 @@ before_byte {rule} {set} {c = c} kind bytes bytes_are more before = record {
       (subst (λ x. IsSequenceBefore x kind rule set bytes c) (sym begins.1) (before begins.0));
 }
 
+within_room : (m n : ℕ) → nat_le m n ≡ true → m ≤ n
+within_room m n is_le = grind (arith, nat_tests)
+
 -- One more is put out.
 module _ {units_of : ℕ → List ℕ} (v : CodecState) {src : List ℕ} {at n c : ℕ}
     {before mid after : Output} where
@@ -48,42 +50,28 @@ module _ {units_of : ℕ → List ℕ} (v : CodecState) {src : List ℕ} {at n c
       let bytes = take n (drop at src) in
       let next : Sequence =
       record { bytes = bytes; text = c ∷ []; kind = found.kind; set = v.set } in
-      let units = units_of_text units_of (sequence_text so_far.taken) in
-      let all_units : units_of_text units_of (sequence_text (so_far.taken ++ next ∷ []))
-      ≡ units ++ units_of c =
-      units-one units_of so_far.taken next ∙ ap (λ x. units ++ x) (append-nil (units_of c)) in
-      let enough : length (units_of c) ≤ mid.room = grind (arith, nat_tests) in
-      record {
-        taken = so_far.taken ++ next ∷ [];
-        within = omega (arith, so_far.within, length-drop at src);
-        bytes = sequence_bytes-one so_far.taken next ∙ ap (λ x. x ++ bytes) so_far.bytes
-            ∙ sym (take-add at n src);
+      let same_units : units_of c ≡ units_of c ++ [] = sym (append-nil (units_of c)) in
+      takes_more so_far (record {
+        taken = next ∷ [];
+        within = within;
+        bytes = append-nil bytes;
         first = λ y may_follow.
-            ap (remainder_of v).sequences
-            (ap (λ x. x ++ y) (take-add at n src) ∙ append_assoc (take at src) bytes y)
-            ∙ so_far.first (bytes ++ y) (follows_first src at n y may_follow)
-            ∙ ap (λ ss. so_far.taken ++ ss)
-            (ap (λ q. sequences_of v.rule v.set (q ++ (bytes ++ y))) none_pending
-            ∙ found.first y may_follow
-            ∙ ap (λ q. next ∷ sequences_of v.rule v.set (q ++ y)) (sym none_pending))
-            ∙ sym (append_assoc so_far.taken (next ∷ []) ((remainder_of v).sequences y));
-        next_state = ap (λ k. record v { set = k })
-            (sym (set_after-one v.set so_far.taken next));
-        scalars = scalars_of-one so_far.taken next so_far.scalars scalar;
+            ap (λ q. sequences_of v.rule v.set (q ++ (bytes ++ y))) none_pending
+            ∙ found.first y (λ more.
+            let begins = may_follow (omega (arith, length-drop at src)) in
+            (begins.0, begins.1 ∙ ap (λ b. b ∷ begins.0) (get_or-drop at src n 0)))
+            ∙ ap (λ q. next ∷ sequences_of v.rule v.set (q ++ y)) (sym none_pending);
+        next_state = refl;
+        scalars = scalar;
         fits = omega (
           arith,
-          ap length all_units,
-          length-append units (units_of c),
-          so_far.fits,
-          enough,
-          room_left before mid units so_far.written,
+          ap length same_units,
+          within_room (length (units_of c)) mid.room fits_room,
         );
-        written = onto ∙ ap (λ o. with_appended o (units_of c)) so_far.written
-            ∙ with_appended-with_appended before units (units_of c)
-            ∙ ap (with_appended before) (sym all_units);
+        written = onto ∙ ap (with_appended mid) same_units;
         none_pending = λ _. none_pending;
         none_taken = λ none. absurd (omega arith);
-      }
+      })
 
 -- the same over an output that is known to be as it was
 pub same_after : {units_of : ℕ → List ℕ} (v : CodecState) {src : List ℕ} {n : ℕ}

@@ -14,7 +14,7 @@ record IsOfRule (rule : Rule) (s : Sequence) : Type 0 where
   set : ℕ
   first : ℕ
   following : List ℕ
-  is : s ≡ head_sequence (rule set first following) first following
+  is_head : s ≡ head_sequence (rule set first following) first following
 
 abbrev AreOfRule : Rule → List Sequence → Type 0
 AreOfRule rule [] = Unit {0}
@@ -25,7 +25,7 @@ rest_of_rule : (rule : Rule) (set k : ℕ) (z : List ℕ)
 unfolding sequences_after
 rest_of_rule rule set k [] = tt
 rest_of_rule rule set zero (b ∷ z) = (
-  record { set = set; first = b; following = z; is = refl },
+  record { set = set; first = b; following = z; is_head = refl },
   rest_of_rule rule (rule set b z).set (rule set b z).more z,
 )
 rest_of_rule rule set (suc k) (b ∷ z) = rest_of_rule rule set k z
@@ -38,18 +38,18 @@ one_of rule (t ∷ done) s rest all = one_of rule done s rest all.1
 is_of_rule : (rule : Rule) (set : ℕ) (z : List ℕ) (done : List Sequence) (s : Sequence)
     (rest : List Sequence)
     → sequences_of rule set z ≡ done ++ s ∷ rest → IsOfRule rule s
-is_of_rule rule set z done s rest e =
-    one_of rule done s rest (subst (AreOfRule rule) e (rest_of_rule rule set 0 z))
+is_of_rule rule set z done s rest whole =
+    one_of rule done s rest (subst (AreOfRule rule) whole (rest_of_rule rule set 0 z))
 
 some_bytes : (rule : Rule) (s : Sequence) → IsOfRule rule s → 0 < length s.bytes
-some_bytes rule s h = omega (arith, ap (λ (t : Sequence). length t.bytes) h.is)
+some_bytes rule s of_rule = omega (arith, ap (λ (t : Sequence). length t.bytes) of_rule.is_head)
 
 no_text : (rule : Rule) → HasTexts rule → (s : Sequence) (ss : List Sequence) → IsOfRule rule s
     → sequence_text (s ∷ ss) ≡ [] → ⊥
-no_text rule has s ss of_rule e =
+no_text rule has s ss of_rule no_text_first =
     has of_rule.set of_rule.first of_rule.following
     (front_nil (rule of_rule.set of_rule.first of_rule.following).text (sequence_text ss)
-    (subst (λ (t : Sequence). t.text ++ sequence_text ss ≡ []) of_rule.is e))
+    (subst (λ (t : Sequence). t.text ++ sequence_text ss ≡ []) of_rule.is_head no_text_first))
   where
     front_nil : (a b : List ℕ) → a ++ b ≡ [] → a ≡ []
     front_nil [] b e = refl
@@ -58,24 +58,24 @@ no_text rule has s ss of_rule e =
 -- a sequence has a byte
 pub has_bytes : (rule : Rule) (set : ℕ) (z : List ℕ) (done : List Sequence) (s : Sequence)
     (rest : List Sequence) → sequences_of rule set z ≡ done ++ s ∷ rest → 0 < length s.bytes
-has_bytes rule set z done s rest e = some_bytes rule s (is_of_rule rule set z done s rest e)
+has_bytes rule set z done s rest whole = some_bytes rule s (is_of_rule rule set z done s rest whole)
 
 -- where each has a text, none is done without one
 pub none_without_text : (rule : Rule) → HasTexts rule
     → (set : ℕ) (z : List ℕ) (done rest : List Sequence) → sequences_of rule set z ≡ done ++ rest
     → sequence_text done ≡ [] → done ≡ []
-none_without_text rule has set z [] rest e t = refl
-none_without_text rule has set z (s ∷ done) rest e t =
-    absurd (no_text rule has s done (is_of_rule rule set z [] s (done ++ rest) e) t)
+none_without_text rule has set z [] rest whole is_empty = refl
+none_without_text rule has set z (s ∷ done) rest whole is_empty =
+    absurd (no_text rule has s done (is_of_rule rule set z [] s (done ++ rest) whole) is_empty)
 
 -- where each has a small text, so has this one
 pub small_text : (rule : Rule) → HasSmallTexts rule
     → (set : ℕ) (z : List ℕ) (done : List Sequence) (s : Sequence) (rest : List Sequence)
     → sequences_of rule set z ≡ done ++ s ∷ rest
     → IsSmallText s.text
-small_text rule small set z done s rest e =
-    let of_rule = is_of_rule rule set z done s rest e in
-    subst (λ (t : Sequence). IsSmallText t.text) (sym of_rule.is)
+small_text rule small set z done s rest whole =
+    let of_rule = is_of_rule rule set z done s rest whole in
+    subst (λ (t : Sequence). IsSmallText t.text) (sym of_rule.is_head)
     (small of_rule.set of_rule.first of_rule.following)
 
 units_bounds : (c : ℕ) → (1 ≤ length (encode_utf8 c)) × (length (encode_utf8 c) ≤ 4)

@@ -35,10 +35,10 @@ pub sequences_of-nil : (rule : Rule) (set : ℕ) → sequences_of rule set [] �
 unfolding sequences_after
 sequences_of-nil rule set = refl
 
-first_of : (s t : Sequence) (ss ts : List Sequence) → s ∷ ss ≡ t ∷ ts → s ≡ t
+pub first_of : (s t : Sequence) (ss ts : List Sequence) → s ∷ ss ≡ t ∷ ts → s ≡ t
 first_of s t ss ts e = cc
 
-rest_of : (s t : Sequence) (ss ts : List Sequence) → s ∷ ss ≡ t ∷ ts → ss ≡ ts
+pub rest_of : (s t : Sequence) (ss ts : List Sequence) → s ∷ ss ≡ t ∷ ts → ss ≡ ts
 rest_of s t ss ts e = cc
 
 none_first : (s : Sequence) (ss : List Sequence) → [] ≡ s ∷ ss → ⊥

@@ -18,7 +18,7 @@ use Rattle.enc_decoder.specs.Call.{DecoderCall, DecodeErrorMode, AreReportedLens
 use Rattle.enc_decoder.proofs.SequenceLemmas.{sequence_bytes-one, units-append, any_malformed-append, scalars_of-append}
 use Rattle.enc_decoder.proofs.DeterminedLemmas.{begins_after}
 use Rattle.enc_decoder.proofs.ByteLemmas.{determines_by_more}
-use Rattle.enc_decoder.proofs.SuccessiveCallLemmas.{first_of}
+use Rattle.enc_decoder.proofs.InnerInputLemmas.{sequence_at_end}
 
 -- How the input of an inner decoder lies in that of an outer one. From `from` on, the outer one
 -- makes of its first n bytes the sequences done before and those that the inner one makes of its
@@ -330,7 +330,7 @@ module _ (units_of : ℕ → List ℕ) (old inner : Remainder) (src bytes : List
             not_shown = regrouped (λ x. (read ≡ 0)
                 ⊎ (Determines old.sequences (take read src) x → ⊥))
                 (not_shown carries reads (inner_call.done ++ inner_call.stops.next ∷ [])
-                (first_of inner_call.done inner_call.stops.next)
+                (sequence_at_end inner_call.done inner_call.stops.next)
                 inner_call.stops.reads.not_shown);
             shown_next = λ i. regrouped (Determines old.sequences (take (read + 1) src))
                 (shown_next carries reads are (inner_call.done ++ inner_call.stops.next ∷ [])
@@ -363,7 +363,7 @@ module _ (units_of : ℕ → List ℕ) (old inner : Remainder) (src bytes : List
       done_is = inner_call.stops.then_next
 
       some : (x : Sequence) × (rest : List Sequence) × (inner_call.done ≡ x ∷ rest)
-      some = let begins = first_of inner_call.put inner_call.stops.next in
+      some = let begins = sequence_at_end inner_call.put inner_call.stops.next in
           (begins.0, begins.1, done_is ∙ begins.2)
 
       few : Accounted → l + a ≤ n
@@ -519,7 +519,7 @@ module _ (units_of : ℕ → List ℕ) (old inner : Remainder) (src bytes : List
           hidden_below : read < below → (s : Sequence)
               → Determines old.sequences (take read src) ((before ++ inner_call.done) ++ s ∷ []) → ⊥
           hidden_below h s =
-              hides s (unshown carries (inner_call.done ++ s ∷ []) (first_of inner_call.done s) read
+              hides s (unshown carries (inner_call.done ++ s ∷ []) (sequence_at_end inner_call.done s) read
               h)
 
           none_after : (read ≡ 0) ⊎ ((s : Sequence) → Determines old.sequences (take read src)

@@ -2,6 +2,7 @@ pub mod Sequence
 pub mod Segmentation
 pub mod Remainder
 pub mod Call
+pub mod CallRecord
 pub mod CodecState
 pub mod CodecLaw
 pub mod RuleLaws

@@ -198,12 +198,10 @@ takes_in_ascii {units_of} {c} {src} {front} m {n} {before} {after} in_ascii is_f
     (takes_replaced (jp_state (state_with_held Ascii None)) refl (puts_wider m is_front puts))
 
 -- A run is taken, and another after it.
-module _ {units_of : ℕ → List ℕ} {c : Iso2022JpState} {src : List ℕ} {before : Output} where
-  pub takes_run_after : {m n : Iso2022JpState} {rest : List ℕ} {read more : ℕ} {mid after : Output}
-      → rest ≡ drop read src
-      → TakesRun units_of jp_state c m src read before mid
-      → TakesRun units_of jp_state m n rest more mid after
-      → TakesRun units_of jp_state c n src (read + more) before after
-  takes_run_after {m} {n} {rest} {read} {more} {mid} {after} rest_is first_run next_run =
-      takes_both units_of jp_state c m n src read more before mid after rest rest_is first_run
-      next_run
+pub takes_run_after : {units_of : ℕ → List ℕ} {c m n : Iso2022JpState} {src rest : List ℕ}
+    {read more : ℕ}
+    {before mid after : Output} → rest ≡ drop read src
+    → TakesRun units_of jp_state c m src read before mid
+    → TakesRun units_of jp_state m n rest more mid after
+    → TakesRun units_of jp_state c n src (read + more) before after
+takes_run_after rest_is first_run next_run = takes_both rest_is first_run next_run

@@ -1,6 +1,7 @@
 -- How a decoder starts, and where it has come to the end.
 use Rattle.std.proofs.Common.{◌≡◌, ℕ, Bool, true, false, true≢false, List, [], ◌∷◌, ◌++◌, take, refl, ap, ◌∙◌, sym}
 use Rattle.std.proofs.Common.{◌||◌, append-nil}
+use Rattle.std.proofs.lemmas.Bool.{false≢true}
 use Rattle.std.specs.Prelude.{Option, Some, if◌then◌else◌, bytes_eq}
 use Rattle.std.specs.Char.{encode_utf8}
 use Rattle.enc_stream.specs.declared.bom.BomHandling.{BomHandling}
@@ -12,11 +13,15 @@ use Rattle.enc_stream.specs.declared.life_cycle.LifeCycle.{LifeCycle}
 use Rattle.enc_stream.specs.declared.life_cycle.LifeCycle.TheVariants.{AtStart, SeenUtf8Second, ConvertingWithPendingBb}
 use Rattle.enc_stream.specs.declared.life_cycle.LifeCycle.TheVariants.{Converting, Finished}
 use Rattle.enc_units.specs.declared.decoder_result.DecoderResult.{DecoderResult}
+use Rattle.enc_units.specs.declared.decoder_result.DecoderResult.TheVariants.{Malformed}
+use Rattle.enc_units.specs.declared.decoder_result.DecoderResult.TheVariants as decoder
+use Rattle.enc_decoder.specs.Converting.{shifted_result}
 use Rattle.enc_units.specs.declared.coder_result.CoderResult.{CoderResult}
 use Rattle.enc_units.specs.declared.coder_result.CoderResult.TheVariants.{InputEmpty, OutputFull}
 use Rattle.enc_units.specs.Output.{units_of_text}
 use Rattle.enc_decoder.specs.Sequence.{Sequence, sequence_bytes, sequence_text, any_malformed}
-use Rattle.enc_decoder.specs.Call.{DecodeErrorMode, reaches_end}
+use Rattle.enc_decoder.specs.Remainder.{Remainder}
+use Rattle.enc_decoder.specs.Call.{DecoderStops, Replacement, reaches_end}
 use Rattle.enc_stream.specs.Bom.{marks_of_encoding, find_mark, sequences_by_mark}
 use Rattle.enc_stream.specs.LifeCycle.{phase_of, sequences_in, mark_prefixes, life_at_prefix, life_after_bytes}
 use Rattle.enc_stream.specs.LifeCycle.{life_after_sequences, life_after}
@@ -24,6 +29,26 @@ use Rattle.enc_units.specs.Results.{decoder_result_of}
 use Rattle.enc_stream.specs.Decoding.{DecoderState, has_ended, has_finished, removal_start, fresh_decoder}
 use Rattle.enc_stream.specs.Decoding.{remaining_sequences, whole_sequences, whole_utf_8, whole_malformed, DecodesChunk}
 use Rattle.enc_stream.specs.Decoding.{DecodesReplacing, HasDecoded}
+
+-- Whether a call reaches the end.
+
+-- a stop reaches the end exactly if the shifted stop does
+pub end_placed : (last : Bool) (stop : DecoderResult) (n : ℕ)
+    → reaches_end last (shifted_result stop n) ≡ reaches_end last stop
+end_placed last decoder.InputEmpty n = refl
+end_placed last decoder.OutputFull n = refl
+end_placed last (Malformed l a) n = refl
+
+pub at_end : (last : Bool) (stop : DecoderResult) → reaches_end last stop ≡ true → (last ≡ true)
+    × (stop ≡ decoder.InputEmpty)
+at_end last decoder.InputEmpty ends = (ends, refl)
+at_end last decoder.OutputFull ends = absurd (false≢true ends)
+at_end last (Malformed l a) ends = absurd (false≢true ends)
+
+pub not_at_end : (last : Bool) (stop : DecoderResult) → reaches_end last stop ≡ false → last ≡ true
+    → stop ≡ decoder.InputEmpty → ⊥
+not_at_end last stop goes_on is_last is_empty =
+    false≢true (sym goes_on ∙ ap (reaches_end last) is_empty ∙ is_last)
 
 -- whether a state that may come next is the end
 any_ended : List (List ℕ × LifeCycle) → Bool
@@ -79,39 +104,15 @@ pub ends_at_end : (life : LifeCycle) (end : Bool) (bytes : List ℕ) (done : Lis
 ends_at_end life true bytes done = refl
 ends_at_end life false bytes done = open_at (mark_prefixes life) bytes done (none_ended life)
 
--- so a call has finished exactly if it came to the end
-pub has_finished_by : {units_of : ℕ → List ℕ} {mode : DecodeErrorMode} {old new : DecoderState}
-    {src : List ℕ}
-    {last : Bool} {room : ℕ} {result : DecoderResult} {read : ℕ} {wrote : List ℕ} {replaced : Bool}
-    → DecodesChunk units_of mode old new src last room result read wrote replaced
-    → has_finished new ≡ reaches_end last result
-has_finished_by {old} {src} {last} {result} {read} decodes =
-    ap has_ended decodes.life
-    ∙ ends_at_end old.life (reaches_end last result) (old.pending ++ take read src)
-    decodes.call.done
-
-pub finishes : (old new : DecoderState) (src : List ℕ) (last : Bool) (room : ℕ)
-    (result : CoderResult) (read : ℕ)
-    (wrote : List ℕ) (replaced : Bool)
+-- so a call that replaces has finished exactly if it came to the end
+pub finishes : (result : CoderResult) {old new : DecoderState} {src : List ℕ} {last : Bool}
+    {room read : ℕ} {wrote : List ℕ} {replaced : Bool}
     → DecodesReplacing encode_utf8 old new src last room result read wrote replaced
     → has_finished new ≡ reaches_end last (decoder_result_of result)
-finishes old new src last room result read wrote replaced decodes = has_finished_by decodes
-
--- a call that replaces has put out all that it has done
-pub puts_all : {old new : DecoderState} {src : List ℕ} {last : Bool} {room : ℕ}
-    (result : CoderResult) {read : ℕ}
-    {wrote : List ℕ} {replaced : Bool}
-    (decodes : DecodesReplacing encode_utf8 old new src last room result read wrote replaced)
-    → decodes.call.put ≡ decodes.call.done
-puts_all InputEmpty decodes = sym decodes.call.stops.only_put
-puts_all OutputFull decodes = sym decodes.call.stops.only_put
-
-pub only_put : (old new : DecoderState) (src : List ℕ) (last : Bool) (room : ℕ)
-    (result : CoderResult) (read : ℕ)
-    (wrote : List ℕ) (replaced : Bool)
-    (decodes : DecodesReplacing encode_utf8 old new src last room result read wrote replaced)
-    → decodes.call.put ≡ decodes.call.done
-only_put old new src last room result read wrote replaced decodes = puts_all result decodes
+finishes result {old} {src = src} {last} {read = read} decodes =
+    ap has_ended decodes.life
+    ∙ ends_at_end old.life (reaches_end last (decoder_result_of result))
+    (old.pending ++ take read src) decodes.call.done
 
 removal_sequences : (id : EncodingId) (e : Encoding) (bytes : List ℕ) → sequences_by_mark
     (find_mark (marks_of_encoding id) bytes) e bytes

@@ -38,81 +38,10 @@ use Rattle.enc_stream.specs.Decoding.{decoder_state_of, unread_bytes, HeldBytesM
 use Rattle.enc_stream.specs.Lengths.{formula_length, life_cycle_length, max_length, idle_length, length_with_mark}
 use Rattle.enc_stream.specs.Lengths.{length_at, IsForMode, query_units, IsEnoughRoom}
 use Rattle.enc_stream.proofs.EncodingLemmas.{laws_of}
-
--- Formulas fall with the number of bytes.
-
--- if the second query has an answer, the first has one that is no greater
-abbrev IsNoMore : Option ℕ → Option ℕ → Type 0
-IsNoMore few many = (m : ℕ) → many ≡ Some m → (n : ℕ) × (few ≡ Some n) × (n ≤ m)
-
-fitting_fits : (m q : ℕ) (t : Bool) → nat_lt m (2 ^ 64) ≡ t → cond t (Some m) None ≡ Some q
-    → (m < 2 ^ 64) × (q ≡ m)
-fitting_fits m q true t e = (grind (arith, nat_tests), cc)
-fitting_fits m q false t e = absurd (cc)
-
-fits_below : (n m : ℕ) → n ≤ m → m < 2 ^ 64 → checked_usize n ≡ Some n
-fits_below n m l h = by_test (nat_lt n (2 ^ 64)) (grind (arith, nat_tests))
-  where
-    by_test : (t : Bool) → t ≡ true → cond t (Some n) None ≡ Some n
-    by_test true e = refl
-    by_test false e = absurd (cc)
-
-no_more_fitting : (n m : ℕ) → n ≤ m → IsNoMore (checked_usize n) (checked_usize m)
-no_more_fitting n m at_most q e =
-    let fits = fitting_fits m q (nat_lt m (2 ^ 64)) refl e in
-    (n, fits_below n m at_most fits.0, omega (arith, at_most, fits.1))
-
-no_more_some : (n m : ℕ) → n ≤ m → IsNoMore (Some n) (Some m)
-no_more_some n m l q e = (n, refl, omega (arith, l, same_some m q e))
-
-no_more_plus : (few many : Option ℕ) (k : ℕ) → IsNoMore few many
-    → IsNoMore (checked_add few k) (checked_add many k)
-no_more_plus few None k h q e = absurd (cc)
-no_more_plus few (Some m) k h q e =
-    let fewer = h m refl in
-    let fits = no_more_fitting (fewer.0 + k) (m + k) (omega (arith, fewer.2)) q e in
-    (fits.0, ap (λ o. checked_add o k) fewer.1 ∙ fits.1, fits.2)
-
-no_more_times : (few many : Option ℕ) → IsNoMore few many
-    → IsNoMore (checked_mul few 3) (checked_mul many 3)
-no_more_times few None h q e = absurd (cc)
-no_more_times few (Some m) h q e =
-    let fewer = h m refl in
-    let fits = no_more_fitting (fewer.0 * 3) (m * 3) (omega (arith, fewer.2)) q e in
-    (fits.0, ap (λ o. checked_mul o 3) fewer.1 ∙ fits.1, fits.2)
-
-no_more_half : (few many : Option ℕ) → IsNoMore few many
-    → IsNoMore (checked_half few) (checked_half many)
-no_more_half few None h q e = absurd (cc)
-no_more_half few (Some m) h q e =
-    let fewer = h m refl in
-    (fewer.0 / 2, ap checked_half fewer.1, omega (arith, fewer.2, same_some (m / 2) q e))
-
-no_more_sum : (n h m k : ℕ) → n + h ≤ m + k
-    → IsNoMore (checked_add (Some n) h) (checked_add (Some m) k)
-no_more_sum n h m k l = no_more_fitting (n + h) (m + k) l
-
-pub no_more : (q : Query) (f : TextLengths) (n h m k : ℕ) → n ≤ m → n + h ≤ m + k
-    → IsNoMore (formula_length q f n h) (formula_length q f m k)
-no_more query.Utf8 by.Utf8 n h m k l s =
-    no_more_plus _ _ 3 (no_more_times _ _ (no_more_sum n h m k s))
-no_more query.Utf8 by.Utf16 n h m k l s = no_more_plus _ _ 1 (no_more_times _ _
-    (no_more_half _ _ (no_more_plus _ _ 1 (no_more_sum n h m k s))))
-no_more query.Utf8 by.OneByte n h m k l s = no_more_times _ _ (no_more_some n m l)
-no_more query.Utf8 by.Replacement n h m k l s = no_more_some 3 3 (omega arith)
-no_more query.Utf8 by.MultiByte n h m k l s = no_more_times _ _ (no_more_sum n h m k s)
-no_more query.Utf8Reporting by.Utf8 n h m k l s = no_more_plus _ _ 3 (no_more_sum n h m k s)
-no_more query.Utf8Reporting by.Utf16 n h m k l s = no_more_plus _ _ 1 (no_more_times _ _
-    (no_more_half _ _ (no_more_plus _ _ 1 (no_more_sum n h m k s))))
-no_more query.Utf8Reporting by.OneByte n h m k l s = no_more_times _ _ (no_more_some n m l)
-no_more query.Utf8Reporting by.Replacement n h m k l s = no_more_some 3 3 (omega arith)
-no_more query.Utf8Reporting by.MultiByte n h m k l s = no_more_times _ _ (no_more_sum n h m k s)
-no_more query.Utf16 by.Utf8 n h m k l s = no_more_plus _ _ 1 (no_more_sum n h m k s)
-no_more query.Utf16 by.Utf16 n h m k l s = no_more_plus _ _ 1 (no_more_half _ _
-    (no_more_plus _ _ 1 (no_more_sum n h m k s)))
-no_more query.Utf16 by.OneByte n h m k l s = no_more_some n m l
-no_more query.Utf16 by.Replacement n h m k l s = no_more_some 1 1 (omega arith)
-no_more query.Utf16 by.MultiByte n h m k l s = no_more_sum n h m k s
+use Rattle.enc_decoder.proofs.ByteLemmas.{bytes-drop}
+use Rattle.enc_stream.proofs.PendingBytesLemmas.{none_unread}
+use Rattle.enc_stream.proofs.FormulaLemmas.{no_more}
+use Rattle.enc_stream.proofs.FoundMarkLemmas.{EachMark, found_has}
 
 -- each of two lengths is no more than the greater
 greater_of : (a b : Option ℕ) (q : ℕ) → checked_max a b ≡ Some q → (m : ℕ) × (n : ℕ) × (a ≡ Some m)
@@ -158,11 +87,6 @@ module _ (q : Query) (mode : DecodeErrorMode) (asks : IsForMode q mode) (front :
         → few < needed_units (query_units q) mode front
     less_needed few answer l p = omega (arith, l, p)
 
-pub are_bytes_drop : (n : ℕ) (z : List ℕ) → AreBytes z → AreBytes (drop n z)
-are_bytes_drop zero z a = a
-are_bytes_drop (suc n) [] a = tt
-are_bytes_drop (suc n) (b ∷ z) a = are_bytes_drop n z a.1
-
 none_begins : (front : List Sequence) → AreFirstSequences front [] → front ≡ []
 none_begins [] b = refl
 none_begins (s ∷ ss) b = absurd (let same = b.1 in cc)
@@ -198,72 +122,72 @@ module _ (q : Query) (mode : DecodeErrorMode) (asks : IsForMode q mode) (e : Enc
       never_more q mode asks front (codec_lengths (codec_by_id m.encoding.id))
       (initial_state (rule_of m.encoding))
       (laws_of m.encoding).enough
-      (drop (length m.bytes) bytes) (are_bytes_drop (length m.bytes) bytes a) n 0 few
+      (drop (length m.bytes) bytes) (bytes-drop (length m.bytes) bytes a) n 0 few
       (omega (arith, fits, dropped))
       (omega (arith, fits, dropped)) f b
       (less_needed q mode asks front few answer t passes)
 
-  -- where one mark may come, or all three
-  one_mark : (t : Bool) (m : Mark) (bytes : List ℕ)
-      → (AreFirstSequences front (sequences_of (rule_of e) 0 bytes) → ⊥)
-      → (AreFirstSequences front (sequences_of (rule_of m.encoding) 0 (drop (length m.bytes) bytes))
-      → ⊥)
-      → AreFirstSequences front (sequences_by_mark (cond t (Some m) None) e bytes) → ⊥
-  one_mark true m bytes n y b = y b
-  one_mark false m bytes n y b = n b
+  -- where byte order marks are looked for, or this one may still come
+  abbrev AfterMark : List ℕ → Mark → Type 0
+  AfterMark bytes m =
+      AreFirstSequences front (sequences_of (rule_of m.encoding) 0 (drop (length m.bytes) bytes)) → ⊥
 
-  three_marks : (t u w : Bool) (bytes : List ℕ)
+  by_marks : (looked_for : List Mark) (bytes : List ℕ)
       → (AreFirstSequences front (sequences_of (rule_of e) 0 bytes) → ⊥)
-      → ((m : Mark) → (m ≡ utf_8_mark) ⊎ ((m ≡ utf_16be_mark) ⊎ (m ≡ utf_16le_mark))
-      → AreFirstSequences front (sequences_of (rule_of m.encoding) 0 (drop (length m.bytes) bytes))
-      → ⊥)
-      → AreFirstSequences front (sequences_by_mark (cond t (Some utf_8_mark)
-      (cond u (Some utf_16be_mark) (cond w (Some utf_16le_mark) None))) e bytes) → ⊥
-  three_marks true u w bytes n y b = y utf_8_mark (inl refl) b
-  three_marks false true w bytes n y b = y utf_16be_mark (inr (inl refl)) b
-  three_marks false false true bytes n y b = y utf_16le_mark (inr (inr refl)) b
-  three_marks false false false bytes n y b = n b
+      → EachMark (AfterMark bytes) looked_for
+      → AreFirstSequences front (sequences_by_mark (find_mark looked_for bytes) e bytes) → ⊥
+  by_marks looked_for bytes not_own each = by_found (find_mark looked_for bytes) refl
+    where
+      by_found : (found : Option Mark) → find_mark looked_for bytes ≡ found
+          → AreFirstSequences front (sequences_by_mark found e bytes) → ⊥
+      by_found None found_is = not_own
+      by_found (Some m) found_is = found_has (AfterMark bytes) looked_for bytes m each found_is
+
+  one_mark : (t : Bool) (m : Mark) (bytes : List ℕ)
+      → (AreFirstSequences front (sequences_of (rule_of e) 0 bytes) → ⊥) → AfterMark bytes m
+      → AreFirstSequences front (sequences_by_mark (cond t (Some m) None) e bytes) → ⊥
+  one_mark true m bytes not_own not_marked = not_marked
+  one_mark false m bytes not_own not_marked = not_own
 
   -- by how far it has come, where a mark may come: the bytes held, and those offered
   at_start : (src : List ℕ) → AreBytes src
       → life_cycle_length q AtStart formulas (length src) 0 ≡ Some answer
       → AreFirstSequences front (sequences_by_mark (find_mark marks src) e src) → ⊥
-  at_start src are_bytes f b =
+  at_start src are_bytes length_is =
       let of_two =
       greater_of (idle_length q by.Utf8 (length src))
-      (length_with_mark q by.Utf16 formulas (length src)) answer
-      f in
+      (length_with_mark q by.Utf16 formulas (length src)) answer length_is in
       let of_rest =
       greater_of (idle_length q by.Utf16 (length src)) (idle_length q formulas (length src))
       of_two.1 of_two.3 in
-      three_marks _ _ _ src (own_text src are_bytes (length src) of_rest.1 (omega arith)
-      (omega (arith, of_two.5, of_rest.5)) of_rest.3)
-      (λ m k. elim k [
-        | inl x ↦ marked_text m src are_bytes (length src) of_two.0 (omega arith) of_two.4
-            (ap (λ (y : Mark). idle_length q (codec_lengths (codec_by_id y.encoding.id))
-            (length src)) x ∙ of_two.2)
-        | inr z ↦ elim z [
-          | inl x ↦ marked_text m src are_bytes (length src) of_rest.0 (omega arith)
-              (omega (arith, of_two.5, of_rest.4))
-              (ap (λ (y : Mark). idle_length q (codec_lengths (codec_by_id y.encoding.id))
-              (length src)) x ∙ of_rest.2)
-          | inr x ↦ marked_text m src are_bytes (length src) of_rest.0 (omega arith)
-              (omega (arith, of_two.5, of_rest.4))
-              (ap (λ (y : Mark). idle_length q (codec_lengths (codec_by_id y.encoding.id))
-              (length src)) x ∙ of_rest.2)
-        ]
-      ]) b
+      let in_utf_16 : of_rest.0 ≤ answer = omega (arith, of_two.5, of_rest.4) in
+      let in_own : of_rest.1 ≤ answer = omega (arith, of_two.5, of_rest.5) in
+      by_marks marks src
+      (own_text src are_bytes (length src) of_rest.1 (omega arith) in_own of_rest.3) (
+        marked_text utf_8_mark src are_bytes (length src) of_two.0 (omega arith) of_two.4 of_two.2,
+        (
+          marked_text utf_16be_mark src are_bytes (length src) of_rest.0 (omega arith) in_utf_16
+              of_rest.2,
+          (
+            marked_text utf_16le_mark src are_bytes (length src) of_rest.0 (omega arith) in_utf_16
+                of_rest.2,
+            tt,
+          ),
+        ),
+      )
 
   -- its own mark alone
-  at_own_start : (m : Mark) → e.id ≡ m.encoding.id → (t : Bool) (src : List ℕ) → AreBytes src
+  at_own_start : (m : Mark) → e.id ≡ m.encoding.id → (src : List ℕ) → AreBytes src
       → idle_length q formulas (length src) ≡ Some answer
-      → AreFirstSequences front (sequences_by_mark (cond t (Some m) None) e src) → ⊥
-  at_own_start m i t src are_bytes length_is =
-      one_mark t m src (own_text src are_bytes (length src) answer (omega arith) (omega arith)
-      length_is)
-      (marked_text m src are_bytes (length src) answer (omega arith) (omega arith)
-      (ap (λ (x : EncodingId). idle_length q (codec_lengths (codec_by_id x)) (length src)) (sym i)
-      ∙ length_is))
+      → AreFirstSequences front (sequences_by_mark (find_mark (m ∷ []) src) e src) → ⊥
+  at_own_start m own src are_bytes length_is =
+      by_marks (m ∷ []) src
+      (own_text src are_bytes (length src) answer (omega arith) (omega arith) length_is) (
+        marked_text m src are_bytes (length src) answer (omega arith) (omega arith)
+            (ap (λ (x : EncodingId). idle_length q (codec_lengths (codec_by_id x)) (length src))
+            (sym own) ∙ length_is),
+        tt,
+      )
 
   -- bytes of a mark are held
   seen : (m : Mark) (lengths : TextLengths) → codec_lengths (codec_by_id m.encoding.id) ≡ lengths
@@ -322,98 +246,70 @@ module _ (q : Query) (mode : DecodeErrorMode) (asks : IsForMode q mode) (e : Enc
           b))
           passes
 
-none_unread : (n : ℕ) → 0 < n → unread_bytes ConvertingWithPendingBb n ≡ []
-none_unread n l = let is_not_zero : (n == 0) ≡ false = grind (arith, nat_tests) in
-    cond-false _ _ _ is_not_zero
-
 bb_pending : (pending : List ℕ) → held_or_pending_bytes (0xBB ∷ []) pending ≡ pending
     ++ unread_bytes ConvertingWithPendingBb (length pending) → (pending ≡ [])
     ⊎ (pending ≡ 0xBB ∷ [])
 bb_pending [] h = inl refl
 bb_pending (c ∷ z) h =
-    inr (sym (h ∙ ap (λ y. (c ∷ z) ++ y) (none_unread (length (c ∷ z)) (omega arith))
+    inr (sym (h ∙ ap (λ y. (c ∷ z) ++ y) (none_unread ConvertingWithPendingBb (length (c ∷ z)) (omega arith))
     ∙ append-nil (c ∷ z)))
 
 -- The length that a query answers is enough, by the state of the life cycle.
-pub length_is_enough : (q : Query) (mode : DecodeErrorMode) → IsForMode q mode
-    → (e : Encoding) (life : LifeCycle) (v : CodecState) → rule_of e ≡ v.rule
-    → HeldBytesMatchCodec life v
-    → LooksForOwnMark e.id life
-    → AreEnoughForCodec (codec_lengths (codec_by_id e.id)) v
-    → (src : List ℕ) (last : Bool) (answer : ℕ) → AreBytes src
-    → max_length q (decoder_state_of e life v) (length src) ≡ Some answer
-    → NeedExceeds (query_units q) mode (decoder_remainder (decoder_state_of e life v)) src last
-    answer → ⊥
-length_is_enough q mode asks e life v rule holds own_mark enough src last answer are_bytes f
-    exceeds =
-    by_life life (holds.unread) (holds.held) own_mark f
-    (at_end last (remaining_sequences (decoder_state_of e life v)) src exceeds.sequences
-    exceeds.determined)
-  where
-    by_life : (life : LifeCycle)
-        → (awaits_mark (phase_of life) ≡ true → (v.set ≡ 0) × (v.pending ≡ []))
-        → held_or_pending_bytes (held_mark_bytes life) v.pending ≡ v.pending
-        ++ unread_bytes life (length v.pending)
-        → LooksForOwnMark e.id life
+module _ (q : Query) (mode : DecodeErrorMode) (asks : IsForMode q mode) (e : Encoding)
+    (v : CodecState) (rule : rule_of e ≡ v.rule)
+    (enough : AreEnoughForCodec (codec_lengths (codec_by_id e.id)) v) where
+  module _ (front : List Sequence) (answer : ℕ)
+      (passes : answer < needed_units (query_units q) mode front) (src : List ℕ)
+      (are_bytes : AreBytes src) where
+    by_life : (life : LifeCycle) → HeldBytesMatchCodec life v → LooksForOwnMark e.id life
         → max_length q (decoder_state_of e life v) (length src) ≡ Some answer
-        → AreFirstSequences exceeds.sequences (remaining_sequences (decoder_state_of e life v) src)
-        → ⊥
-    by_life AtStart none_pending h o f b =
-        at_start q mode asks e exceeds.sequences answer exceeds.more src are_bytes
-        (subst (λ (x : List ℕ). life_cycle_length q AtStart (codec_lengths (codec_by_id e.id))
-        (length src)
-        (length x) ≡ Some answer) (none_pending refl).1 f)
-        (subst (λ (x : List ℕ). AreFirstSequences exceeds.sequences
-        (sequences_by_mark (find_mark marks (x ++ src)) e (x ++ src))) (none_pending refl).1 b)
-    by_life AtUtf8Start none_pending h o f b =
-        at_own_start q mode asks e exceeds.sequences answer exceeds.more utf_8_mark o _ src
-        are_bytes f
-        (subst (λ (x : List ℕ). AreFirstSequences exceeds.sequences
-        (sequences_by_mark (find_mark (utf_8_mark ∷ []) (x ++ src)) e (x ++ src)))
-        (none_pending refl).1 b)
-    by_life AtUtf16BeStart none_pending h o f b =
-        at_own_start q mode asks e exceeds.sequences answer exceeds.more utf_16be_mark o _ src
-        are_bytes f
-        (subst (λ (x : List ℕ). AreFirstSequences exceeds.sequences
-        (sequences_by_mark (find_mark (utf_16be_mark ∷ []) (x ++ src)) e (x ++ src)))
-        (none_pending refl).1 b)
-    by_life AtUtf16LeStart none_pending h o f b =
-        at_own_start q mode asks e exceeds.sequences answer exceeds.more utf_16le_mark o _ src
-        are_bytes f
-        (subst (λ (x : List ℕ). AreFirstSequences exceeds.sequences
-        (sequences_by_mark (find_mark (utf_16le_mark ∷ []) (x ++ src)) e (x ++ src)))
-        (none_pending refl).1 b)
-    by_life SeenUtf8First none_pending h o f b =
-        seen q mode asks e exceeds.sequences answer exceeds.more utf_8_mark by.Utf8 refl _
-        (0xEF ∷ []) src (omega arith)
-        (omega arith, are_bytes) f b
-    by_life SeenUtf8Second none_pending h o f b =
-        seen q mode asks e exceeds.sequences answer exceeds.more utf_8_mark by.Utf8 refl _
-        (0xEF ∷ 0xBB ∷ []) src
-        (omega arith) (omega arith, (omega arith, are_bytes)) f b
-    by_life SeenUtf16BeFirst none_pending h o f b =
-        seen q mode asks e exceeds.sequences answer exceeds.more utf_16be_mark by.Utf16 refl _
-        (0xFE ∷ []) src
-        (omega arith) (omega arith, are_bytes) f b
-    by_life SeenUtf16LeFirst none_pending h o f b =
-        seen q mode asks e exceeds.sequences answer exceeds.more utf_16le_mark by.Utf16 refl _
-        (0xFF ∷ []) src
-        (omega arith) (omega arith, are_bytes) f b
-    by_life ConvertingWithPendingBb none_pending h o f b =
-        with_bb q mode asks e exceeds.sequences answer exceeds.more v rule enough src are_bytes f
-        (bb_pending v.pending h) b
-    by_life Converting none_pending h o f b =
-        converting q mode asks e exceeds.sequences answer exceeds.more v rule enough src are_bytes f
-        b
-    by_life Finished none_pending h o f b =
-        let are_none = none_begins exceeds.sequences b in let more = exceeds.more in
+        → AreFirstSequences front (remaining_sequences (decoder_state_of e life v) src) → ⊥
+    by_life AtStart holds own length_is first =
+        at_start q mode asks e front answer passes src are_bytes length_is
+        (rw (holds.unread refl).1 at first)
+    by_life AtUtf8Start holds own length_is first =
+        at_own_start q mode asks e front answer passes utf_8_mark own src are_bytes length_is
+        (rw (holds.unread refl).1 at first)
+    by_life AtUtf16BeStart holds own length_is first =
+        at_own_start q mode asks e front answer passes utf_16be_mark own src are_bytes length_is
+        (rw (holds.unread refl).1 at first)
+    by_life AtUtf16LeStart holds own length_is first =
+        at_own_start q mode asks e front answer passes utf_16le_mark own src are_bytes length_is
+        (rw (holds.unread refl).1 at first)
+    by_life SeenUtf8First holds own length_is first =
+        seen q mode asks e front answer passes utf_8_mark by.Utf8 refl _ (0xEF ∷ []) src
+        (omega arith) (omega arith, are_bytes) length_is first
+    by_life SeenUtf8Second holds own length_is first =
+        seen q mode asks e front answer passes utf_8_mark by.Utf8 refl _ (0xEF ∷ 0xBB ∷ []) src
+        (omega arith) (omega arith, (omega arith, are_bytes)) length_is first
+    by_life SeenUtf16BeFirst holds own length_is first =
+        seen q mode asks e front answer passes utf_16be_mark by.Utf16 refl _ (0xFE ∷ []) src
+        (omega arith) (omega arith, are_bytes) length_is first
+    by_life SeenUtf16LeFirst holds own length_is first =
+        seen q mode asks e front answer passes utf_16le_mark by.Utf16 refl _ (0xFF ∷ []) src
+        (omega arith) (omega arith, are_bytes) length_is first
+    by_life ConvertingWithPendingBb holds own length_is first =
+        with_bb q mode asks e front answer passes v rule enough src are_bytes length_is
+        (bb_pending v.pending holds.held) first
+    by_life Converting holds own length_is first =
+        converting q mode asks e front answer passes v rule enough src are_bytes length_is first
+    by_life Finished holds own length_is first =
         omega (
           arith,
-          more,
-          ap (needed_units (query_units q) mode) are_none,
-          none_needs
-              (query_units q) mode,
+          passes,
+          ap (needed_units (query_units q) mode) (none_begins front first),
+          none_needs (query_units q) mode,
         )
+
+  pub length_is_enough : (life : LifeCycle) → HeldBytesMatchCodec life v
+      → LooksForOwnMark e.id life → (src : List ℕ) (last : Bool) (answer : ℕ) → AreBytes src
+      → max_length q (decoder_state_of e life v) (length src) ≡ Some answer
+      → NeedExceeds (query_units q) mode (decoder_remainder (decoder_state_of e life v)) src last
+      answer → ⊥
+  length_is_enough life holds own src last answer are_bytes length_is exceeds =
+      by_life exceeds.sequences answer exceeds.more src are_bytes life holds own length_is
+      (at_end last (remaining_sequences (decoder_state_of e life v)) src exceeds.sequences
+      exceeds.determined)
 
 -- so each query answers a room that is enough for its calls
 pub room_is_enough : (q : Query) (e : Encoding) (life : LifeCycle) (v : CodecState)
@@ -426,7 +322,7 @@ pub room_is_enough : (q : Query) (e : Encoding) (life : LifeCycle) (v : CodecSta
     (decoder_state_of e life v) n room)
 room_is_enough q e life v rule holds own_mark enough n None r = tt
 room_is_enough q e life v rule holds own_mark enough n (Some room) r = λ mode asks src last a l p.
-    length_is_enough q mode asks e life v rule holds own_mark enough src last room a
+    length_is_enough q mode asks e v rule enough life holds own_mark src last room a
     (ap (max_length q (decoder_state_of e life v)) l ∙ sym r) p
 
 -- the same of each query

@@ -1,7 +1,8 @@
--- The state of a decoder after a call over text, by the state of its codec.
+-- A codec's call over the bytes held and the chunk, as a call of the decoder over the chunk.
 use Rattle.std.specs.Prelude.{if◌then◌else◌, bytes_eq}
-use Rattle.std.proofs.Common.{◌≡◌, ℕ, ◌+◌, ◌-◌, ◌<◌, ◌≤◌, zero, suc, Bool, true, false, ◌&&◌, eqb, List, [], ◌∷◌, ◌++◌}
-use Rattle.std.proofs.Common.{length, take, drop, refl, ap, ◌∙◌, sym, arith, append_assoc, inl, inr, ◌⊎◌, None, subst}
+use Rattle.std.proofs.Common.{◌≡◌, ℕ, ◌+◌, ◌-◌, ◌<◌, ◌≤◌, zero, suc, Bool, true, false, ◌&&◌, eqb, List, [], ◌∷◌}
+use Rattle.std.proofs.Common.{◌++◌, length, take, drop, refl, ap, ◌∙◌, sym, arith, append_assoc, inl, inr, ◌⊎◌, None}
+use Rattle.std.proofs.Common.{Some, subst}
 use Rattle.std.proofs.lemmas.Bool.{false≢true}
 use Rattle.std.proofs.lemmas.Bool.Decides.{nat_tests}
 use Rattle.std.proofs.lemmas.List.{append-nil, length-append, take-append-drop}
@@ -20,282 +21,33 @@ use Rattle.enc_units.specs.Output.{Output}
 use Rattle.enc_decoder.specs.Sequence.{Sequence, sequence_bytes, set_after}
 use Rattle.enc_decoder.specs.Segmentation.{Rule, sequences_of}
 use Rattle.enc_decoder.specs.CodecState.{CodecState, remainder_of}
-use Rattle.enc_decoder.specs.Remainder.{Remainder}
+use Rattle.enc_decoder.specs.Remainder.{Remainder, AreBytes, AreFirstSequences, Determines}
 use Rattle.enc_decoder.specs.Call.{DecoderCall, DecoderAtInputEmpty, DecoderStops, DecodeErrorMode, reaches_end}
 use Rattle.enc_decoder.proofs.RuleLemmas.{has_bytes}
 use Rattle.enc_decoder.proofs.ByteLemmas.{bytes-append}
 use Rattle.enc_stream.specs.Encodings.{rule_of}
 use Rattle.enc_stream.specs.LifeCycle.{phase_of, awaits_mark, mark_bytes, encoding_of_mark_or, held_mark_bytes}
 use Rattle.enc_stream.specs.LifeCycle.{mark_prefixes, life_at_prefix, life_after_bytes, life_after_sequences}
-use Rattle.enc_stream.specs.LifeCycle.{life_after}
+use Rattle.enc_stream.specs.LifeCycle.{life_after, Phase, InFront, Within, Ended, mark_in, sequences_in}
 use Rattle.enc_decoder.specs.Converting.{PrefixedCallInto, ReadsHeldFirst, shifted_result}
 use Rattle.enc_stream.specs.Decoding.{DecoderState, has_ended, remaining_sequences, decoder_remainder}
 use Rattle.enc_stream.specs.Decoding.{held_or_pending_bytes, decoder_state_of, unread_bytes, HeldBytesMatchCodec}
 use Rattle.enc_stream.specs.Decoding.{PendingAreHeldBytes, DecodesInto}
-use Rattle.enc_decoder.proofs.ShiftedInputLemmas.{most_or_more, Follows, nothing_wrote, carries_empty, carries_full}
-use Rattle.enc_decoder.proofs.ShiftedInputLemmas.{carries_malformed}
 use Rattle.enc_decoder.proofs.JoinedCallLemmas.{no_bytes}
-use Rattle.enc_stream.proofs.UnmarkedTextLemmas.{ReadsText, settled_from, awaited_unless_settled, carries, reads_on}
-use Rattle.enc_stream.proofs.UnmarkedTextLemmas.{unmarked_read, by_codec, unmarked_all, bytes_unread, few_unread}
-use Rattle.enc_stream.proofs.UnmarkedTextLemmas.{at_hand, first_byte, pending_of_held}
-
--- a stop reaches the end exactly if the shifted stop does
-pub end_placed : (last : Bool) (stop : DecoderResult) (n : ℕ)
-    → reaches_end last (shifted_result stop n) ≡ reaches_end last stop
-end_placed last InputEmpty n = refl
-end_placed last OutputFull n = refl
-end_placed last (Malformed l a) n = refl
-
-at_end : (last : Bool) (stop : DecoderResult) → reaches_end last stop ≡ true → (last ≡ true)
-    × (stop ≡ InputEmpty)
-at_end last InputEmpty h = (h, refl)
-at_end last OutputFull h = absurd (false≢true h)
-at_end last (Malformed l a) h = absurd (false≢true h)
-
-not_at_end : (last : Bool) (stop : DecoderResult) → reaches_end last stop ≡ false → last ≡ true
-    → stop ≡ InputEmpty → ⊥
-not_at_end last stop h l s = false≢true (sym h ∙ ap (reaches_end last) s ∙ l)
-
-empty_not_malformed : (l a : ℕ) → InputEmpty ≡ Malformed l a → ⊥
-empty_not_malformed l a e = cc
-
-none_malformed : (done put : List Sequence) (s : Sequence) → done ≡ [] → done ≡ put ++ s ∷ [] → ⊥
-none_malformed done put s e f =
-    let none_long = ap length (sym e ∙ f) in
-    let one_more = length-append put (s ∷ []) in
-    omega arith
-
--- the state of the bytes held is its own
-pub own_state : (life : LifeCycle) (p : List ℕ) → has_ended life ≡ false
-    → (awaits_mark (phase_of life) ≡ true → p ≡ held_mark_bytes life)
-    → ((b : ℕ) (held : List ℕ) → held_mark_bytes life ≡ b ∷ held → p ≡ held_mark_bytes life)
-    → life_after_sequences (life_at_prefix (mark_prefixes life) p) [] ≡ life
-own_state AtStart p h f g =
-    ap (λ x. life_after_sequences (life_at_prefix (mark_prefixes AtStart) x) []) (f refl)
-own_state AtUtf8Start p h f g =
-    ap (λ x. life_after_sequences (life_at_prefix (mark_prefixes AtUtf8Start) x) []) (f refl)
-own_state AtUtf16BeStart p h f g =
-    ap (λ x. life_after_sequences (life_at_prefix (mark_prefixes AtUtf16BeStart) x) []) (f refl)
-own_state AtUtf16LeStart p h f g =
-    ap (λ x. life_after_sequences (life_at_prefix (mark_prefixes AtUtf16LeStart) x) []) (f refl)
-own_state SeenUtf8First p h f g =
-    ap (λ x. life_after_sequences (life_at_prefix (mark_prefixes SeenUtf8First) x) []) (f refl)
-own_state SeenUtf8Second p h f g =
-    ap (λ x. life_after_sequences (life_at_prefix (mark_prefixes SeenUtf8Second) x) []) (f refl)
-own_state SeenUtf16BeFirst p h f g =
-    ap (λ x. life_after_sequences (life_at_prefix (mark_prefixes SeenUtf16BeFirst) x) []) (f refl)
-own_state SeenUtf16LeFirst p h f g =
-    ap (λ x. life_after_sequences (life_at_prefix (mark_prefixes SeenUtf16LeFirst) x) []) (f refl)
-own_state ConvertingWithPendingBb p h f g =
-    ap (λ x. life_after_sequences (life_at_prefix (mark_prefixes ConvertingWithPendingBb) x) [])
-    (g _ _ refl)
-own_state Converting p h f g = refl
-own_state Finished p h f g = absurd (false≢true (sym h))
-
-held_first : (held p : List ℕ) (b : ℕ) (rest : List ℕ) → held ≡ b ∷ rest
-    → held_or_pending_bytes held p ≡ held
-held_first [] p b rest e = cc
-held_first (x ∷ held) p b rest e = refl
-
--- the pending bytes of a decoder are those it holds of a mark
-pub shows_held : (e : Encoding) (life : LifeCycle) (v : CodecState) → HeldBytesMatchCodec life v
-    → PendingAreHeldBytes (decoder_state_of e life v)
-shows_held e life v h = record {
-  in_front = λ a. pending_of_held (held_mark_bytes life) v.pending (h.unread a).1;
-  held = λ b others f. held_first (held_mark_bytes life) v.pending b others f;
-}
-
-left_if : (b : Bool) → b ≡ false → (if b then ConvertingWithPendingBb else Converting) ≡ Converting
-left_if true h = absurd (false≢true (sym h))
-left_if false h = refl
-
--- once a sequence is done, the state is Converting, unless it is EF of a held EF BB
-none_left : (life : LifeCycle) (bytes : List ℕ) → (life ≡ SeenUtf8Second → length bytes ≡ 1 → ⊥)
-    → life_after_bytes life bytes ≡ Converting
-none_left SeenUtf8Second bytes h =
-    left_if (bytes_eq (0xEF ∷ []) bytes) (by_test (bytes_eq (0xEF ∷ []) bytes) refl)
-  where
-    by_test : (b : Bool) → bytes_eq (0xEF ∷ []) bytes ≡ b → b ≡ false
-    by_test true f = absurd (h refl (sym (ap length ((bytes_eq-Decides (0xEF ∷ []) bytes).0 f))))
-    by_test false f = refl
-none_left AtStart bytes h = refl
-none_left _ bytes h = refl
-
--- the same, by what was held
-converts : (life : LifeCycle) (p : List ℕ) (done : List Sequence) → has_ended life ≡ false
-    → (awaits_mark (phase_of life) ≡ true → p ≡ [])
-    → (done ≡ [] → ⊥) → (life ≡ SeenUtf8Second → length (sequence_bytes done) ≡ 1 → ⊥)
-    → life_after_sequences
-    (life_at_prefix (mark_prefixes life) (held_or_pending_bytes (held_mark_bytes life) p)) done
-    ≡ Converting
-converts life p [] h f g i = absurd (g refl)
-converts life p (s ∷ ss) h f g i = by_state life h f i
-  where
-    by_state : (l : LifeCycle) → has_ended l ≡ false → (awaits_mark (phase_of l) ≡ true → p ≡ [])
-        → (l ≡ SeenUtf8Second → length (sequence_bytes (s ∷ ss)) ≡ 1 → ⊥)
-        → life_after_sequences
-        (life_at_prefix (mark_prefixes l) (held_or_pending_bytes (held_mark_bytes l) p))
-        (s ∷ ss)
-        ≡ Converting
-    by_state AtStart a b c =
-        ap (λ x. life_after_sequences (life_at_prefix (mark_prefixes AtStart) x) (s ∷ ss)) (b refl)
-    by_state AtUtf8Start a b c =
-        ap (λ x. life_after_sequences (life_at_prefix (mark_prefixes AtUtf8Start) x) (s ∷ ss))
-        (b refl)
-    by_state AtUtf16BeStart a b c =
-        ap (λ x. life_after_sequences (life_at_prefix (mark_prefixes AtUtf16BeStart) x) (s ∷ ss))
-        (b refl)
-    by_state AtUtf16LeStart a b c =
-        ap (λ x. life_after_sequences (life_at_prefix (mark_prefixes AtUtf16LeStart) x) (s ∷ ss))
-        (b refl)
-    by_state SeenUtf8First a b c = refl
-    by_state SeenUtf8Second a b c = none_left SeenUtf8Second (sequence_bytes (s ∷ ss)) c
-    by_state SeenUtf16BeFirst a b c = refl
-    by_state SeenUtf16LeFirst a b c = refl
-    by_state ConvertingWithPendingBb a b c = refl
-    by_state Converting a b c = refl
-    by_state Finished a b c = absurd (false≢true (sym a))
-
--- bytes that extend no held mark extend no pending bytes
-no_front_at : (life : LifeCycle) (p x : List ℕ) → has_ended life ≡ false
-    → (awaits_mark (phase_of life) ≡ true → p ≡ [])
-    → life_at_prefix (mark_prefixes life) (held_mark_bytes life ++ x) ≡ None
-    → life_at_prefix (mark_prefixes life) (held_or_pending_bytes (held_mark_bytes life) p ++ x)
-    ≡ None
-no_front_at AtStart p x h f g = ap (λ y. life_at_prefix (mark_prefixes AtStart) (y ++ x)) (f refl)
-    ∙ g
-no_front_at AtUtf8Start p x h f g =
-    ap (λ y. life_at_prefix (mark_prefixes AtUtf8Start) (y ++ x)) (f refl) ∙ g
-no_front_at AtUtf16BeStart p x h f g =
-    ap (λ y. life_at_prefix (mark_prefixes AtUtf16BeStart) (y ++ x)) (f refl) ∙ g
-no_front_at AtUtf16LeStart p x h f g =
-    ap (λ y. life_at_prefix (mark_prefixes AtUtf16LeStart) (y ++ x)) (f refl) ∙ g
-no_front_at SeenUtf8First p x h f g = g
-no_front_at SeenUtf8Second p x h f g = g
-no_front_at SeenUtf16BeFirst p x h f g = g
-no_front_at SeenUtf16LeFirst p x h f g = g
-no_front_at ConvertingWithPendingBb p x h f g = g
-no_front_at Converting p x h f g = refl
-no_front_at Finished p x h f g = absurd (false≢true (sym h))
-
-held_or_pending : (none : Bool) (h : List ℕ) (n : ℕ) → eqb n 0 ≡ none
-    → (length (if none then h else []) ≡ 0) ⊎ (n ≡ 0)
-held_or_pending true h n e = inr (grind (arith, nat_tests))
-held_or_pending false h n e = inl refl
-
--- Of EF BB, EF is done.
-
-two_bytes : (life : LifeCycle) (none : Bool)
-    → length (if none then held_mark_bytes life else []) ≡ 2
-    → (life ≡ SeenUtf8Second) × (none ≡ true)
-two_bytes life false h = absurd (omega arith)
-two_bytes life true h = (by_state life h, refl)
-  where
-    by_state : (l : LifeCycle) → length (held_mark_bytes l) ≡ 2 → l ≡ SeenUtf8Second
-    by_state AtStart i = absurd (omega arith)
-    by_state AtUtf8Start i = absurd (omega arith)
-    by_state AtUtf16BeStart i = absurd (omega arith)
-    by_state AtUtf16LeStart i = absurd (omega arith)
-    by_state SeenUtf8First i = absurd (omega arith)
-    by_state SeenUtf8Second i = refl
-    by_state SeenUtf16BeFirst i = absurd (omega arith)
-    by_state SeenUtf16LeFirst i = absurd (omega arith)
-    by_state ConvertingWithPendingBb i = absurd (omega arith)
-    by_state Converting i = absurd (omega arith)
-    by_state Finished i = absurd (omega arith)
-
-one_and_rest : (front rest bytes : List ℕ) (b : ℕ) → front ++ rest ≡ b ∷ bytes → length front ≡ 1
-    → (front ≡ b ∷ []) × (rest ≡ bytes)
-one_and_rest [] rest bytes b same_bytes h = absurd (omega arith)
-one_and_rest (x ∷ []) rest bytes b same_bytes h =
-    (ap (λ n. n ∷ []) (heads x b rest bytes same_bytes), tails x b rest bytes same_bytes)
-  where
-    heads : (m n : ℕ) (y z : List ℕ) → m ∷ y ≡ n ∷ z → m ≡ n
-    heads m n y z f = cc
-
-    tails : (m n : ℕ) (y z : List ℕ) → m ∷ y ≡ n ∷ z → y ≡ z
-    tails m n y z f = cc
-one_and_rest (x ∷ y ∷ front) rest bytes b same_bytes h = absurd (omega arith)
-
--- the codec does EF of EF BB and leaves BB
-pub record LeavesBb (v w : CodecState) (src : List ℕ) (done : List Sequence) (left read : ℕ)
-    (life : LifeCycle) : Type 0 where
-  pub state : life ≡ SeenUtf8Second
-  pub unread : unread_bytes life (length v.pending) ≡ 0xEF ∷ 0xBB ∷ []
-  pub none : v.pending ≡ []
-  pub done_bytes : sequence_bytes done ≡ 0xEF ∷ []
-  pub bb_left : w.pending ++ drop (length (unread_bytes life (length v.pending)) - left + read)
-      (unread_bytes life (length v.pending) ++ src) ≡ 0xBB ∷ src
-
-pub leaves_bb : {v w : CodecState} {src : List ℕ} {done : List Sequence} {left read : ℕ}
-    {life : LifeCycle}
-    → ReadsHeldFirst (unread_bytes life (length v.pending)) src left read
-    → v.pending ++ take (length (unread_bytes life (length v.pending)) - left + read)
-    (unread_bytes life (length v.pending) ++ src) ≡ sequence_bytes done ++ w.pending
-    → read ≡ 0 → length (unread_bytes life (length v.pending)) ≡ 2 → length w.pending + left ≡ 1
-    → LeavesBb v w src done left read life
-leaves_bb {v} {w} {src} {done} {left} {read} {life} reads_held accounted nothing_read two one =
-    let two_held_bytes = two_bytes life (eqb (length v.pending) 0) two in
-    let none : v.pending ≡ [] =
-    no_bytes v.pending (let is_zero = two_held_bytes.1 in grind (arith, nat_tests)) in
-    let held : List ℕ = unread_bytes life (length v.pending) in
-    let unread : held ≡ 0xEF ∷ 0xBB ∷ [] =
-    ap (λ n. unread_bytes life n) (ap length none) ∙ ap (λ l. unread_bytes l 0) two_held_bytes.0 in
-    let total : ℕ = length held - left + read in
-    let done_length : length (sequence_bytes done) ≡ 1 =
-    (let same_length = ap length accounted in
-    let all_length = length-append v.pending (take total (held ++ src)) in
-    let parts_length = length-append (sequence_bytes done) w.pending in
-    let taken_length = length-take total (held ++ src) in
-    let joined_length = length-append held src in
-    let none_pending = ap length none in
-    omega (arith, reads_held.most)) in
-    let whole : sequence_bytes done ++ (w.pending ++ drop total (held ++ src)) ≡ 0xEF
-    ∷ (0xBB ∷ src) =
-    sym (append_assoc (sequence_bytes done) w.pending (drop total (held ++ src)))
-    ∙ ap (λ x. x ++ drop total (held ++ src))
-    (sym accounted ∙ ap (λ x. x ++ take total (held ++ src)) none)
-    ∙ take-append-drop total (held ++ src) ∙ ap (λ x. x ++ src) unread in
-    let parts =
-    one_and_rest (sequence_bytes done) (w.pending ++ drop total (held ++ src)) (0xBB ∷ src) 0xEF
-    whole
-    done_length in
-    record {
-      state = two_held_bytes.0;
-      unread = unread;
-      none = none;
-      done_bytes = parts.0;
-      bb_left = parts.1;
-    }
-
--- the codec then has BB, or hasn't read it
-pub holds_bb : {v w : CodecState} {src : List ℕ} {done : List Sequence} {left read : ℕ}
-    {life : LifeCycle}
-    → LeavesBb v w src done left read life → length w.pending + left ≡ 1
-    → HeldBytesMatchCodec ConvertingWithPendingBb w
-holds_bb {v} {w} {src} {left = left} {read} {life} b one = record {
-  unread = λ f. absurd (false≢true f);
-  held =
-      by_pending w.pending (drop (length (unread_bytes life (length v.pending)) - left + read)
-      (unread_bytes life (length v.pending) ++ src)) b.bb_left (omega arith);
-}
-  where
-    by_pending : (p rest : List ℕ) → p ++ rest ≡ 0xBB ∷ src → length p ≤ 1
-        → 0xBB ∷ [] ≡ p ++ unread_bytes ConvertingWithPendingBb (length p)
-    by_pending [] rest e h = refl
-    by_pending (x ∷ []) rest e h = sym (one_and_rest (x ∷ []) rest src 0xBB e refl).0
-    by_pending (x ∷ y ∷ p) rest e h = absurd (omega arith)
-
-bb_state : (done : List Sequence) (x : List ℕ) → x ≡ 0xEF ∷ 0xBB ∷ []
-    → sequence_bytes done ≡ 0xEF ∷ []
-    → life_after_sequences (life_at_prefix (mark_prefixes SeenUtf8Second) x) done
-    ≡ ConvertingWithPendingBb
-bb_state [] x e f = absurd (let same_length = ap length f in omega arith)
-bb_state (s ∷ ss) x e f =
-    ap (λ y. life_after_sequences (life_at_prefix (mark_prefixes SeenUtf8Second) y) (s ∷ ss)) e
-    ∙ ap (life_after_bytes SeenUtf8Second) f
-
--- The codec's call over the bytes held and src, as a call of the decoder over src.
+use Rattle.enc_decoder.proofs.SegmentationLemmas.{sequences_of-nil}
+use Rattle.enc_stream.specs.Bom.{Mark, utf_8_mark, utf_16be_mark, utf_16le_mark, sequences_by_mark}
+use Rattle.enc_stream.specs.Sniffing.{HasNoMark}
+use Rattle.enc_stream.proofs.MarkFirstLemmas.{undetermined_in}
+use Rattle.enc_decoder.specs.CallRecord.{Call}
+use Rattle.enc_decoder.proofs.StageLemmas.{start_stage, nothing_written, same_mode}
+use Rattle.enc_decoder.proofs.InnerInputLemmas.{most_or_more}
+use Rattle.enc_decoder.proofs.InnerCallLemmas.{MatchesState, AreAllRead, reports_escape, call_outside}
+use Rattle.enc_stream.proofs.EndOfInputLemmas.{end_placed, at_end, not_at_end}
+use Rattle.enc_stream.proofs.PendingBytesLemmas.{few_unread, bytes_unread, held_or_pending, shows_held, own_state}
+use Rattle.enc_stream.proofs.PendingBytesLemmas.{converts, no_front_at}
+use Rattle.enc_stream.proofs.PendingBbLemmas.{LeavesBb, leaves_bb, bb_state}
+use Rattle.enc_stream.proofs.UnmarkedTextLemmas.{ReadsText, settled_from, awaited_unless_settled, shifts, reads_on}
+use Rattle.enc_stream.proofs.UnmarkedTextLemmas.{unmarked_read, by_codec, unmarked_all, at_hand, first_byte}
 
 module _ {e : Encoding} {life : LifeCycle} {v : CodecState} {src : List ℕ} {last : Bool}
     (text : ReadsText e life v src last) {left read : ℕ}
@@ -309,22 +61,13 @@ module _ {e : Encoding} {life : LifeCycle} {v : CodecState} {src : List ℕ} {la
   abbrev total : ℕ
   total = length held - left + read
 
-  abbrev settled : ℕ
-  settled = settled_from (phase_of life)
-
-  -- the held bytes that are left at a malformed sequence
-  abbrev IsPlaced : DecoderResult → Type 0
-  IsPlaced stop = (l a : ℕ) → stop ≡ Malformed l a → (left ≡ 0)
-      ⊎ ((left ≡ 1) × (total ≡ 1) × (v.pending ≡ []))
-
   -- all of the bytes held that the codec hasn't read are few
-  near : (settled ≤ read) ⊎ ((total ≤ 5) × (v.pending ≡ []))
-  near = elim (most_or_more settled read) [
-    | inl h ↦ inl h
-    | inr h ↦ let awaited = awaited_unless_settled (phase_of life) read h in
+  near : (settled_from (phase_of life) ≤ read) ⊎ ((total ≤ 5) × (v.pending ≡ []))
+  near = elim (most_or_more (settled_from (phase_of life)) read) [
+    | inl settled ↦ inl settled
+    | inr unsettled ↦ let awaited = awaited_unless_settled (phase_of life) read unsettled in
         inr (
-          (let at_most_two = few_unread life (length v.pending) in let none_read = awaited.0 in
-              omega arith),
+          omega (arith, few_unread life (length v.pending), awaited.0),
           (text.holds.unread awaited.1).1,
         )
   ]
@@ -334,235 +77,198 @@ module _ {e : Encoding} {life : LifeCycle} {v : CodecState} {src : List ℕ} {la
 
   -- all bytes held are read
   taken_all : left ≡ 0 → take total (held ++ src) ≡ held ++ take read src
-  taken_all all_held_read =
+  taken_all none_left =
       let all_and_read : total ≡ length held + read = omega arith in
       ap (λ n. take n (held ++ src)) all_and_read ∙ take-append-add held src read
 
   dropped_all : left ≡ 0 → drop total (held ++ src) ≡ drop read src
-  dropped_all all_held_read =
+  dropped_all none_left =
       let all_and_read : total ≡ length held + read = omega arith in
       ap (λ n. drop n (held ++ src)) all_and_read ∙ drop-append-add held src read
-
-  module _ (units_of : ℕ → List ℕ) (w : CodecState) (mode : DecodeErrorMode) (room : ℕ)
-      (written : List ℕ)
-      (replaced : Bool) where
-    abbrev CodecCall : DecoderResult → Type 0
-    CodecCall stop = DecoderCall units_of (remainder_of v) (remainder_of w) (held ++ src) last mode
-        room stop total
-        written replaced
-
-    call_by : (stop : DecoderResult) (codec_call : CodecCall stop)
-        → v.pending ++ take total (held ++ src) ≡ sequence_bytes codec_call.done ++ w.pending
-        → IsPlaced stop
-        → (new : Remainder) → Follows (decoder_remainder (decoder_state_of e life v))
-        (remainder_of w) new src
-        (held ++ src) last stop [] codec_call.done left settled total read
-        → (d : DecoderCall units_of (decoder_remainder (decoder_state_of e life v)) new src last
-        mode room
-        (shifted_result stop left) read written replaced) × (d.done ≡ codec_call.done)
-    call_by InputEmpty c all_accounted p new f =
-        carries_empty units_of (decoder_remainder (decoder_state_of e life v)) (remainder_of v) src
-        (held ++ src)
-        (bytes-append held src (bytes_unread life (length v.pending)) text.bytes) last mode room
-        room [] [] false
-        (length held) 0 settled settled total read left (remainder_of w) new written replaced
-        (carries text) (reads_on text reads_held) (nothing_wrote units_of mode room)
-        c f
-    call_by OutputFull c all_accounted p new f =
-        carries_full units_of (decoder_remainder (decoder_state_of e life v)) (remainder_of v) src
-        (held ++ src)
-        (bytes-append held src (bytes_unread life (length v.pending)) text.bytes) last mode room
-        room [] [] false
-        (length held) 0 settled settled total read left (remainder_of w) new written replaced
-        (carries text) (reads_on text reads_held) (nothing_wrote units_of mode room)
-        c f
-    call_by (Malformed l m) c all_accounted p new f =
-        carries_malformed units_of (decoder_remainder (decoder_state_of e life v)) (remainder_of v)
-        src (held ++ src)
-        (bytes-append held src (bytes_unread life (length v.pending)) text.bytes) last mode room
-        room [] [] false
-        (length held) 0 settled settled total read left (remainder_of w) new written replaced
-        (carries text) (reads_on text reads_held) (nothing_wrote units_of mode room)
-        l m c f (
-          elim near [ inl h ↦ inl h | inr h ↦ inr (h.0, (h.1, all_accounted)) ],
-          elim (p l m refl) [ inl h ↦ inl h | inr h ↦ inr (h.0, h.1, (h.2, all_accounted)) ],
-        )
-
-    malformed_is_done : (stop : DecoderResult) (c : CodecCall stop) → c.done ≡ [] → (l a : ℕ)
-        → stop ≡ Malformed l a
-        → ⊥
-    malformed_is_done InputEmpty codec_call e l a f = cc
-    malformed_is_done OutputFull codec_call e l a f = cc
-    malformed_is_done (Malformed m n) codec_call e l a f =
-        none_malformed codec_call.done codec_call.put codec_call.stops.next e
-        codec_call.stops.then_next
 
   module _ {units_of : ℕ → List ℕ} {w : CodecState} {mode : DecodeErrorMode} {before after : Output}
       {stop : DecoderResult} {replaced : Bool} (kept : w.rule ≡ v.rule)
       (made : PrefixedCallInto units_of (remainder_of v) (remainder_of w) (held ++ src) last mode
-      before after stop
-      total replaced) where
+      before after stop total replaced) where
+    -- the call of the codec, what it does, and the bytes before and among those at hand that it read
+    abbrev call : Call
+    call = record {
+      src = held ++ src;
+      last = last;
+      mode = mode;
+      room = before.room;
+      result = stop;
+      read = total;
+      wrote = made.wrote;
+      replaced = replaced;
+    }
+
+    abbrev done : List Sequence
+    done = made.call.done
+
+    abbrev bytes_read : List ℕ
+    bytes_read = pending ++ take read src
+
     -- how many bytes are done
-    done_len : length v.pending + total ≡ length (sequence_bytes made.call.done) + length w.pending
-    done_len =
-        let same_length = ap length made.accounted in
-        let all_length = length-append v.pending (take total (held ++ src)) in
-        let parts_length = length-append (sequence_bytes made.call.done) w.pending in
-        let taken_length = length-take total (held ++ src) in
-        let joined_length = length-append held src in
-        let within_src = reads_held.within in
-        let within_held = reads_held.most in
-        omega arith
+    done_len : length v.pending + total ≡ length (sequence_bytes done) + length w.pending
+    done_len = omega (
+      arith,
+      ap length made.accounted,
+      length-append v.pending (take total (held ++ src)),
+      length-append (sequence_bytes done) w.pending,
+      length-take total (held ++ src),
+      length-append held src,
+      reads_held.within,
+      reads_held.most,
+    )
 
     -- nothing is done where no byte is
-    none_done : length (sequence_bytes made.call.done) ≡ 0 → made.call.done ≡ []
-    none_done h = by_list made.call.done (made.call.residual [] (λ _. refl)) h
+    none_done : length (sequence_bytes done) ≡ 0 → done ≡ []
+    none_done = by_list done (made.call.residual [] (λ _. refl))
       where
-        by_list : (done : List Sequence)
+        by_list : (ss : List Sequence)
             → (remainder_of v).sequences ((held ++ src) ++ [])
-            ≡ done ++ (remainder_of w).sequences (drop total (held ++ src) ++ [])
-            → length (sequence_bytes done) ≡ 0 → done ≡ []
-        by_list [] f g = refl
-        by_list (s ∷ ss) f g =
+            ≡ ss ++ (remainder_of w).sequences (drop total (held ++ src) ++ [])
+            → length (sequence_bytes ss) ≡ 0 → ss ≡ []
+        by_list [] all no_byte = refl
+        by_list (s ∷ ss) all no_byte =
             let some_bytes =
             has_bytes v.rule v.set (v.pending ++ ((held ++ src) ++ [])) [] s
-            (ss ++ (remainder_of w).sequences (drop total (held ++ src) ++ [])) f in
-            let joined_length = length-append s.bytes (sequence_bytes ss) in
-            absurd (omega arith)
+            (ss ++ (remainder_of w).sequences (drop total (held ++ src) ++ [])) all in
+            absurd (omega (arith, some_bytes, no_byte, length-append s.bytes (sequence_bytes ss)))
 
-    accounted_all : left ≡ 0 → pending ++ take read src ≡ sequence_bytes made.call.done ++ w.pending
-    accounted_all all_held_read =
-        at_hand text (take read src) ∙ ap (λ x. v.pending ++ x) (sym (taken_all all_held_read))
+    -- and nothing is reported where nothing is done
+    none_reported : done ≡ [] → (l a : ℕ) → stop ≡ Malformed l a → ⊥
+    none_reported = by_result stop made.call.stops
+      where
+        by_result : (result : DecoderResult)
+            → DecoderStops units_of (remainder_of v) (remainder_of w) (held ++ src) last mode
+            before.room made.call.put done total result
+            → done ≡ [] → (l a : ℕ) → result ≡ Malformed l a → ⊥
+        by_result InputEmpty stops none l a is_malformed = cc
+        by_result OutputFull stops none l a is_malformed = cc
+        by_result (Malformed m n) stops none l a is_malformed =
+            omega (
+              arith,
+              ap length (sym none ∙ stops.then_next),
+              length-append made.call.put (stops.next ∷ []),
+            )
+
+    accounted_all : left ≡ 0 → bytes_read ≡ sequence_bytes done ++ w.pending
+    accounted_all none_left =
+        at_hand text (take read src) ∙ ap (λ x. v.pending ++ x) (sym (taken_all none_left))
         ∙ made.accounted
+
+    abbrev Escape : Type 0
+    Escape = (reports_escape call made.call ≡ true → settled_from (phase_of life) ≤ read)
+        ⊎ ((total ≤ 5) × AreAllRead (remainder_of v) (remainder_of w) call done)
+
+    escape : Escape
+    escape = elim near [
+      | inl settled ↦ inl (λ _. settled)
+      | inr few ↦ inr (few.0, (few.1, made.accounted))
+    ]
 
     -- the decoder's call, by its state after it
     into : (new : DecoderState)
-        → (d : DecoderCall units_of (decoder_remainder (decoder_state_of e life v))
-        (decoder_remainder new) src last
-        mode before.room (shifted_result stop left) read made.wrote replaced)
-        × (d.done ≡ made.call.done)
-        → new.encoding ≡ e → pending ++ take read src ≡ sequence_bytes made.call.done ++ new.pending
-        → new.life ≡ life_after life (reaches_end last stop) (pending ++ take read src)
-        made.call.done
+        → MatchesState (shifts text call) made.call (decoder_remainder new) read left
+        → new.encoding ≡ e → bytes_read ≡ sequence_bytes done ++ new.pending
+        → new.life ≡ life_after life (reaches_end last stop) bytes_read done
         → DecodesInto units_of mode (decoder_state_of e life v) new src last before after
-        (shifted_result stop left)
-        read replaced
-    into new called same_encoding all_accounted next_life =
-        let none = unmarked_read text read reads_held.within in
+        (shifted_result stop left) read replaced
+    into new matches same_encoding all_accounted next_life =
+        let none : mark_in (phase_of life) bytes_read ≡ None =
+        unmarked_read text read reads_held.within in
+        let called =
+        call_outside
+        (bytes-append held src (bytes_unread life (length v.pending)) text.bytes)
+        (shifts text call) nothing_written
+        (same_mode (start_stage src last mode before.room) call stop refl made.call)
+        (reads_on text call reads_held refl) made.call matches in
         record {
           wrote = made.wrote;
           onto = made.onto;
           decodes = record {
             call = called.0;
-            accounted = all_accounted ∙ ap (λ x. sequence_bytes x ++ new.pending) (sym called.1)
-                ∙ ap (λ m. mark_bytes m ++ (sequence_bytes called.0.done ++ new.pending))
-                (sym none);
-            encoding = same_encoding ∙ ap (λ m. encoding_of_mark_or m e) (sym none);
-            life = next_life
-                ∙ ap (λ x. life_after life (reaches_end last stop) (pending ++ take read src) x)
-                (sym called.1)
-                ∙ ap (λ b. life_after life b (pending ++ take read src) called.0.done)
-                (sym (end_placed last stop left));
+            accounted = rw (none, called.1) all_accounted;
+            encoding = rw none same_encoding;
+            life = rw (called.1, end_placed last stop left) next_life;
           };
         }
-
-    call_over_src : IsPlaced stop → (new : Remainder)
-        → Follows (decoder_remainder (decoder_state_of e life v)) (remainder_of w) new src
-        (held ++ src) last stop []
-        made.call.done left settled total read
-        → (d : DecoderCall units_of (decoder_remainder (decoder_state_of e life v)) new src last
-        mode before.room
-        (shifted_result stop left) read made.wrote replaced) × (d.done ≡ made.call.done)
-    call_over_src placed new follows =
-        call_by units_of w mode before.room made.wrote replaced stop made.call made.accounted placed
-        new follows
 
     -- At the end of the input.
     pub ends : reaches_end last stop ≡ true
         → DecodesInto units_of mode (decoder_state_of e life v) (decoder_state_of e Finished w) src
-        last before after
-        (shifted_result stop left) read replaced
+        last before after (shifted_result stop left) read replaced
     ends at_end_now =
         let is_last : last ≡ true = (at_end last stop at_end_now).0 in
-        let at_empty : stop ≡ InputEmpty = (at_end last stop at_end_now).1 in
         let stops : DecoderAtInputEmpty (remainder_of v) (remainder_of w) (held ++ src) last
-        made.call.put
-        made.call.done total =
-        subst (λ x. DecoderStops units_of (remainder_of v) (remainder_of w) (held ++ src) last mode
-        before.room
-        made.call.put made.call.done total x) at_empty made.call.stops in
-        let nothing_left : left ≡ 0 =
-        (let read_all = stops.all_read in
-        let joined_length = length-append held src in
-        let within_src = reads_held.within in
-        let within_held = reads_held.most in
-        omega arith) in
-        into (decoder_state_of e Finished w)
-        (call_over_src (λ l m x. absurd (empty_not_malformed l m (sym at_empty ∙ x)))
-        (decoder_remainder (decoder_state_of e Finished w))
-        (record {
+        made.call.put done total =
+        subst (DecoderStops units_of (remainder_of v) (remainder_of w) (held ++ src) last mode
+        before.room made.call.put done total) (at_end last stop at_end_now).1 made.call.stops in
+        let none_left : left ≡ 0 =
+        omega (
+          arith,
+          stops.all_read,
+          length-append held src,
+          reads_held.within,
+          reads_held.most,
+        ) in
+        into (decoder_state_of e Finished w) (record {
           after =
-              λ z l. ap (remainder_of w).sequences
-              (ap (λ x. x ++ z) (drop_of_length-le (held ++ src)
-              (let read_all = stops.all_read in omega arith))
-              ∙ l is_last) ∙ stops.none_left is_last;
+              λ z nothing. ap (remainder_of w).sequences
+              (ap (λ x. x ++ z) (drop_of_length-le (held ++ src) (omega (arith, stops.all_read)))
+              ∙ nothing is_last) ∙ stops.none_left is_last;
           set = made.call.set;
-          pending = omega arith;
-          none_pending = λ l _. stops.none_pending l;
+          pending = omega (arith, none_left);
+          none_pending = λ last_one _. stops.none_pending last_one;
           same = inl refl;
-        }))
-        refl (accounted_all nothing_left)
-        (ap (λ b. life_after life b (pending ++ take read src) made.call.done) (sym at_end_now))
+          escape = escape;
+          held = λ l a _. inl none_left;
+        }) refl (accounted_all none_left)
+        (ap (λ end. life_after life end bytes_read done) (sym at_end_now))
 
-    -- Nothing is done, and none of the offer is read: all is as it was.
+    -- Nothing is done, and none of the chunk is read: all is as it was.
     pub stays : reaches_end last stop ≡ false → read ≡ 0
         → length w.pending + left ≡ length v.pending + length held
         → DecodesInto units_of mode (decoder_state_of e life v) (decoder_state_of e life v) src last
-        before after
-        (shifted_result stop left) read replaced
+        before after (shifted_result stop left) read replaced
     stays not_ended nothing_read untouched =
-        let nothing : made.call.done ≡ [] =
-        none_done (let all_done = done_len in let within_held = reads_held.most in omega arith) in
-        let none_read : pending ++ take read src ≡ pending =
+        let nothing : done ≡ [] =
+        none_done (omega (arith, done_len, reads_held.most, nothing_read, untouched)) in
+        let none_read : bytes_read ≡ pending =
         ap (λ k. pending ++ take k src) nothing_read ∙ append-nil pending in
-        into (decoder_state_of e life v)
-        (call_over_src
-        (λ l m x. absurd (malformed_is_done units_of w mode before.room made.wrote replaced stop
-        made.call nothing l m
-        x))
-        (decoder_remainder (decoder_state_of e life v))
-        (record {
-          after = λ y l.
+        let are_held = shows_held e life v text.holds in
+        into (decoder_state_of e life v) (record {
+          after = λ y ends.
               sym (ap (λ d. d ++ (remainder_of w).sequences (drop total (held ++ src) ++ y))
               nothing)
-              ∙ sym (made.call.residual y l)
+              ∙ sym (made.call.residual y ends)
               ∙ ap (remainder_of v).sequences (append_assoc held src y)
-              ∙ sym (by_codec text (src ++ y) (unmarked_all text y l))
+              ∙ sym (by_codec text (src ++ y) (unmarked_all text y ends))
               ∙ ap (λ k. remaining_sequences (decoder_state_of e life v) (drop k src ++ y))
               (sym nothing_read);
           set = sym (ap (set_after v.set) nothing);
           pending = length_pending ∙ sym untouched;
-          none_pending = λ l x. absurd (not_at_end last stop not_ended l x);
+          none_pending = λ is_last is_empty.
+              absurd (not_at_end last stop not_ended is_last is_empty);
           same = inr (inl nothing_read);
-        }))
-        refl (none_read ∙ ap (λ d. sequence_bytes d ++ pending) (sym nothing))
-        (sym (let are_held = shows_held e life v text.holds in
-        own_state life pending text.going are_held.in_front are_held.held)
-        ∙ ap (λ x. life_after_sequences (life_at_prefix (mark_prefixes life) x) []) (sym none_read)
-        ∙ ap (life_after_sequences (life_at_prefix (mark_prefixes life) (pending ++ take read src)))
-        (sym nothing)
-        ∙ ap (λ b. life_after life b (pending ++ take read src) made.call.done) (sym not_ended))
+          escape = escape;
+          held = λ l a is_malformed. absurd (none_reported nothing l a is_malformed);
+        }) refl (rw (none_read, nothing) refl)
+        (rw (not_ended, none_read, nothing)
+        (sym (own_state life pending text.going are_held.in_front are_held.held)))
 
     -- Text goes on.
     module _ (not_ended : reaches_end last stop ≡ false)
         (touched : read ≡ 0 → length w.pending + left ≡ length v.pending + length held → ⊥)
         (no_bb : read ≡ 0 → length held ≡ 2 → length w.pending + left ≡ 1 → ⊥) where
-      nothing_left : left ≡ 0
-      nothing_left = elim reads_held.first [
-        | inl f ↦ f
-        | inr f ↦ elim (most_or_more left 0) [
-          | inl i ↦ omega arith
-          | inr i ↦ absurd (too_few f i)
+      none_left : left ≡ 0
+      none_left = elim reads_held.first [
+        | inl none ↦ none
+        | inr none_read ↦ elim (most_or_more left 0) [
+          | inl none ↦ omega (arith, none)
+          | inr some ↦ absurd (too_few none_read some)
         ]
       ]
         where
@@ -571,85 +277,85 @@ module _ {e : Encoding} {life : LifeCycle} {v : CodecState} {src : List ℕ} {la
               let all_done = done_len in
               let within_held = reads_held.most in
               let at_most_two = few_unread life (length v.pending) in
-              elim (held_or_pending (eqb (length v.pending) 0) (held_mark_bytes life)
-              (length v.pending) refl) [
+              elim (held_or_pending life (length v.pending)) [
                 | inl none_held ↦ omega arith
-                | inr none_pending ↦ elim (most_or_more (length (sequence_bytes made.call.done))
-                    0) [
-                      | inl o ↦ touched none_read (omega arith)
-                      | inr o ↦ no_bb none_read (omega arith) (omega arith)
-                    ]
+                | inr none_pending ↦ elim (most_or_more (length (sequence_bytes done)) 0) [
+                  | inl no_byte ↦ touched none_read (omega arith)
+                  | inr some_bytes ↦ no_bb none_read (omega arith) (omega arith)
+                ]
               ]
 
       state_on : (n : ℕ) → n ≡ read
-          → life_after_sequences (life_at_prefix (mark_prefixes life) (pending ++ take n src))
-          made.call.done
+          → life_after_sequences (life_at_prefix (mark_prefixes life) (pending ++ take n src)) done
           ≡ Converting
       state_on zero n_is_read =
-          ap (λ x. life_after_sequences (life_at_prefix (mark_prefixes life) x) made.call.done)
+          ap (λ x. life_after_sequences (life_at_prefix (mark_prefixes life) x) done)
           (append-nil pending)
-          ∙ converts life v.pending made.call.done text.going (λ x. (text.holds.unread x).1)
-          (λ d. touched (sym n_is_read) (let none_long = ap (λ x. length (sequence_bytes x)) d in
-          let all_done = done_len in let all_held_read = nothing_left in omega arith))
-          (λ s l. no_bb (sym n_is_read) (two_held s)
-          (let all_done = done_len in let all_held_read = nothing_left in
-          let two = two_held s in let none_pending = none_pending_at s in omega arith))
+          ∙ converts e life v text.going text.holds done
+          (λ none_done. touched (sym n_is_read) (omega (
+            arith,
+            ap (λ ss. length (sequence_bytes ss)) none_done,
+            done_len,
+            none_left,
+            n_is_read,
+          )))
+          (λ is_second one_byte. no_bb (sym n_is_read) (two_held is_second) (omega (
+            arith,
+            one_byte,
+            done_len,
+            none_left,
+            two_held is_second,
+            none_pending is_second,
+            n_is_read,
+          )))
         where
-          none_pending_at : life ≡ SeenUtf8Second → length v.pending ≡ 0
-          none_pending_at s = ap length (text.holds.unread (ap (λ l. awaits_mark (phase_of l)) s)).1
+          none_pending : life ≡ SeenUtf8Second → length v.pending ≡ 0
+          none_pending is_second =
+              ap length (text.holds.unread (ap (λ l. awaits_mark (phase_of l)) is_second)).1
 
           two_held : life ≡ SeenUtf8Second → length held ≡ 2
-          two_held is_second = ap (λ n. length (unread_bytes life n)) (none_pending_at is_second)
-              ∙ ap (λ l. length (unread_bytes l 0)) is_second
+          two_held is_second = rw (none_pending is_second, is_second) refl
       state_on (suc n) n_is_read =
           let first = first_byte (suc n) src [] (omega arith)
-          (let within_src = reads_held.within in omega arith) in
-          ap (λ o. life_after_sequences o made.call.done)
+          (omega (arith, reads_held.within, n_is_read)) in
+          ap (λ o. life_after_sequences o done)
           (ap (λ x. life_at_prefix (mark_prefixes life) (pending ++ x))
           (sym (append-nil (take (suc n) src)) ∙ first.4)
-          ∙ no_front_at life v.pending (first.0 ∷ first.2) text.going (λ x. (text.holds.unread x).1)
+          ∙ no_front_at e life v text.going text.holds (first.0 ∷ first.2)
           ((text.no_mark.rules_out first.0 first.1 first.3).no_front first.2))
 
       pub goes_on : DecodesInto units_of mode (decoder_state_of e life v)
-          (decoder_state_of e Converting w) src last
-          before after (shifted_result stop left) read replaced
+          (decoder_state_of e Converting w) src last before after (shifted_result stop left) read
+          replaced
       goes_on =
-          into (decoder_state_of e Converting w)
-          (call_over_src (λ l m x. inl nothing_left)
-          (decoder_remainder (decoder_state_of e Converting w))
-          (record {
-            after = λ y l.
-                ap (λ x. (remainder_of w).sequences (x ++ y)) (dropped_all nothing_left)
+          into (decoder_state_of e Converting w) (record {
+            after = λ y _.
+                ap (λ x. (remainder_of w).sequences (x ++ y)) (dropped_all none_left)
                 ∙ ap (λ (q : Rule). sequences_of q w.set (w.pending ++ (drop read src ++ y)))
                 (kept ∙ sym text.same_rule);
             set = made.call.set;
-            pending = let all_held_read = nothing_left in omega arith;
-            none_pending = λ l x. absurd (not_at_end last stop not_ended l x);
+            pending = omega (arith, none_left);
+            none_pending = λ is_last is_empty.
+                absurd (not_at_end last stop not_ended is_last is_empty);
             same = inl refl;
-          }))
-          refl (accounted_all nothing_left)
-          (sym (state_on read refl)
-          ∙ ap (λ b. life_after life b (pending ++ take read src) made.call.done)
-          (sym not_ended))
+            escape = escape;
+            held = λ l a _. inl none_left;
+          }) refl (accounted_all none_left) (rw not_ended (sym (state_on read refl)))
 
     -- BB stays after EF.
     pub stays_bb : reaches_end last stop ≡ false → read ≡ 0 → length held ≡ 2
         → length w.pending + left ≡ 1
         → DecodesInto units_of mode (decoder_state_of e life v)
-        (decoder_state_of e ConvertingWithPendingBb w) src last
-        before after (shifted_result stop left) read replaced
+        (decoder_state_of e ConvertingWithPendingBb w) src last before after
+        (shifted_result stop left) read replaced
     stays_bb not_ended nothing_read two one =
-        let leaves : LeavesBb v w src made.call.done left read life =
+        let leaves : LeavesBb v w src done left read life =
         leaves_bb reads_held made.accounted nothing_read two one in
-        let full : pending ≡ 0xEF ∷ 0xBB ∷ [] =
-        text.holds.held ∙ ap (λ x. x ++ held) leaves.none ∙ leaves.unread in
-        let none_read : pending ++ take read src ≡ 0xEF ∷ 0xBB ∷ [] =
-        ap (λ k. pending ++ take k src) nothing_read ∙ append-nil pending ∙ full in
-        into (decoder_state_of e ConvertingWithPendingBb w)
-        (call_over_src (λ l m x. by_left (most_or_more left 0) leaves.none (omega arith))
-        (decoder_remainder (decoder_state_of e ConvertingWithPendingBb w))
-        (record {
-          after = λ y l.
+        let all_read : bytes_read ≡ 0xEF ∷ 0xBB ∷ [] =
+        ap (λ k. pending ++ take k src) nothing_read ∙ append-nil pending
+        ∙ text.holds.held ∙ ap (λ x. x ++ held) leaves.none ∙ leaves.unread in
+        into (decoder_state_of e ConvertingWithPendingBb w) (record {
+          after = λ y _.
               ap (λ x. sequences_of w.rule w.set x)
               (sym (append_assoc w.pending (drop total (held ++ src)) y)
               ∙ ap (λ x. x ++ y) leaves.bb_left)
@@ -659,34 +365,36 @@ module _ {e : Encoding} {life : LifeCycle} {v : CodecState} {src : List ℕ} {la
               (sym nothing_read);
           set = made.call.set;
           pending = sym one;
-          none_pending = λ l x. absurd (not_at_end last stop not_ended l x);
+          none_pending = λ is_last is_empty.
+              absurd (not_at_end last stop not_ended is_last is_empty);
           same = inr (inl nothing_read);
-        }))
-        refl (none_read ∙ ap (λ x. x ++ 0xBB ∷ []) (sym leaves.done_bytes))
-        (sym (bb_state made.call.done (pending ++ take read src) none_read leaves.done_bytes)
-        ∙ ap (λ l. life_after_sequences
-        (life_at_prefix (mark_prefixes l) (pending ++ take read src)) made.call.done)
-        (sym leaves.state)
-        ∙ ap (λ x. life_after life x (pending ++ take read src) made.call.done) (sym not_ended))
-      where
-        by_left : (left ≤ 0) ⊎ (0 < left) → v.pending ≡ [] → left ≤ 1
-            → (left ≡ 0) ⊎ ((left ≡ 1) × (total ≡ 1) × (v.pending ≡ []))
-        by_left (inl i) none at_most_one = inl (omega arith)
-        by_left (inr i) none at_most_one = inr (omega arith, omega arith, none)
+          escape = escape;
+          held = λ l a _. elim (most_or_more left 0) [
+            | inl none ↦ inl (omega (arith, none))
+            | inr some ↦ inr (
+                omega (arith, one, some),
+                omega (arith, one, some, two, nothing_read),
+                (leaves.none, made.accounted),
+              )
+          ];
+        }) refl (rw (all_read, leaves.done_bytes) refl)
+        (rw (not_ended, all_read) (sym (bb_state done leaves.done_bytes)
+        ∙ ap (λ l. life_after_sequences (life_at_prefix (mark_prefixes l) (0xEF ∷ 0xBB ∷ [])) done)
+        (sym leaves.state)))
 
 -- The two tests of the code, as facts.
 
 pub both_equal : (read x y : ℕ) → (eqb read 0 && eqb x y) ≡ true → (read ≡ 0) × (x ≡ y)
-both_equal read x y h = (grind (arith, nat_tests), grind (arith, nat_tests))
+both_equal read x y equal = (grind (arith, nat_tests), grind (arith, nat_tests))
 
 pub not_both_equal : (read x y : ℕ) → (eqb read 0 && eqb x y) ≡ false → read ≡ 0 → x ≡ y → ⊥
-not_both_equal read x y h e f = grind (arith, nat_tests)
+not_both_equal read x y differ none_read same = grind (arith, nat_tests)
 
 pub all_equal : (read x y m n : ℕ) → (eqb read 0 && (eqb x m && eqb y n)) ≡ true
     → (read ≡ 0) × (x ≡ m) × (y ≡ n)
-all_equal read x y m n h =
+all_equal read x y m n equal =
     (grind (arith, nat_tests), grind (arith, nat_tests), grind (arith, nat_tests))
 
 pub not_all_equal : (read x y m n : ℕ) → (eqb read 0 && (eqb x m && eqb y n)) ≡ false
     → read ≡ 0 → x ≡ m → y ≡ n → ⊥
-not_all_equal read x y m n h e f g = grind (arith, nat_tests)
+not_all_equal read x y m n differ none_read same also = grind (arith, nat_tests)

@@ -1,8 +1,16 @@
+pub mod FoundMarkLemmas
+pub mod MarkFirstLemmas
+pub mod LifeCycleLemmas
+pub mod EndOfInputLemmas
+pub mod PendingBytesLemmas
 pub mod UnmarkedTextLemmas
+pub mod PendingBbLemmas
 pub mod HeldMarkLemmas
 pub mod AfterMarkLemmas
+pub mod DecoderCallLemmas
+pub mod RemainingRuleLemmas
 pub mod OutputFullLemmas
-pub mod EndOfInputLemmas
+pub mod AppendedOutputLemmas
 pub mod DecoderProgressLemmas
 pub mod WholeInputLemmas
 pub mod WholeEncodingLemmas
@@ -13,7 +21,6 @@ pub mod ReferenceLemmas
 pub mod EncoderProgressLemmas
 pub mod Latin1Lemmas
 pub mod SniffingLemmas
-pub mod MarkFirstLemmas
 pub mod OneShotDecodeLemmas
 pub mod UnreadTextLemmas
 pub mod OneShotEncodeLemmas
@@ -21,4 +28,5 @@ pub mod OwnTextLemmas
 pub mod OwnMarkLemmas
 pub mod OwnBytesLemmas
 pub mod NeedLemmas
+pub mod FormulaLemmas
 pub mod EnoughLemmas

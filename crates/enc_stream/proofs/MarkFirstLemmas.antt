@@ -17,9 +17,10 @@ use Rattle.enc_stream.specs.declared.encoding.Encoding.{Encoding}
 use Rattle.enc_stream.specs.declared.bom.BomHandling.{BomHandling}
 use Rattle.enc_stream.specs.declared.bom.BomHandling.TheVariants.{Off, Sniff, Remove}
 use Rattle.enc_stream.specs.Encodings.{rule_of}
-use Rattle.enc_stream.specs.Bom.{Mark, marks_of_encoding, find_mark, marks_looked_for, sequences_by_mark}
+use Rattle.enc_stream.specs.Bom.{Mark, marks, marks_of_encoding, find_mark, marks_looked_for, sequences_by_mark}
 use Rattle.enc_stream.specs.LifeCycle.{encoding_of_mark_or}
 use Rattle.enc_stream.specs.Decoding.{whole_sequences}
+use Rattle.enc_stream.proofs.FoundMarkLemmas.{found_fits}
 use Rattle.enc_stream.specs.MarkLaws.{IsProperPrefix, MayBeginMark, bytes_after_mark}
 
 -- bytes that are no proper prefix of p decide whether p is in front
@@ -48,28 +49,6 @@ mark_is_decided (m ∷ others) x y mark_decided =
     ∙ ap (λ t. if starts_with nat_eq x m.bytes then Some m else t)
     (mark_is_decided others x y (λ i. mark_decided (inr i)))
 
--- bytes with p in front are no fewer
-pub start_fits : (p x : List ℕ) → starts_with nat_eq x p ≡ true → length p ≤ length x
-start_fits [] x starts = omega arith
-start_fits (a ∷ p) [] starts = absurd (false≢true starts)
-start_fits (a ∷ p) (b ∷ x) starts = elim (true_or_false (eqb a b)) [
-  | inl t ↦ let rest_fits : length p ≤ length x = start_fits p x (rw t at starts) in omega arith
-  | inr f ↦ absurd (false≢true (rw f at starts))
-]
-
--- and so is one that is found
-pub found_fits : (looked_for : List Mark) (x : List ℕ) (m : Mark) → find_mark looked_for x ≡ Some m
-    → length m.bytes ≤ length x
-found_fits [] x m e = absurd (let none : ⊥ = cc in none)
-found_fits (k ∷ others) x m e = elim (true_or_false (starts_with nat_eq x k.bytes)) [
-  | inl starts ↦ (let mark_fits : length k.bytes ≤ length x = start_fits k.bytes x starts in
-      let found_first : (if starts_with nat_eq x k.bytes then Some k else find_mark others x)
-      ≡ Some k =
-      ap (λ t. if t then Some k else find_mark others x) starts in
-      let same : k ≡ m = cc in subst (λ (l : Mark). length l.bytes ≤ length x) same mark_fits)
-  | inr f ↦ found_fits others x m (sym (ap (λ t. if t then Some k else find_mark others x) f) ∙ e)
-]
-
 -- the sequences after a mark that is known
 pub sequences_after_mark : (found : Option Mark) (e : Encoding) (x z : List ℕ)
     → ((m : Mark) → found ≡ Some m → length m.bytes ≤ length x)
@@ -89,12 +68,20 @@ same_sequences looked_for e x z n =
     ∙ sequences_after_mark (find_mark looked_for x) e x z (found_fits looked_for x)
 
 -- Each of these marks is made of bytes, and is found where it stands alone.
-AreFound : List Mark → List Mark → Type 0
+pub AreFound : List Mark → List Mark → Type 0
 AreFound all [] = Unit {0}
 AreFound all (m ∷ others) = AreBytes m.bytes × (find_mark all m.bytes ≡ Some m)
     × AreFound all others
 
-found_own : (id : EncodingId) → AreFound (marks_of_encoding id) (marks_of_encoding id)
+pub found_all : AreFound marks marks
+unfolding AreFound
+found_all = (
+  (omega arith, (omega arith, (omega arith, tt))),
+  refl,
+  ((omega arith, (omega arith, tt)), refl, ((omega arith, (omega arith, tt)), refl, tt)),
+)
+
+pub found_own : (id : EncodingId) → AreFound (marks_of_encoding id) (marks_of_encoding id)
 unfolding AreFound
 found_own Utf8 = ((omega arith, (omega arith, (omega arith, tt))), refl, tt)
 found_own Utf16be = ((omega arith, (omega arith, tt)), refl, tt)
@@ -105,20 +92,16 @@ found_looked_for : (handling : BomHandling) (e : Encoding)
     → AreFound (marks_looked_for handling e) (marks_looked_for handling e)
 unfolding AreFound
 found_looked_for Off e = tt
-found_looked_for Sniff e = (
-  (omega arith, (omega arith, (omega arith, tt))),
-  refl,
-  ((omega arith, (omega arith, tt)), refl, ((omega arith, (omega arith, tt)), refl, tt)),
-)
+found_looked_for Sniff e = found_all
 found_looked_for Remove e = found_own e.id
 
 bytes_after : (x y : List ℕ) → AreBytes (x ++ y) → AreBytes y
 bytes_after [] y b = b
 bytes_after (a ∷ x) y b = bytes_after x y b.1
 
-none_begun : (all : List Sequence) (s : Sequence) (ss : List Sequence) → all ≡ []
+pub none_begun : (all : List Sequence) (s : Sequence) (ss : List Sequence) → all ≡ []
     → AreFirstSequences (s ∷ ss) all → ⊥
-none_begun all s ss e come_first = let begins : all ≡ s ∷ (ss ++ come_first.0) = come_first.1 in cc
+none_begun all s ss none come_first = let begins = come_first.1 in cc
 
 -- a mark alone has no sequences
 no_sequences : (all : List Mark) (m : Mark) (e : Encoding) → find_mark all m.bytes ≡ Some m
@@ -129,7 +112,7 @@ no_sequences all m e found =
     ∙ sequences_of-nil (rule_of m.encoding) 0
 
 -- so what may begin one determines nothing
-undetermined_in : (all looked_for : List Mark) (e : Encoding) (x : List ℕ) (s : Sequence)
+pub undetermined_in : (all looked_for : List Mark) (e : Encoding) (x : List ℕ) (s : Sequence)
     (ss : List Sequence)
     → AreFound all looked_for
     → MayBeginMark looked_for x

@@ -17,7 +17,7 @@ use Rattle.enc_units.specs.declared.coder_result.CoderResult.TheVariants as code
 use Rattle.enc_units.specs.Results.{decoder_result_of}
 use Rattle.enc_units.specs.Output.{units_of_text}
 use Rattle.enc_decoder.specs.Sequence.{Sequence, sequence_text, is_malformed, any_malformed}
-use Rattle.enc_decoder.specs.Call.{DecodeErrorMode, Fatal, reaches_end}
+use Rattle.enc_decoder.specs.Call.{DecodeErrorMode, Replacement, Fatal, reaches_end}
 use Rattle.enc_decoder.specs.Need.{MeetsDecodeNeed}
 use Rattle.enc_decoder.specs.Remainder.{AreBytes}
 use Rattle.enc_decoder.proofs.SequenceLemmas.{units-append, any_malformed-append}
@@ -25,7 +25,7 @@ use Rattle.enc_decoder.proofs.SegmentationLemmas.{sequences_of-nil}
 use Rattle.enc_stream.specs.Encodings.{rule_of}
 use Rattle.enc_stream.specs.Bom.{Mark, marks_of_encoding, find_mark, sequences_by_mark}
 use Rattle.enc_stream.specs.LifeCycle.{encoding_of_mark_or}
-use Rattle.enc_stream.specs.Decoding.{DecoderState, has_finished, fresh_decoder, decoder_remainder, remaining_sequences}
+use Rattle.enc_stream.specs.Decoding.{DecoderState, has_ended, has_finished, fresh_decoder, decoder_remainder, remaining_sequences}
 use Rattle.enc_stream.specs.Decoding.{whole_sequences, whole_utf_8, whole_malformed, DecodesChunk, DecodesReplacing}
 use Rattle.enc_stream.specs.Decoding.{AnswersDecodeReplacing, HasDecoded}
 use Rattle.enc_units.specs.Checked.{checked_add}
@@ -34,7 +34,10 @@ use Rattle.enc_stream.specs.declared.lengths.Query.TheVariants.{Utf8Reporting}
 use Rattle.enc_stream.specs.Lengths.{max_length, IsEnoughRoom}
 use Rattle.enc_stream.specs.OneShot.{utf_8_without_replacement, HasRoomFor, HasRoomExactlyFor}
 use Rattle.enc_stream.specs.OneShot.{first_length, IsTooLongAfterFull, MayLackMemory}
-use Rattle.enc_stream.proofs.EndOfInputLemmas.{fresh_sequences, has_finished_by, whole_text, whole_flag}
+use Rattle.enc_decoder.specs.CallRecord.{Call}
+use Rattle.enc_decoder.specs.Need.{NeedExceeds}
+use Rattle.enc_stream.proofs.DecoderCallLemmas.{Decodes, only_put, finished_by}
+use Rattle.enc_stream.proofs.EndOfInputLemmas.{fresh_sequences, finishes, whole_text, whole_flag}
 
 pub nothing : (bytes : List ℕ) → true ≡ (length bytes == 0) → bytes ≡ []
 nothing [] h = refl
@@ -74,73 +77,79 @@ none_decoded handling e bytes = record {
 }
 
 -- One more call, whose text follows the text already written.
-module _ {handling : BomHandling} {e : Encoding} {bytes src : List ℕ} {old new : DecoderState}
-    {before : List ℕ}
-    {had : Bool} (decoded : HasDecoded handling e bytes src true old before had)
-    {mode : DecodeErrorMode} {room : ℕ} {result : DecoderResult} {read : ℕ} {wrote : List ℕ}
-    {replaced : Bool}
-    (decodes : DecodesChunk encode_utf8 mode old new src true room result read wrote replaced) where
-  all_done : whole_sequences handling e bytes ≡ (decoded.done ++ decodes.call.done)
-      ++ remaining_sequences new
-      (drop read src ++ [])
-  all_done =
+module _ {handling : BomHandling} {e : Encoding} {bytes : List ℕ} {old new : DecoderState}
+    {before : List ℕ} {had : Bool} (c : Call)
+    (decoded : HasDecoded handling e bytes c.src true old before had) where
+  all_done : (decodes : Decodes encode_utf8 old new (record c { last = true }))
+      → whole_sequences handling e bytes ≡ (decoded.done ++ decodes.call.done)
+      ++ remaining_sequences new (drop c.read c.src ++ [])
+  all_done decodes =
       ap (whole_sequences handling e) (sym (append-nil bytes)) ∙ decoded.whole [] (λ _. refl)
       ∙ ap (λ ss. decoded.done ++ ss) (decodes.call.residual [] (λ _. refl))
       ∙ sym (append_assoc decoded.done decodes.call.done
-      (remaining_sequences new (drop read src ++ [])))
+      (remaining_sequences new (drop c.read c.src ++ [])))
 
   -- if the call puts out all sequences that it does, their text is appended
-  pub goes_on : {after : List ℕ} → wrote ≡ drop (length before) after
-      → take (length before) after ≡ before
-      → decodes.call.put ≡ decodes.call.done
-      → HasDecoded handling e bytes (drop read src) true new after (had || replaced)
-  goes_on {after} follows keeps all_put = record {
+  goes_on : {after : List ℕ} (decodes : Decodes encode_utf8 old new
+      (record c { last = true; wrote = drop (length before) after }))
+      → take (length before) after ≡ before → decodes.call.put ≡ decodes.call.done
+      → HasDecoded handling e bytes (drop c.read c.src) true new after (had || c.replaced)
+  goes_on {after} decodes keeps all_put = record {
     done = decoded.done ++ decodes.call.done;
     whole = λ z at_end. decoded.whole z at_end
         ∙ ap (λ ss. decoded.done ++ ss) (decodes.call.residual z at_end)
         ∙ sym (append_assoc decoded.done decodes.call.done
-        (remaining_sequences new (drop read src ++ z)));
+        (remaining_sequences new (drop c.read c.src ++ z)));
     text =
         sym (take-append-drop (length before) after)
         ∙ ap (λ x. x ++ drop (length before) after) (keeps ∙ decoded.text)
         ∙ ap (λ x. units_of_text encode_utf8 (sequence_text decoded.done) ++ x)
-        (sym follows ∙ decodes.call.text
-        ∙ ap (λ ss. units_of_text encode_utf8 (sequence_text ss)) all_put)
+        (decodes.call.text ∙ ap (λ ss. units_of_text encode_utf8 (sequence_text ss)) all_put)
         ∙ sym (units-append encode_utf8 decoded.done decodes.call.done);
     flag =
-        ap (λ x. x || replaced) decoded.flag
+        ap (λ x. x || c.replaced) decoded.flag
         ∙ ap (λ x. any_malformed decoded.done || x) (decodes.call.flag ∙ ap any_malformed all_put)
         ∙ sym (any_malformed-append decoded.done decodes.call.done);
   }
 
--- The same if the call is offered the unread bytes, and writes after the text already written.
-pub next_call : {handling : BomHandling} {e : Encoding} {bytes unread : List ℕ}
-    {old new : DecoderState}
-    {wrote : List ℕ} {had : Bool} → HasDecoded handling e bytes unread true old wrote had
+-- The same if the call replaces, is given the unread bytes, and writes after the text already
+-- written.
+pub next_call : (result : CoderResult) {handling : BomHandling} {e : Encoding}
+    {bytes unread : List ℕ} {old new : DecoderState} {wrote : List ℕ} {had : Bool}
+    → HasDecoded handling e bytes unread true old wrote had
     → {src before after : List ℕ} → src ≡ unread → before ≡ wrote
-    → {mode : DecodeErrorMode} {room : ℕ} {result : DecoderResult} {read : ℕ} {replaced : Bool}
-    (decodes : DecodesChunk encode_utf8 mode old new src true room result read
-    (drop (length before) after) replaced)
-    → take (length before) after ≡ before → decodes.call.put ≡ decodes.call.done
+    → {room read : ℕ} {replaced : Bool}
+    → DecodesReplacing encode_utf8 old new src true room result read (drop (length before) after)
+    replaced
+    → take (length before) after ≡ before
     → HasDecoded handling e bytes (drop read src) true new after (had || replaced)
-next_call {handling} {e} {bytes} {old} {had} decoded {src} {before} src_is before_is decodes keeps
-    all_put =
-    let decoded_before : HasDecoded handling e bytes src true old before had =
-    rw (src_is, before_is) decoded in
-    goes_on decoded_before decodes refl keeps all_put
+next_call result {old} {new} decoded {src} {before} {after} src_is before_is {room} {read}
+    {replaced} decodes keeps =
+    let call : Call = record {
+      src = src;
+      last = true;
+      mode = Replacement;
+      room = room;
+      result = decoder_result_of result;
+      read = read;
+      wrote = drop (length before) after;
+      replaced = replaced;
+    } in
+    goes_on call (rw (src_is, before_is) decoded) decodes keeps (only_put call decodes refl)
 
 -- and of the first call
-pub first_call : {handling : BomHandling} {e : Encoding} {bytes : List ℕ} {old new : DecoderState}
+pub first_call : (result : CoderResult) {handling : BomHandling} {e : Encoding} {bytes : List ℕ}
+    {old new : DecoderState}
     → old ≡ fresh_decoder handling e → {before after : List ℕ} → before ≡ []
-    → {mode : DecodeErrorMode} {room : ℕ} {result : DecoderResult} {read : ℕ} {replaced : Bool}
-    (decodes : DecodesChunk encode_utf8 mode old new bytes true room result read
-    (drop (length before) after) replaced)
-    → take (length before) after ≡ before → decodes.call.put ≡ decodes.call.done
+    → {room read : ℕ} {replaced : Bool}
+    → DecodesReplacing encode_utf8 old new bytes true room result read (drop (length before) after)
+    replaced
+    → take (length before) after ≡ before
     → HasDecoded handling e bytes (drop read bytes) true new after replaced
-first_call {handling} {e} {bytes} {old} is_fresh is_empty decodes keeps all_put =
+first_call result {handling} {e} {bytes} {old} is_fresh is_empty decodes keeps =
     let none_so_far : HasDecoded handling e bytes bytes true old [] false =
     rw is_fresh (none_decoded handling e bytes) in
-    next_call none_so_far refl is_empty decodes keeps all_put
+    next_call result none_so_far refl is_empty decodes keeps
 
 or_true : (b : Bool) → (b || true) ≡ true
 or_true true = refl
@@ -153,16 +162,14 @@ any_of_last (t ∷ ss) ts s h = ap (λ b. is_malformed t.kind || b) (any_of_last
     ∙ or_true (is_malformed t.kind)
 
 -- a malformed sequence that is reported is one of the whole input
-pub is_malformed_input : {handling : BomHandling} {e : Encoding} {bytes src : List ℕ}
-    {old new : DecoderState}
-    {before : List ℕ} {had : Bool} → HasDecoded handling e bytes src true old before had
-    → {mode : DecodeErrorMode} {room l a read : ℕ} {wrote : List ℕ} {replaced : Bool}
-    → DecodesChunk encode_utf8 mode old new src true room (Malformed l a) read wrote replaced
-    → whole_malformed handling e bytes ≡ true
-is_malformed_input {src} {new} decoded {read} decodes =
+is_malformed_input : {e : Encoding} {bytes : List ℕ} {old new : DecoderState} {before : List ℕ}
+    {l a : ℕ} (c : Call) → HasDecoded Off e bytes c.src true old before false
+    → Decodes encode_utf8 old new (record c { last = true; result = Malformed l a })
+    → whole_malformed Off e bytes ≡ true
+is_malformed_input {new} {l} {a} c decoded decodes =
     let stops = decodes.call.stops in
-    let rest = remaining_sequences new (drop read src ++ []) in
-    ap any_malformed (all_done decoded decodes
+    let rest = remaining_sequences new (drop c.read c.src ++ []) in
+    ap any_malformed (all_done (record c { result = Malformed l a }) decoded decodes
     ∙ ap (λ ss. (decoded.done ++ ss) ++ rest) stops.then_next
     ∙ ap (λ ss. ss ++ rest) (sym (append_assoc decoded.done decodes.call.put (stops.next ∷ []))))
     ∙ any_of_last (decoded.done ++ decodes.call.put) rest stops.next stops.malformed
@@ -173,41 +180,32 @@ not_at_end coder.InputEmpty goes_on = absurd (goes_on refl)
 not_at_end coder.OutputFull goes_on = refl
 
 -- a call that is not at the end leaves a decoder open
-pub still_open : {old new : DecoderState} {src : List ℕ} {room : ℕ} {result : CoderResult}
-    {read : ℕ} {wrote : List ℕ}
-    {replaced : Bool}
+pub still_open : (result : CoderResult) {old new : DecoderState} {src : List ℕ} {room : ℕ}
+    {read : ℕ} {wrote : List ℕ} {replaced : Bool}
     → DecodesReplacing encode_utf8 old new src true room result read wrote replaced
-    → ¬ (result ≡ coder.InputEmpty)
-    → has_finished new ≡ false
-still_open {result} decodes goes_on = has_finished_by decodes ∙ not_at_end result goes_on
+    → ¬ (result ≡ coder.InputEmpty) → has_finished new ≡ false
+still_open result decodes goes_on = finishes result decodes ∙ not_at_end result goes_on
 
 -- and one that is leaves it finished
-pub now_finished : {old new : DecoderState} {src : List ℕ} {room : ℕ} {result : CoderResult}
-    {read : ℕ}
-    {wrote : List ℕ} {replaced : Bool}
+pub now_finished : (result : CoderResult) {old new : DecoderState} {src : List ℕ} {room : ℕ}
+    {read : ℕ} {wrote : List ℕ} {replaced : Bool}
     → DecodesReplacing encode_utf8 old new src true room result read wrote replaced
-    → result ≡ coder.InputEmpty
-    → has_finished new ≡ true
-now_finished decodes at_end = has_finished_by decodes
+    → result ≡ coder.InputEmpty → has_finished new ≡ true
+now_finished result decodes at_end = finishes result decodes
     ∙ ap (λ r. reaches_end true (decoder_result_of r)) at_end
 
 -- with enough room a call is never full
 pub never_full : {units_of : ℕ → List ℕ} {mode : DecodeErrorMode} (length_answered : Option ℕ)
-    (old new : DecoderState)
-    {src : List ℕ} {n room : ℕ} {result : DecoderResult} {read written : ℕ}
-    → IfSome length_answered (IsEnoughRoom units_of mode old n) → HasRoomFor length_answered room
-    → AreBytes src
-    → length src ≡ n
-    → MeetsDecodeNeed units_of mode (decoder_remainder old) (decoder_remainder new) src true room
-    result read written
-    → result ≡ OutputFull → ⊥
-never_full None old new enough has_room are_bytes count meets is_full = has_room
-never_full (Some answer) old new {src} enough has_room are_bytes count meets is_full =
-    let exceeds = meets.full.0 is_full in let more = exceeds.more in
-    enough src true are_bytes count (record {
+    (old : DecoderState) {src : List ℕ} {room : ℕ}
+    → IfSome length_answered (IsEnoughRoom units_of mode old (length src))
+    → HasRoomFor length_answered room → AreBytes src
+    → NeedExceeds units_of mode (decoder_remainder old) src true room → ⊥
+never_full None old enough has_room bytes exceeds = has_room
+never_full (Some answer) old {src} enough has_room bytes exceeds =
+    enough src true bytes refl (record {
       sequences = exceeds.sequences;
       determined = exceeds.determined;
-      more = omega (arith, has_room, more);
+      more = omega (arith, has_room, exceeds.more);
     })
 
 -- exactly the room for a length is room for it
@@ -316,23 +314,43 @@ strict_text {e} {bytes} {text} decoded finished =
     ∙ ap (λ t. if whole_malformed Off e bytes then None else Some t) (whole_text decoded finished)
 
 -- one more call
-module _ {e : Encoding} {bytes src : List ℕ} {old new : DecoderState} {before : List ℕ}
-    (decoded : HasDecoded Off e bytes src true old before false) {room read : ℕ} where
-  pub strict_end : (result : DecoderResult) {after : List ℕ}
+module _ {e : Encoding} {bytes : List ℕ} {old new : DecoderState} {before : List ℕ} where
+  pub strict_end : (result : DecoderResult) {src after : List ℕ} {room read : ℕ}
+      → HasDecoded Off e bytes src true old before false
       → DecodesChunk encode_utf8 (Fatal false) old new src true room result read
       (drop (length before) after) false
       → take (length before) after ≡ before → result ≡ InputEmpty
       → Some after ≡ utf_8_without_replacement e bytes
-  strict_end InputEmpty decodes keeps at_end =
-      strict_text (goes_on decoded decodes refl keeps (sym decodes.call.stops.only_put))
-      (has_finished_by decodes)
-  strict_end OutputFull decodes keeps at_end = cc
-  strict_end (Malformed l a) decodes keeps at_end = cc
+  strict_end InputEmpty {src} {after} {room} {read} decoded decodes keeps at_end =
+      let call : Call = record {
+        src = src;
+        last = true;
+        mode = Fatal false;
+        room = room;
+        result = InputEmpty;
+        read = read;
+        wrote = drop (length before) after;
+        replaced = false;
+      } in
+      strict_text (goes_on call decoded decodes keeps (sym decodes.call.stops.only_put))
+      (finished_by call decodes)
+  strict_end OutputFull decoded decodes keeps at_end = cc
+  strict_end (Malformed l a) decoded decodes keeps at_end = cc
 
-  pub strict_report : (result : DecoderResult) {l a : ℕ} {wrote : List ℕ}
+  pub strict_report : (result : DecoderResult) {l a : ℕ} {src wrote : List ℕ} {room read : ℕ}
+      → HasDecoded Off e bytes src true old before false
       → DecodesChunk encode_utf8 (Fatal false) old new src true room result read wrote false
       → result ≡ Malformed l a → None ≡ utf_8_without_replacement e bytes
-  strict_report InputEmpty decodes is_malformed_now = cc
-  strict_report OutputFull decodes is_malformed_now = cc
-  strict_report (Malformed l a) decodes is_malformed_now =
-      strict_none e bytes (is_malformed_input decoded decodes)
+  strict_report InputEmpty decoded decodes is_malformed_now = cc
+  strict_report OutputFull decoded decodes is_malformed_now = cc
+  strict_report (Malformed l a) {src} {wrote} {room} {read} decoded decodes is_malformed_now =
+      strict_none e bytes (is_malformed_input (record {
+        src = src;
+        last = true;
+        mode = Fatal false;
+        room = room;
+        result = Malformed l a;
+        read = read;
+        wrote = wrote;
+        replaced = false;
+      }) decoded decodes)

@@ -1,76 +1,39 @@
 -- The first bytes of the input: the last byte of a mark, and the states in between.
 use Rattle.std.proofs.Common.{◌≡◌, ℕ, ◌+◌, ◌<◌, ◌≤◌, Bool, true, false, if◌then◌else◌, List, [], ◌∷◌, ◌++◌, length}
 use Rattle.std.proofs.Common.{take, drop, get_or, refl, ap, sym, ◌∙◌, subst, inl, inr, eqb, eqb-true, append_assoc}
-use Rattle.std.proofs.Common.{append-nil, drop-cons}
+use Rattle.std.proofs.Common.{append-nil, drop-cons, Some, None}
 use Rattle.std.proofs.lemmas.Bool.{eqb-false, ne_eqb}
 use Rattle.std.proofs.lemmas.List.{take_more, drop_all}
 use Rattle.enc_decoder.proofs.FirstSequenceLemmas.{true_or_false}
 use Rattle.enc_stream.specs.declared.encoding.Encoding.{Encoding}
 use Rattle.enc_stream.specs.declared.life_cycle.LifeCycle.{LifeCycle}
-use Rattle.enc_stream.specs.declared.life_cycle.LifeCycle.TheVariants.{SeenUtf8Second, SeenUtf16BeFirst}
-use Rattle.enc_stream.specs.declared.life_cycle.LifeCycle.TheVariants.{SeenUtf16LeFirst}
 use Rattle.enc_stream.specs.declared.life_cycle.MarkByte.{MarkByte}
 use Rattle.enc_stream.specs.declared.life_cycle.MarkByte.TheVariants.{Ends, RulesOut}
-use Rattle.enc_stream.specs.Bom.{utf_8_mark, utf_16be_mark, utf_16le_mark}
+use Rattle.enc_stream.specs.Bom.{Mark}
 use Rattle.enc_stream.specs.LifeCycle.{phase_of, awaits_mark, mark_in, held_mark_bytes, mark_prefixes, life_at_prefix}
 use Rattle.enc_stream.specs.Sniffing.{ExtendsHeldMark, CompletesMark, ExcludesMarks, HasNoMark, IsMarkByte}
 
--- a byte that ends a mark, or else rules marks out
-ends_or_rules_out : (life : LifeCycle) (byte last : ℕ) (e : Encoding)
-    → CompletesMark life (last ∷ []) e
-    → (eqb last byte ≡ false → ExcludesMarks life byte)
-    → IsMarkByte life byte (if eqb byte last then Ends e else RulesOut)
-ends_or_rules_out life byte last e ends rules_out = elim (true_or_false (eqb byte last)) [
-  | inl is_last ↦ rw is_last (rw (eqb-true byte last is_last) ends)
-  | inr is_other ↦ rw is_other
-      (rules_out (ne_eqb last byte (λ same. eqb-false byte last is_other (sym same))))
-]
-
--- the last byte of each mark, for a state given by an equation
-pub mark_byte_after_ef_bb : (life : LifeCycle) (byte : ℕ) (what : MarkByte) → life ≡ SeenUtf8Second
-    → what ≡ (if eqb byte 0xBF then Ends utf_8_mark.encoding else RulesOut)
-    → IsMarkByte life byte what
-mark_byte_after_ef_bb life byte what l s =
-    rw (l, s) (ends_or_rules_out SeenUtf8Second byte 0xBF utf_8_mark.encoding
-    (record {
-      mark = utf_8_mark;
-      is_encoding = refl;
-      whole = refl;
-      found = λ y. refl;
-      no_front = λ y. refl;
-      awaits = refl;
-    })
-    (λ f. record { no_mark = λ y. rw f refl; no_front = λ y. refl }))
-
-pub mark_byte_after_fe : (life : LifeCycle) (byte : ℕ) (what : MarkByte) → life ≡ SeenUtf16BeFirst
-    → what ≡ (if eqb byte 0xFF then Ends utf_16be_mark.encoding else RulesOut)
-    → IsMarkByte life byte what
-mark_byte_after_fe life byte what l s =
-    rw (l, s) (ends_or_rules_out SeenUtf16BeFirst byte 0xFF utf_16be_mark.encoding
-    (record {
-      mark = utf_16be_mark;
-      is_encoding = refl;
-      whole = refl;
-      found = λ y. refl;
-      no_front = λ y. refl;
-      awaits = refl;
-    })
-    (λ f. record { no_mark = λ y. rw f refl; no_front = λ y. refl }))
-
-pub mark_byte_after_ff : (life : LifeCycle) (byte : ℕ) (what : MarkByte) → life ≡ SeenUtf16LeFirst
-    → what ≡ (if eqb byte 0xFE then Ends utf_16le_mark.encoding else RulesOut)
-    → IsMarkByte life byte what
-mark_byte_after_ff life byte what l s =
-    rw (l, s) (ends_or_rules_out SeenUtf16LeFirst byte 0xFE utf_16le_mark.encoding
-    (record {
-      mark = utf_16le_mark;
-      is_encoding = refl;
-      whole = refl;
-      found = λ y. refl;
-      no_front = λ y. refl;
-      awaits = refl;
-    })
-    (λ f. record { no_mark = λ y. rw f refl; no_front = λ y. refl }))
+-- A byte after these held ends a byte order mark if it is its last one, and else rules all out.
+pub mark_byte_after : (state : LifeCycle) (m : Mark) (last byte : ℕ)
+    → held_mark_bytes state ++ last ∷ [] ≡ m.bytes → awaits_mark (phase_of state) ≡ true
+    → ((y : List ℕ) → mark_in (phase_of state) (m.bytes ++ y) ≡ Some m)
+    → ((y : List ℕ) → life_at_prefix (mark_prefixes state) (m.bytes ++ y) ≡ None)
+    → (eqb last byte ≡ false → ExcludesMarks state byte)
+    → {life : LifeCycle} {what : MarkByte} → life ≡ state
+    → what ≡ (if eqb byte last then Ends m.encoding else RulesOut) → IsMarkByte life byte what
+mark_byte_after state m last byte whole awaits found no_front excludes {life} state_is what_is =
+    rw (state_is, what_is) (elim (true_or_false (eqb byte last)) [
+      | inl is_last ↦ rw is_last (rw (eqb-true byte last is_last) (record {
+          mark = m;
+          is_encoding = refl;
+          whole = whole;
+          found = found;
+          no_front = no_front;
+          awaits = awaits;
+        }))
+      | inr is_other ↦ rw is_other
+          (excludes (ne_eqb last byte (λ same. eqb-false byte last is_other (sym same))))
+    ])
 
 -- without a byte the state stays
 pub reaches_itself : (life : LifeCycle) → ExtendsHeldMark life life []

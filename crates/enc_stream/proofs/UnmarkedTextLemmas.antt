@@ -9,10 +9,6 @@ use Rattle.std.proofs.lemmas.List.{append-nil, length-append}
 use Rattle.std.proofs.Math.Seq.{take-append-add}
 use Rattle.enc_stream.specs.declared.encoding.Encoding.{Encoding}
 use Rattle.enc_stream.specs.declared.life_cycle.LifeCycle.{LifeCycle}
-use Rattle.enc_stream.specs.declared.life_cycle.LifeCycle.TheVariants.{AtStart, AtUtf8Start, AtUtf16BeStart}
-use Rattle.enc_stream.specs.declared.life_cycle.LifeCycle.TheVariants.{AtUtf16LeStart, SeenUtf8First, SeenUtf8Second}
-use Rattle.enc_stream.specs.declared.life_cycle.LifeCycle.TheVariants.{SeenUtf16BeFirst, SeenUtf16LeFirst}
-use Rattle.enc_stream.specs.declared.life_cycle.LifeCycle.TheVariants.{ConvertingWithPendingBb, Converting, Finished}
 use Rattle.enc_decoder.specs.Sequence.{Sequence}
 use Rattle.enc_decoder.specs.Segmentation.{Rule, sequences_of}
 use Rattle.enc_decoder.specs.CodecState.{CodecState, remainder_of}
@@ -26,114 +22,13 @@ use Rattle.enc_stream.specs.Sniffing.{HasNoMark}
 use Rattle.enc_decoder.specs.Converting.{ReadsHeldFirst}
 use Rattle.enc_stream.specs.Decoding.{has_ended, remaining_sequences, decoder_remainder, held_or_pending_bytes}
 use Rattle.enc_stream.specs.Decoding.{decoder_state_of, unread_bytes, HeldBytesMatchCodec}
-use Rattle.enc_decoder.proofs.ShiftedInputLemmas.{Carries, Reads}
-
--- The states.
-
-abbrev IsOpen : Phase → Type 0
-IsOpen (InFront looked_for) = Unit {0}
-IsOpen Within = Unit {0}
-IsOpen Ended = ⊥
-
-pub open_phase : (life : LifeCycle) → has_ended life ≡ false → IsOpen (phase_of life)
-open_phase AtStart h = tt
-open_phase AtUtf8Start h = tt
-open_phase AtUtf16BeStart h = tt
-open_phase AtUtf16LeStart h = tt
-open_phase SeenUtf8First h = tt
-open_phase SeenUtf8Second h = tt
-open_phase SeenUtf16BeFirst h = tt
-open_phase SeenUtf16LeFirst h = tt
-open_phase ConvertingWithPendingBb h = tt
-open_phase Converting h = tt
-open_phase Finished h = absurd (false≢true (sym h))
-
--- the bytes held are no whole mark
-pub held_unmarked : (life : LifeCycle) → mark_in (phase_of life) (held_mark_bytes life ++ []) ≡ None
-held_unmarked AtStart = refl
-held_unmarked AtUtf8Start = refl
-held_unmarked AtUtf16BeStart = refl
-held_unmarked AtUtf16LeStart = refl
-held_unmarked SeenUtf8First = refl
-held_unmarked SeenUtf8Second = refl
-held_unmarked SeenUtf16BeFirst = refl
-held_unmarked SeenUtf16LeFirst = refl
-held_unmarked ConvertingWithPendingBb = refl
-held_unmarked Converting = refl
-held_unmarked Finished = refl
-
--- bytes that make a whole mark of those held, and nothing more
-record CanEnd (life : LifeCycle) : Type 0 where
-  more : List ℕ
-  bytes : AreBytes more
-  mark : Mark
-  found : mark_in (phase_of life) (held_mark_bytes life ++ more) ≡ Some mark
-  nothing : drop (length mark.bytes) (held_mark_bytes life ++ more) ≡ []
-
-can_end : (life : LifeCycle) → awaits_mark (phase_of life) ≡ true → CanEnd life
-can_end AtStart h = record {
-  more = 0xFE ∷ 0xFF ∷ [];
-  bytes = (omega arith, (omega arith, tt));
-  mark = utf_16be_mark;
-  found = refl;
-  nothing = refl;
-}
-can_end AtUtf8Start h = record {
-  more = 0xEF ∷ 0xBB ∷ 0xBF ∷ [];
-  bytes = (omega arith, (omega arith, (omega arith, tt)));
-  mark = utf_8_mark;
-  found = refl;
-  nothing = refl;
-}
-can_end AtUtf16BeStart h = record {
-  more = 0xFE ∷ 0xFF ∷ [];
-  bytes = (omega arith, (omega arith, tt));
-  mark = utf_16be_mark;
-  found = refl;
-  nothing = refl;
-}
-can_end AtUtf16LeStart h = record {
-  more = 0xFF ∷ 0xFE ∷ [];
-  bytes = (omega arith, (omega arith, tt));
-  mark = utf_16le_mark;
-  found = refl;
-  nothing = refl;
-}
-can_end SeenUtf8First h = record {
-  more = 0xBB ∷ 0xBF ∷ [];
-  bytes = (omega arith, (omega arith, tt));
-  mark = utf_8_mark;
-  found = refl;
-  nothing = refl;
-}
-can_end SeenUtf8Second h = record {
-  more = 0xBF ∷ [];
-  bytes = (omega arith, tt);
-  mark = utf_8_mark;
-  found = refl;
-  nothing = refl;
-}
-can_end SeenUtf16BeFirst h = record {
-  more = 0xFF ∷ [];
-  bytes = (omega arith, tt);
-  mark = utf_16be_mark;
-  found = refl;
-  nothing = refl;
-}
-can_end SeenUtf16LeFirst h = record {
-  more = 0xFE ∷ [];
-  bytes = (omega arith, tt);
-  mark = utf_16le_mark;
-  found = refl;
-  nothing = refl;
-}
-can_end ConvertingWithPendingBb h = absurd (false≢true h)
-can_end Converting h = absurd (false≢true h)
-can_end Finished h = absurd (false≢true h)
-
-pub none_begins : (s : Sequence) (ss all : List Sequence) → all ≡ []
-    → AreFirstSequences (s ∷ ss) all → ⊥
-none_begins s ss all e b = let comes_first = b.1 in cc
+use Rattle.enc_stream.proofs.MarkFirstLemmas.{undetermined_in}
+use Rattle.enc_stream.proofs.LifeCycleLemmas.{IsOpen, open_phase, held_unmarked, held_are_bytes, held_are_few}
+use Rattle.enc_stream.proofs.LifeCycleLemmas.{MayBegin, may_begin}
+use Rattle.enc_decoder.specs.CallRecord.{Call}
+use Rattle.enc_decoder.proofs.StageLemmas.{start_stage}
+use Rattle.enc_decoder.proofs.InnerInputLemmas.{ShiftsInput, MatchesRead}
+use Rattle.enc_stream.proofs.PendingBytesLemmas.{pending_of_held}
 
 -- after a mark the sequences are those of its encoding
 pub marked_sequences : (p : Phase) (e : Encoding) (set : ℕ) (m : Mark) (x : List ℕ)
@@ -148,21 +43,25 @@ pub undetermined_in_front : (e : Encoding) (set : ℕ) (life : LifeCycle)
     → awaits_mark (phase_of life) ≡ true → (s : Sequence) (ss : List Sequence)
     → Determines (λ y. sequences_in (phase_of life) e set (held_mark_bytes life ++ y)) [] (s ∷ ss)
     → ⊥
-undetermined_in_front e set life h s ss d =
-    let end_allowed = can_end life h in
-    none_begins s ss _ (marked_sequences (phase_of life) e set end_allowed.mark
-    (held_mark_bytes life ++ end_allowed.more) end_allowed.found
-    ∙ ap (sequences_of (rule_of end_allowed.mark.encoding) 0) end_allowed.nothing
-    ∙ sequences_of-nil (rule_of end_allowed.mark.encoding) 0) (d end_allowed.more end_allowed.bytes)
+undetermined_in_front e set life awaits s ss = by_phase (phase_of life) (may_begin life awaits)
+  where
+    by_phase : (p : Phase) → MayBegin p (held_mark_bytes life)
+        → Determines (λ y. sequences_in p e set (held_mark_bytes life ++ y)) [] (s ∷ ss) → ⊥
+    by_phase (InFront looked_for) begins determines =
+        undetermined_in looked_for looked_for e (held_mark_bytes life) s ss begins.0 begins.1
+        determines
+    by_phase Within begins determines = absurd begins
+    by_phase Ended begins determines = absurd begins
 
 -- without a mark, the sequences are those of the rule
 pub unmarked_sequences : (p : Phase) (e : Encoding) (set : ℕ) (x : List ℕ)
     → IsOpen p → mark_in p x ≡ None → (awaits_mark p ≡ true → set ≡ 0)
     → sequences_in p e set x ≡ sequences_of (rule_of e) set x
-unmarked_sequences (InFront looked_for) e set x o n z =
-    ap (λ m. sequences_by_mark m e x) n ∙ ap (λ k. sequences_of (rule_of e) k x) (sym (z refl))
-unmarked_sequences Within e set x o n z = refl
-unmarked_sequences Ended e set x o n z = absurd o
+unmarked_sequences (InFront looked_for) e set x is_open none in_front =
+    ap (λ m. sequences_by_mark m e x) none
+    ∙ ap (λ k. sequences_of (rule_of e) k x) (sym (in_front refl))
+unmarked_sequences Within e set x is_open none in_front = refl
+unmarked_sequences Ended e set x is_open none in_front = absurd is_open
 
 none_unless_awaited : (p : Phase) (x : List ℕ) → (awaits_mark p ≡ true → mark_in p x ≡ None)
     → mark_in p x ≡ None
@@ -181,7 +80,7 @@ settled_soon (InFront looked_for) = omega arith
 settled_soon Within = omega arith
 settled_soon Ended = omega arith
 
-settled_if_awaited : (p : Phase) (n : ℕ) → settled_from p ≤ n → awaits_mark p ≡ true → 1 ≤ n
+pub settled_if_awaited : (p : Phase) (n : ℕ) → settled_from p ≤ n → awaits_mark p ≡ true → 1 ≤ n
 settled_if_awaited (InFront looked_for) n h a = h
 settled_if_awaited Within n h a = absurd (false≢true a)
 settled_if_awaited Ended n h a = absurd (false≢true a)
@@ -191,11 +90,6 @@ pub awaited_unless_settled : (p : Phase) (n : ℕ) → n < settled_from p → (n
 awaited_unless_settled (InFront looked_for) n h = (omega arith, refl)
 awaited_unless_settled Within n h = absurd (omega arith)
 awaited_unless_settled Ended n h = absurd (omega arith)
-
-pub pending_of_held : (held pending : List ℕ) → pending ≡ []
-    → held_or_pending_bytes held pending ≡ held
-pending_of_held [] pending e = e
-pending_of_held (b ∷ held) pending e = refl
 
 pub first_byte : (n : ℕ) (src y : List ℕ) → 1 ≤ n → n ≤ length src
     → (b : ℕ) × (z : List ℕ) × (x : List ℕ) × (src ≡ b ∷ z) × (take n src ++ y ≡ b ∷ x)
@@ -237,7 +131,7 @@ module _ {e : Encoding} {life : LifeCycle} {v : CodecState} {src : List ℕ} {la
       none_unless_awaited (phase_of life) (pending ++ y)
       (λ awaits. ap (λ x. mark_in (phase_of life) (x ++ y)) (pending_in_front awaits) ∙ h awaits)
 
-  unmarked_after : (n : ℕ) → (awaits_mark (phase_of life) ≡ true → 1 ≤ n) → n ≤ length src
+  pub unmarked_after : (n : ℕ) → (awaits_mark (phase_of life) ≡ true → 1 ≤ n) → n ≤ length src
       → (y : List ℕ)
       → mark_in (phase_of life) (pending ++ (take n src ++ y)) ≡ None
   unmarked_after n h i y = unmarked_by (take n src ++ y) (λ a.
@@ -269,54 +163,59 @@ module _ {e : Encoding} {life : LifeCycle} {v : CodecState} {src : List ℕ} {la
       ∙ ap (λ (r : Rule). sequences_of r v.set (pending ++ y)) text.same_rule
       ∙ ap (sequences_of v.rule v.set) (at_hand y)
 
-  pub carries : Carries (decoder_remainder (decoder_state_of e life v)) (remainder_of v) src
-      (held ++ src) last []
-      (length held) 0 (settled_from (phase_of life)) (settled_from (phase_of life))
-  carries = record {
-    len = let joined_length = length-append held src in omega arith;
+  -- a call of the codec over the bytes held and src lies so in that of the decoder over src
+  abbrev pub shifts : (c : Call)
+      → ShiftsInput (decoder_remainder (decoder_state_of e life v)) (remainder_of v)
+      (start_stage src last c.mode c.room) (record c { src = held ++ src; last = last })
+  shifts c = record {
+    held = length held;
+    from = settled_from (phase_of life);
+    sure = settled_from (phase_of life);
+    below = settled_from (phase_of life);
+    len = omega (arith, length-append held src);
     near = omega arith;
+    surely = omega arith;
     shift = omega arith;
-    plain = λ z l.
-        by_codec (src ++ z) (unmarked_all z l)
+    plain = λ z ends. by_codec (src ++ z) (unmarked_all z ends)
         ∙ ap (remainder_of v).sequences (sym (append_assoc held src z));
-    by_prefix = λ n h i y.
+    by_prefix = λ n settled within y _.
         let as_shifted : length held + n ≡ n + length held - 0 = omega arith in
-        by_codec (take n src ++ y) (unmarked_after n (settled_if_awaited (phase_of life) n h) i y)
+        by_codec (take n src ++ y)
+        (unmarked_after n (settled_if_awaited (phase_of life) n settled) within y)
         ∙ ap (remainder_of v).sequences (sym (append_assoc held (take n src) y))
         ∙ ap (λ x. (remainder_of v).sequences (x ++ y)) (sym (take-append-add held src n))
         ∙ ap (λ k. (remainder_of v).sequences (take k (held ++ src) ++ y)) as_shifted;
-    none_below = λ n h s ss d.
-        let awaited = awaited_unless_settled (phase_of life) n h in
-        undetermined_in_front e v.set life awaited.1 s ss (λ y b.
+    begun = λ n _ _ z _. (_, refl);
+    none_below = λ n below s ss determines.
+        let awaited = awaited_unless_settled (phase_of life) n below in
+        undetermined_in_front e v.set life awaited.1 s ss (λ y are_bytes.
         subst (λ x. AreFirstSequences (s ∷ ss) (sequences_in (phase_of life) e v.set (x ++ y)))
         (pending_in_front awaited.1)
         (subst (λ k. AreFirstSequences (s ∷ ss)
         (remaining_sequences (decoder_state_of e life v) (take k src ++ y)))
-        awaited.0
-        (d y b)));
+        awaited.0 (determines y are_bytes)));
   }
 
-  pub reads_on : {left read : ℕ} → ReadsHeldFirst held src left read
-      → Reads src (length held) 0 (settled_from (phase_of life)) (settled_from (phase_of life))
-      (length held - left + read) read
-  reads_on {left} {read} held_first = record {
+  pub reads_on : {left read : ℕ} (c : Call) → ReadsHeldFirst held src left read
+      → c.read ≡ length held - left + read → MatchesRead (shifts c) read
+  reads_on {left} {read} c held_first total = record {
     within = held_first.within;
-    there = let few_left = held_first.most in omega arith;
+    there = omega (arith, total, held_first.most);
     back = omega arith;
-    soon = let by_one = settled_soon (phase_of life) in omega arith;
+    soon = omega (arith, settled_soon (phase_of life));
     exact = elim held_first.first [
-      | inl f ↦ by_number read held_first.within f
-      | inr f ↦ inl f
+      | inl none_left ↦ by_number read (omega (arith, total))
+      | inr none_read ↦ inl none_read
     ];
-    none = λ f. inl (omega arith);
+    none = λ none_read. inl (omega (arith, total, none_read));
   }
     where
-      by_number : (n : ℕ) → n ≤ length src → left ≡ 0
+      by_number : (n : ℕ) → length held + n ≡ c.read
           → (n ≡ 0) ⊎ ((n < settled_from (phase_of life))
-          ⊎ ((settled_from (phase_of life) ≤ n) × (n + length held - 0 ≡ length held - left + n)))
-      by_number zero h f = inl refl
-      by_number (suc n) h f = let by_one = settled_soon (phase_of life) in
-          inr (inr (omega arith, omega arith))
+          ⊎ ((settled_from (phase_of life) ≤ n) × (n + length held - 0 ≡ c.read)))
+      by_number zero all_read = inl refl
+      by_number (suc n) all_read =
+          inr (inr (omega (arith, settled_soon (phase_of life)), omega (arith, all_read)))
 
   -- the bytes at hand that are read begin with no mark
   pub unmarked_read : (n : ℕ) → n ≤ length src
@@ -325,37 +224,3 @@ module _ {e : Encoding} {life : LifeCycle} {v : CodecState} {src : List ℕ} {la
   unmarked_read (suc n) h =
       ap (λ x. mark_in (phase_of life) (pending ++ x)) (sym (append-nil (take (suc n) src)))
       ∙ unmarked_after (suc n) (λ _. omega arith) h []
-
--- the bytes held
-
-pub held_are_bytes : (life : LifeCycle) → AreBytes (held_mark_bytes life)
-held_are_bytes SeenUtf8First = (omega arith, tt)
-held_are_bytes SeenUtf8Second = (omega arith, (omega arith, tt))
-held_are_bytes SeenUtf16BeFirst = (omega arith, tt)
-held_are_bytes SeenUtf16LeFirst = (omega arith, tt)
-held_are_bytes ConvertingWithPendingBb = (omega arith, tt)
-held_are_bytes _ = tt
-
-held_are_few : (life : LifeCycle) → length (held_mark_bytes life) ≤ 2
-held_are_few SeenUtf8First = omega arith
-held_are_few SeenUtf8Second = omega arith
-held_are_few SeenUtf16BeFirst = omega arith
-held_are_few SeenUtf16LeFirst = omega arith
-held_are_few ConvertingWithPendingBb = omega arith
-held_are_few _ = omega arith
-
-unread_are_bytes : (life : LifeCycle) (none : Bool)
-    → AreBytes (if none then held_mark_bytes life else [])
-unread_are_bytes life true = held_are_bytes life
-unread_are_bytes life false = tt
-
-unread_are_few : (life : LifeCycle) (none : Bool)
-    → length (if none then held_mark_bytes life else []) ≤ 2
-unread_are_few life true = held_are_few life
-unread_are_few life false = omega arith
-
-pub bytes_unread : (life : LifeCycle) (n : ℕ) → AreBytes (unread_bytes life n)
-bytes_unread life n = unread_are_bytes life (eqb n 0)
-
-pub few_unread : (life : LifeCycle) (n : ℕ) → length (unread_bytes life n) ≤ 2
-few_unread life n = unread_are_few life (eqb n 0)

@@ -30,9 +30,10 @@ use Rattle.enc_stream.specs.LifeCycle.{encoding_of_mark_or, sequences_in, mark_p
 use Rattle.enc_stream.specs.LifeCycle.{life_after_bytes, life_after_sequences, life_after}
 use Rattle.enc_stream.specs.Decoding.{DecoderState, has_finished, has_ended, removal_start, fresh_decoder}
 use Rattle.enc_stream.specs.Decoding.{remaining_sequences, whole_encoding, DecodesChunk}
-use Rattle.enc_stream.proofs.MarkFirstLemmas.{start_fits}
-use Rattle.enc_stream.proofs.WholeInputLemmas.{joined_by, found_is}
-use Rattle.enc_stream.proofs.EndOfInputLemmas.{has_finished_by}
+use Rattle.enc_stream.proofs.FoundMarkLemmas.{start_fits, found_is}
+use Rattle.enc_stream.proofs.WholeInputLemmas.{joined_by}
+use Rattle.enc_decoder.specs.CallRecord.{Call}
+use Rattle.enc_stream.proofs.DecoderCallLemmas.{finished_by}
 use Rattle.enc_stream.proofs.DecoderProgressLemmas.{ends_read}
 
 -- where a sequence is done, no mark may come any more
@@ -268,9 +269,18 @@ module _ (units_of : ℕ → List ℕ) (mode : DecodeErrorMode) (old new : Decod
   goes_to_end : reaches_end last result ≡ true
       → encoding_ahead new rest ≡ encoding_ahead old (src ++ y)
   goes_to_end h =
-      let finished = has_finished_by decodes ∙ h in
-      let ends = ends_read units_of mode old new src last room result read wrote replaced decodes
-      finished in
+      let call : Call = record {
+        src = src;
+        last = last;
+        mode = mode;
+        room = room;
+        result = result;
+        read = read;
+        wrote = wrote;
+        replaced = replaced;
+      } in
+      let finished = finished_by call decodes ∙ h in
+      let ends = ends_read call decodes finished in
       let none_unread : rest ≡ [] = ap (λ z. drop read src ++ z) (none ends.0)
       ∙ append-nil (drop read src)
       ∙ drop_of_length-le src (let all_read = ends.1 in omega arith) in

@@ -15,29 +15,7 @@ use Rattle.enc_stream.specs.Bom.{Mark, find_mark, marks_looked_for, sequences_by
 use Rattle.enc_stream.specs.LifeCycle.{mark_bytes, encoding_of_mark_or}
 use Rattle.enc_stream.specs.MarkLaws.{bytes_after_mark}
 use Rattle.enc_stream.specs.Decoding.{whole_sequences}
-
--- bytes that p begins
-start_is : (p x : List ℕ) → starts_with nat_eq x p ≡ true → p ++ drop (length p) x ≡ x
-start_is [] x starts = refl
-start_is (a ∷ p) [] starts = absurd (false≢true starts)
-start_is (a ∷ p) (b ∷ x) starts = elim (true_or_false (eqb a b)) [
-  | inl same_byte ↦ ap (λ z. a ∷ z) (start_is p x (rw same_byte at starts))
-      ∙ ap (λ c. c ∷ x) (eqb-true a b same_byte)
-  | inr f ↦ absurd (false≢true (rw f at starts))
-]
-
-pub found_is : (looked_for : List Mark) (x : List ℕ) (m : Mark) → find_mark looked_for x ≡ Some m
-    → m.bytes ++ drop (length m.bytes) x ≡ x
-found_is [] x m e = absurd (let none : ⊥ = cc in none)
-found_is (k ∷ others) x m e = elim (true_or_false (starts_with nat_eq x k.bytes)) [
-  | inl starts ↦
-      let found_first : (if starts_with nat_eq x k.bytes then Some k else find_mark others x)
-      ≡ Some k =
-      ap (λ t. if t then Some k else find_mark others x) starts in
-      let same : k ≡ m = cc in
-      ap (λ (l : Mark). l.bytes ++ drop (length l.bytes) x) (sym same) ∙ start_is k.bytes x starts
-  | inr f ↦ found_is others x m (sym (ap (λ t. if t then Some k else find_mark others x) f) ∙ e)
-]
+use Rattle.enc_stream.proofs.FoundMarkLemmas.{found_is}
 
 pub joined_by : (found : Option Mark) (e : Encoding) (x : List ℕ)
     → ((m : Mark) → found ≡ Some m → m.bytes ++ drop (length m.bytes) x ≡ x)

@@ -31,7 +31,7 @@ use Rattle.encoding_rs.specs.Run.{faults_from, whole_start, whole_faults, Decode
 use Rattle.encoding_rs.specs.Run.{reported_faults_from, all_report_malformed, HasRunDecoding}
 use Rattle.enc_units.proofs.UnitsLemmas.{utf_8_determines, utf_16_determines, utf_16_read_back}
 use Rattle.enc_units.proofs.Utf8CharsLemmas.{their_units}
-use Rattle.enc_decoder.proofs.SuccessiveCallLemmas.{first_of}
+use Rattle.enc_decoder.proofs.InnerInputLemmas.{sequence_at_end}
 use Rattle.enc_decoder.proofs.SequenceLemmas.{sequence_bytes-append, sequence_bytes-one, units-append, units-one}
 use Rattle.enc_decoder.proofs.SequenceLemmas.{any_malformed-append, any_malformed-one, or_false}
 use Rattle.enc_stream.proofs.EndOfInputLemmas.{first_open, others_open, fresh_sequences, none_left}
@@ -350,7 +350,7 @@ module _ (bytes : List ℕ) (read : ℕ) (inside : read ≤ length bytes) {made 
         pair_is x y l k f g = ap (λ z. (z, l) ∷ []) f ∙ ap (λ z. (y, z) ∷ []) g
 
         some : (x : Sequence) × (rest : List Sequence) × (decodes.call.done ≡ x ∷ rest)
-        some = let first = first_of decodes.call.put stops.next in
+        some = let first = sequence_at_end decodes.call.put stops.next in
             (first.0, first.1, stops.then_next ∙ first.2)
 
     none_put : is_replacement_mode (decode_error_mode made.replace) ≡ false

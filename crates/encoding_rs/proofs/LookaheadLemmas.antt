@@ -22,7 +22,8 @@ use Rattle.enc_stream.specs.Decoding.{whole_sequences}
 use Rattle.enc_stream.specs.MarkLaws.{MayBeginMark, bytes_after_mark}
 use Rattle.encoding_rs.specs.Lookahead.{MayLook}
 use Rattle.enc_stream.proofs.EncodingLemmas.{lookahead_of}
-use Rattle.enc_stream.proofs.MarkFirstLemmas.{found_fits, undetermined, by_rule, mark_is_decided}
+use Rattle.enc_stream.proofs.FoundMarkLemmas.{found_fits}
+use Rattle.enc_stream.proofs.MarkFirstLemmas.{undetermined, by_rule, mark_is_decided}
 
 -- by the kind of the sequence
 

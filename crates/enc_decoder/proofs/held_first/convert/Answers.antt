@@ -1,4 +1,4 @@
-use Rattle.std.proofs.Common.{◌≡◌, false, inl, inr, ◌&&◌, rules}
+use Rattle.std.proofs.Common.{◌≡◌, refl, false, inl, inr, ◌&&◌, rules}
 use Rattle.enc_units.specs.declared.decoder_result.DecoderResult.TheVariants.{InputEmpty}
 use Rattle.enc_decoder.specs.CodecState.{remainder_of}
 use Rattle.enc_decoder.specs.Call.{DecoderCallInto}
@@ -30,7 +30,7 @@ returns-then-alone-ne-clause-call g c =
       | inr some ↦
           let stopped : first.result ≡ InputEmpty → ⊥ = search rules in
           stops_in_held _ (bytes_of_slice _ c.type_inv.held) (bytes_of_slice _ c.type_inv.src)
-          stopped (rw some at called)
+          stopped refl (rw some at called)
     ]
 
 pub returns-clause-call : goal.returns-clause-call

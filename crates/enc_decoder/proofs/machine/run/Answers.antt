@@ -1,107 +1,100 @@
-use Rattle.std.proofs.Common.{refl, ◌∙◌, arith}
+use Rattle.std.proofs.Common.{refl, ap, ◌∙◌, arith, length}
+use Rattle.enc_decoder.specs.CodecState.{CodecState}
+use Rattle.enc_decoder.proofs.ByteLemmas.{bytes_of_slice}
 use Rattle.enc_decoder.proofs.NextEventLemmas.{holds_rule}
-use Rattle.enc_decoder.proofs.MachineLemmas.{begin, stays, holds, stops_full, puts_with, puts_before, reports_with}
+use Rattle.enc_decoder.proofs.OutputStageLemmas.{start}
+use Rattle.enc_decoder.proofs.TakenRunLemmas.{past_run}
+use Rattle.enc_decoder.proofs.EventLeavesLemmas.{leads_with, leads_before}
+use Rattle.enc_decoder.proofs.MachineLemmas.{stays, holds, stops_full, puts, reports_with}
 use Rattle.enc_decoder.proofs.MachineLemmas.{reports_before}
-use Rattle.enc_decoder.proofs.TakingLemmas.{ahead, fewer_with, fewer_before}
+use Rattle.enc_decoder.proofs.TakingLemmas.{fewer_with, fewer_before}
 use Rattle.enc_decoder.proofs.NeedLemmas.{meets_into}
 use Rattle.enc_decoder.proofs.machine.run.Goals as goal
 use Rattle.enc_decoder.proofs.machine.run.Goals.{then-shown, else-shown}
 
 pub loop-state-init : goal.loop-state-init
-loop-state-init g c = record { writing = begin _; rule = refl }
+loop-state-init g c =
+    record { progress = start (bytes_of_slice _ c.type_inv.src); rule = refl }
 
 pub returns-in-NeedsInput-clause-call : goal.returns-in-NeedsInput-clause-call
 returns-in-NeedsInput-clause-call g c =
-    let run_taken = ahead _ c.loop-state.invariant.writing c.split_at.ensures.back
-    c.take_run-taken.ensures
-    c.loop-state.invariant.rule in
-    stays g.C.ByteCodec.state c.take_run-taken.result.0 run_taken.writing run_taken.rule
-    c.in-NeedsInput.ensures
+    let run = rw c.split_at.ensures.back at c.take_run-taken.ensures in
+    let progress = past_run c.loop-state.invariant.progress.reaches run.run run.none_malformed in
+    stays g.C.ByteCodec.state c.take_run-taken.result.0 progress.reaches c.in-NeedsInput.ensures
 
 pub loop-state-preserved-in-HoldsByte : goal.loop-state-preserved-in-HoldsByte
 loop-state-preserved-in-HoldsByte g c =
-    let run_taken = ahead _ c.loop-state.invariant.writing c.split_at.ensures.back
-    c.take_run-taken.ensures
-    c.loop-state.invariant.rule in
+    let run = rw c.split_at.ensures.back at c.take_run-taken.ensures in
+    let progress = past_run c.loop-state.invariant.progress.reaches run.run run.none_malformed in
     record {
-      writing = holds g.C.ByteCodec.state c.take_run-taken.result.0 run_taken.writing run_taken.rule
-          _
+      progress = holds g.C.ByteCodec.state c.take_run-taken.result.0 progress.reaches
           c.in-HoldsByte.ensures;
-      rule = holds_rule _ _ _ c.in-HoldsByte.ensures.1.0 ∙ run_taken.rule;
+      rule = holds_rule _ _ _ c.in-HoldsByte.ensures.1.0
+          ∙ ap (λ (s : CodecState). s.rule) run.run.next_state ∙ c.loop-state.invariant.rule;
     }
 
 pub returns-then-is_reported-clause-call : goal.returns-then-is_reported-clause-call
 returns-then-is_reported-clause-call g c =
-    let run_taken = ahead _ c.loop-state.invariant.writing c.split_at.ensures.back
-    c.take_run-taken.ensures
-    c.loop-state.invariant.rule in
+    let run = rw c.split_at.ensures.back at c.take_run-taken.ensures in
+    let progress = past_run c.loop-state.invariant.progress.reaches run.run run.none_malformed in
     let malformed = c.is_reported.ensures.malformed c.if-is_reported.true in
     let room = c.is_reported.ensures.room c.if-is_reported.true in
     elim c.if-shown.branch [
       | then-shown shown ↦ rw shown.end-is
-          (reports_with g.C.ByteCodec.state c.take_run-taken.result.0 run_taken.writing
-          run_taken.rule
-          c.in-Emits.ensures malformed shown.if-shown.true c.held.ensures room)
+          (reports_with g.C.ByteCodec.state c.take_run-taken.result.0 progress.reaches
+          c.in-Emits.ensures refl malformed c.held.ensures room shown.if-shown.true)
       | else-shown shown ↦ rw shown.end-is
-          (reports_before g.C.ByteCodec.state c.take_run-taken.result.0 run_taken.writing
-          run_taken.rule
-          c.in-Emits.ensures malformed shown.if-shown.false c.held.ensures room)
+          (reports_before g.C.ByteCodec.state c.take_run-taken.result.0 progress.reaches
+          c.in-Emits.ensures refl malformed c.held.ensures room shown.if-shown.false)
     ]
 
 pub returns-then-not-put_out-clause-call : goal.returns-then-not-put_out-clause-call
 returns-then-not-put_out-clause-call g c =
-    let run_taken = ahead _ c.loop-state.invariant.writing c.split_at.ensures.back
-    c.take_run-taken.ensures
-    c.loop-state.invariant.rule in
-    stops_full g.C.ByteCodec.state c.take_run-taken.result.0 run_taken.writing run_taken.rule
-    c.in-Emits.ensures (c.put_out.ensures.unchanged c.if-not-put_out.true)
+    let run = rw c.split_at.ensures.back at c.take_run-taken.ensures in
+    let progress = past_run c.loop-state.invariant.progress.reaches run.run run.none_malformed in
+    stops_full g.C.ByteCodec.state c.take_run-taken.result.0 progress.reaches c.in-Emits.ensures
+    (c.put_out.ensures.unchanged c.if-not-put_out.true)
     (c.is_reported.ensures.asked c.if-is_reported.false)
     (c.is_reported.ensures.full c.if-is_reported.false)
     (c.put_out.ensures.full c.if-not-put_out.true)
 
 pub loop-state-preserved : goal.loop-state-preserved
 loop-state-preserved g c =
-    let run_taken = ahead _ c.loop-state.invariant.writing c.split_at.ensures.back
-    c.take_run-taken.ensures
-    c.loop-state.invariant.rule in
+    let run = rw c.split_at.ensures.back at c.take_run-taken.ensures in
+    let progress = past_run c.loop-state.invariant.progress.reaches run.run run.none_malformed in
     let valid = c.put_out.ensures.valid c.if-not-put_out.false in
     let fits = c.put_out.ensures.fits c.if-not-put_out.false in
     let scalars = c.put_out.ensures.scalars c.if-not-put_out.false in
     let written = c.put_out.ensures.written c.if-not-put_out.false in
     record {
-      writing = elim c.if-shown.branch [
+      progress = elim c.if-shown.branch [
         | then-shown shown ↦ rw shown.end-is
-            (puts_with g.C.ByteCodec.state c.take_run-taken.result.0 run_taken.writing
-            run_taken.rule
-            c.in-Emits.ensures valid shown.if-shown.true scalars fits written)
+            (puts g.C.ByteCodec.state c.take_run-taken.result.0 progress.reaches c.in-Emits.ensures
+            (leads_with _ _ _ c.in-Emits.ensures shown.if-shown.true) refl valid scalars fits
+            written)
         | else-shown shown ↦ rw shown.end-is
-            (puts_before g.C.ByteCodec.state c.take_run-taken.result.0 run_taken.writing
-            run_taken.rule
-            c.in-Emits.ensures valid shown.if-shown.false scalars fits written)
+            (puts g.C.ByteCodec.state c.take_run-taken.result.0 progress.reaches c.in-Emits.ensures
+            (leads_before _ _ _ c.in-Emits.ensures shown.if-shown.false) (omega arith) valid scalars
+            fits written)
       ];
-      rule = c.in-Emits.ensures.0.same_rule ∙ run_taken.rule;
+      rule = c.in-Emits.ensures.0.same_rule
+          ∙ ap (λ (s : CodecState). s.rule) run.run.next_state ∙ c.loop-state.invariant.rule;
     }
 
 pub loop-state-smaller : goal.loop-state-smaller
 loop-state-smaller g c =
-    let run_taken = ahead _ c.loop-state.invariant.writing c.split_at.ensures.back
-    c.take_run-taken.ensures
-    c.loop-state.invariant.rule in
+    let run = rw c.split_at.ensures.back at c.take_run-taken.ensures in
+    let progress = past_run c.loop-state.invariant.progress.reaches run.run run.none_malformed in
+    let same_pending = ap (λ (s : CodecState). length s.pending) run.run.next_state in
+    let within = progress.reaches.leaves.within in
     elim c.if-shown.branch [
       | then-shown shown ↦
           let no_more_pending = fewer_with _ c.in-Emits.ensures.0 shown.if-shown.true in
           let byte_follows = (c.in-Emits.ensures.1 shown.if-shown.true).0 in
-          omega (
-            arith,
-            no_more_pending,
-            byte_follows,
-            run_taken.pending,
-            run_taken.within,
-            shown.end-is,
-          )
+          omega (arith, no_more_pending, byte_follows, same_pending, within, shown.end-is)
       | else-shown shown ↦
           let fewer_pending = fewer_before _ c.in-Emits.ensures.0 shown.if-shown.false in
-          omega (arith, fewer_pending, run_taken.pending, run_taken.within, shown.end-is)
+          omega (arith, fewer_pending, same_pending, within, shown.end-is)
     ]
 
 -- what a call needs, by what it does

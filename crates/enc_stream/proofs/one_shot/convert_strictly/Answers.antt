@@ -21,9 +21,9 @@ returns-in_err-text-clause-memory c = λ memory.
 
 pub unreachable-requires : goal.unreachable-requires
 unreachable-requires c =
-    never_full _ _ _ c.max_utf8_buffer_length_without_replacement-length.ensures.enough
-    (has_room _ _ c.in_ok-text.ensures.room) (bytes_of_slice _ c.type_inv.bytes) refl
-    c.decode_to_string_without_replacement-stop.ensures.call.need c.in-OutputFull.is
+    never_full _ _ c.max_utf8_buffer_length_without_replacement-length.ensures.enough
+    (has_room _ _ c.in_ok-text.ensures.room) (bytes_of_slice _ c.type_inv.bytes)
+    (c.decode_to_string_without_replacement-stop.ensures.call.need.full.0 c.in-OutputFull.is)
 
 pub returns-in-InputEmpty-clause-text : goal.returns-in-InputEmpty-clause-text
 returns-in-InputEmpty-clause-text c =
@@ -33,7 +33,7 @@ returns-in-InputEmpty-clause-text c =
     rw (c.in_ok-text.ensures.bytes, c.start-decoder.ensures)
     (none_decoded Off c.args.encoding c.args.bytes.now) in
     let decoded = c.decode_to_string_without_replacement-stop.ensures in
-    strict_end none_so_far _ decoded.call.decodes decoded.appended c.in-InputEmpty.is
+    strict_end _ none_so_far decoded.call.decodes decoded.appended c.in-InputEmpty.is
 
 pub returns-in-Malformed-clause-text : goal.returns-in-Malformed-clause-text
 returns-in-Malformed-clause-text c =
@@ -42,5 +42,5 @@ returns-in-Malformed-clause-text c =
     (string_bytes c.in_ok-text.text) false =
     rw (c.in_ok-text.ensures.bytes, c.start-decoder.ensures)
     (none_decoded Off c.args.encoding c.args.bytes.now) in
-    strict_report none_so_far _ c.decode_to_string_without_replacement-stop.ensures.call.decodes
+    strict_report _ none_so_far c.decode_to_string_without_replacement-stop.ensures.call.decodes
     c.in-Malformed.is

@@ -9,8 +9,8 @@ use Rattle.enc_decoder.specs.Remainder.{AreBytes}
 use Rattle.enc_decoder.proofs.ByteLemmas.{bytes_of_slice}
 use Rattle.enc_stream.specs.declared.lengths.Query.TheVariants.{Utf8Reporting}
 use Rattle.enc_stream.specs.Lengths.{max_length}
-use Rattle.enc_stream.proofs.EndOfInputLemmas.{puts_all, whole_text, whole_flag}
-use Rattle.enc_stream.proofs.EnoughLemmas.{are_bytes_drop}
+use Rattle.enc_stream.proofs.EndOfInputLemmas.{whole_text, whole_flag}
+use Rattle.enc_decoder.proofs.ByteLemmas.{bytes-drop}
 use Rattle.enc_stream.proofs.OneShotDecodeLemmas.{nothing, none_whole, first_call, next_call, still_open, now_finished}
 use Rattle.enc_stream.proofs.OneShotDecodeLemmas.{never_full, too_long_after, asks_for_memory, there_is_a_length}
 use Rattle.enc_stream.proofs.one_shot.convert_whole.Goals as goal
@@ -46,23 +46,23 @@ returns-then-eq-clause-text c =
     let decodes = c.decode_to_string-stop.ensures.call.decodes in
     let at_end : c.decode_to_string-stop.result.0 ≡ InputEmpty = search rules in
     let decoded =
-    first_call c.start-decoder.ensures c.in_ok-text.ensures.bytes decodes
-    c.decode_to_string-stop.ensures.appended (puts_all _ decodes) in
-    whole_text decoded (now_finished decodes at_end)
+    first_call _ c.start-decoder.ensures c.in_ok-text.ensures.bytes decodes
+    c.decode_to_string-stop.ensures.appended in
+    whole_text decoded (now_finished _ decodes at_end)
 
 pub returns-then-eq-clause-flag : goal.returns-then-eq-clause-flag
 returns-then-eq-clause-flag c =
     let decodes = c.decode_to_string-stop.ensures.call.decodes in
     let at_end : c.decode_to_string-stop.result.0 ≡ InputEmpty = search rules in
     let decoded =
-    first_call c.start-decoder.ensures c.in_ok-text.ensures.bytes decodes
-    c.decode_to_string-stop.ensures.appended (puts_all _ decodes) in
-    whole_flag decoded (now_finished decodes at_end)
+    first_call _ c.start-decoder.ensures c.in_ok-text.ensures.bytes decodes
+    c.decode_to_string-stop.ensures.appended in
+    whole_flag decoded (now_finished _ decodes at_end)
 
 pub max_utf8_buffer_length-length-requires : goal.max_utf8_buffer_length-length-requires
 max_utf8_buffer_length-length-requires c =
     let goes_on : ¬ (c.decode_to_string-stop.result.0 ≡ InputEmpty) = search rules in
-    still_open c.decode_to_string-stop.ensures.call.decodes goes_on
+    still_open _ c.decode_to_string-stop.ensures.call.decodes goes_on
 
 pub returns-in_err-make_room-clause-too_long : goal.returns-in_err-make_room-clause-too_long
 returns-in_err-make_room-clause-too_long c =
@@ -84,36 +84,37 @@ returns-in_err-make_room-clause-memory c = λ memory.
 pub decode_to_string-requires : goal.decode_to_string-requires
 decode_to_string-requires c =
     let goes_on : ¬ (c.decode_to_string-stop.result.0 ≡ InputEmpty) = search rules in
-    still_open c.decode_to_string-stop.ensures.call.decodes goes_on
+    still_open _ c.decode_to_string-stop.ensures.call.decodes goes_on
 
 pub unreachable-requires : goal.unreachable-requires
 unreachable-requires c =
     let are_bytes : AreBytes c.split_at.result.1.now =
-    rw c.split_at.ensures.back (are_bytes_drop _ _ (bytes_of_slice _ c.type_inv.bytes)) in
-    never_full _ _ _ c.max_utf8_buffer_length-length.ensures.enough
-    c.in_ok-make_room.ensures.enough are_bytes refl
-    c.decode_to_string.ensures.call.need (ap decoder_result_of c.in-OutputFull-default-default.is-0)
+    rw c.split_at.ensures.back (bytes-drop _ _ (bytes_of_slice _ c.type_inv.bytes)) in
+    never_full _ _ c.max_utf8_buffer_length-length.ensures.enough
+    c.in_ok-make_room.ensures.enough are_bytes
+    (c.decode_to_string.ensures.call.need.full.0
+    (ap decoder_result_of c.in-OutputFull-default-default.is-0))
 
 pub returns-clause-text : goal.returns-clause-text
 returns-clause-text c =
     let decodes = c.decode_to_string-stop.ensures.call.decodes in
     let first =
-    first_call c.start-decoder.ensures c.in_ok-text.ensures.bytes decodes
-    c.decode_to_string-stop.ensures.appended (puts_all _ decodes) in
+    first_call _ c.start-decoder.ensures c.in_ok-text.ensures.bytes decodes
+    c.decode_to_string-stop.ensures.appended in
     let decodes_rest = c.decode_to_string.ensures.call.decodes in
     let both =
-    next_call first c.split_at.ensures.back c.in_ok-make_room.ensures.bytes decodes_rest
-    c.decode_to_string.ensures.appended (puts_all _ decodes_rest) in
-    whole_text both (now_finished decodes_rest c.in-InputEmpty-default-default.is-0)
+    next_call _ first c.split_at.ensures.back c.in_ok-make_room.ensures.bytes decodes_rest
+    c.decode_to_string.ensures.appended in
+    whole_text both (now_finished _ decodes_rest c.in-InputEmpty-default-default.is-0)
 
 pub returns-clause-flag : goal.returns-clause-flag
 returns-clause-flag c =
     let decodes = c.decode_to_string-stop.ensures.call.decodes in
     let first =
-    first_call c.start-decoder.ensures c.in_ok-text.ensures.bytes decodes
-    c.decode_to_string-stop.ensures.appended (puts_all _ decodes) in
+    first_call _ c.start-decoder.ensures c.in_ok-text.ensures.bytes decodes
+    c.decode_to_string-stop.ensures.appended in
     let decodes_rest = c.decode_to_string.ensures.call.decodes in
     let both =
-    next_call first c.split_at.ensures.back c.in_ok-make_room.ensures.bytes decodes_rest
-    c.decode_to_string.ensures.appended (puts_all _ decodes_rest) in
-    whole_flag both (now_finished decodes_rest c.in-InputEmpty-default-default.is-0)
+    next_call _ first c.split_at.ensures.back c.in_ok-make_room.ensures.bytes decodes_rest
+    c.decode_to_string.ensures.appended in
+    whole_flag both (now_finished _ decodes_rest c.in-InputEmpty-default-default.is-0)

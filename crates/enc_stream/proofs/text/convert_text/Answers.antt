@@ -1,7 +1,8 @@
 use Rattle.std.proofs.Common.{◌≡◌, ◌+◌, sym, ◌∙◌, ap, arith, length}
 use Rattle.enc_decoder.proofs.ByteLemmas.{bytes_of_slice}
-use Rattle.enc_stream.proofs.HeldMarkLemmas.{ends, stays, goes_on, stays_bb, leaves_bb, holds_bb, both_equal}
+use Rattle.enc_stream.proofs.HeldMarkLemmas.{ends, stays, goes_on, stays_bb, both_equal}
 use Rattle.enc_stream.proofs.HeldMarkLemmas.{not_both_equal, all_equal, not_all_equal}
+use Rattle.enc_stream.proofs.PendingBbLemmas.{leaves_bb, holds_bb}
 use Rattle.enc_stream.proofs.text.convert_text.Goals as goal
 
 pub returns-then-reaches_end-clause-call : goal.returns-then-reaches_end-clause-call

@@ -13,43 +13,12 @@ use Rattle.enc_stream.specs.declared.life_cycle.LifeCycle.TheVariants.{Convertin
 use Rattle.enc_stream.specs.LifeCycle.{life_at_prefix, mark_prefixes}
 use Rattle.enc_stream.specs.Decoding.{DecoderState, HasFormulasOf, LooksForOwnMark}
 use Rattle.enc_stream.specs.Encodings.{rule_of}
-use Rattle.enc_stream.proofs.HeldMarkLemmas.{shows_held}
+use Rattle.enc_stream.proofs.PendingBytesLemmas.{shows_held}
 use Rattle.enc_stream.proofs.OutputFullLemmas.{converts_into}
-use Rattle.enc_stream.proofs.AfterMarkLemmas.{all_held, awaiting_goes_on, after_a_mark, after_text}
+use Rattle.enc_stream.proofs.LifeCycleLemmas.{awaiting_goes_on, own_stays}
+use Rattle.enc_stream.proofs.AfterMarkLemmas.{all_held, after_a_mark, after_text}
 use Rattle.enc_stream.proofs.decoder.Decoder.convert.Goals as goal
 use Rattle.enc_stream.proofs.decoder.Decoder.convert.Goals.{in-Mark, in-Text}
-
--- a state that has read nothing changes to no other one without a byte
-in_front : (life now : LifeCycle) → life_at_prefix (mark_prefixes life) [] ≡ Some now → life ≡ now
-in_front AtStart now at_front = cc
-in_front AtUtf8Start now at_front = cc
-in_front AtUtf16BeStart now at_front = cc
-in_front AtUtf16LeStart now at_front = cc
-in_front SeenUtf8First now at_front = cc
-in_front SeenUtf8Second now at_front = cc
-in_front SeenUtf16BeFirst now at_front = cc
-in_front SeenUtf16LeFirst now at_front = cc
-in_front ConvertingWithPendingBb now at_front = cc
-in_front Converting now at_front = cc
-in_front Finished now at_front = cc
-
--- the bytes that a search holds do not change which byte order mark is looked for
-own_stays : (id : EncodingId) (life now : LifeCycle) {x : List ℕ} → ExtendsHeldMark life now x
-    → LooksForOwnMark id life → LooksForOwnMark id now
-own_stays id life AtUtf8Start extends own =
-    subst (LooksForOwnMark id) (in_front life AtUtf8Start (extends.states [])) own
-own_stays id life AtUtf16BeStart extends own =
-    subst (LooksForOwnMark id) (in_front life AtUtf16BeStart (extends.states [])) own
-own_stays id life AtUtf16LeStart extends own =
-    subst (LooksForOwnMark id) (in_front life AtUtf16LeStart (extends.states [])) own
-own_stays id life AtStart extends own = tt
-own_stays id life SeenUtf8First extends own = tt
-own_stays id life SeenUtf8Second extends own = tt
-own_stays id life SeenUtf16BeFirst extends own = tt
-own_stays id life SeenUtf16LeFirst extends own = tt
-own_stays id life ConvertingWithPendingBb extends own = tt
-own_stays id life Converting extends own = tt
-own_stays id life Finished extends own = tt
 
 pub returns-in-Open : goal.returns-in-Open
 returns-in-Open g c =
@@ -61,8 +30,8 @@ returns-in-Open g c =
     converts_into c.laws.ensures (rw (← c.self.view_is) (shows_held _ _ _ c.self.invariant.0.1))
     c.requires
     (rw (← c.self.view_is, sniffed.1)
-    (all_held _ _ _ c.self.invariant.0.1 c.sniff-sniffed.ensures.within extends
-    (sym extends.awaits ∙ sniffed.2)
+    (all_held _ _ _ c.self.invariant.0.1 extends
+    (sym extends.awaits ∙ sniffed.2) (bytes_of_slice _ c.type_inv.src)
     (awaiting_goes_on _ sniffed.2) sniffed.0))
 
 pub convert_text-of_text-requires-clause-text : goal.convert_text-of_text-requires-clause-text

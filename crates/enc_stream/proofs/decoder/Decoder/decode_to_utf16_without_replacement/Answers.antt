@@ -1,18 +1,20 @@
 use Rattle.std.proofs.Common.{refl, arith, rules}
-use Rattle.enc_stream.proofs.EndOfInputLemmas.{has_finished_by}
-use Rattle.enc_stream.proofs.OutputFullLemmas.{over_slice, reports, two_units}
+use Rattle.enc_stream.proofs.EndOfInputLemmas.{ends_at_end}
+use Rattle.enc_stream.proofs.AppendedOutputLemmas.{over_slice}
+use Rattle.enc_stream.proofs.OutputFullLemmas.{two_units}
 use Rattle.enc_stream.proofs.decoder.Decoder.decode_to_utf16_without_replacement.Goals as goal
 
 pub returns-clause-call : goal.returns-clause-call
 returns-clause-call c =
-    reports (over_slice two_units c.convert-outcome.ensures (rw c.new-units.ensures.len refl)
-    (rw (c.new-units.ensures.now, c.new-units.ensures.len) (omega arith)) (search rules))
+    over_slice two_units c.convert-outcome.ensures (rw c.new-units.ensures.len refl)
+    (rw (c.new-units.ensures.now, c.new-units.ensures.len) (omega arith)) (search rules)
+    ((c.convert-outcome.ensures.converts _ two_units).decodes.call.none_replaced refl)
 
 pub returns-clause-read : goal.returns-clause-read
 returns-clause-read c = (returns-clause-call c).decodes.call.within
 
 pub returns-clause-ended : goal.returns-clause-ended
-returns-clause-ended c = has_finished_by (returns-clause-call c).decodes
+returns-clause-ended c = rw (returns-clause-call c).decodes.life (search (ends_at_end))
 
 pub returns-clause-progress : goal.returns-clause-progress
 returns-clause-progress c = (returns-clause-call c).progress

@@ -1,7 +1,8 @@
 use Rattle.std.proofs.Common.{refl, arith, rules}
 use Rattle.enc_units.proofs.AsciiPrefixLemmas.{text_utf8}
-use Rattle.enc_stream.proofs.EndOfInputLemmas.{has_finished_by}
-use Rattle.enc_stream.proofs.OutputFullLemmas.{over_slice, reports_none, four_bytes, still_goes_on}
+use Rattle.enc_stream.proofs.EndOfInputLemmas.{ends_at_end}
+use Rattle.enc_stream.proofs.AppendedOutputLemmas.{over_slice, reports_none, still_goes_on}
+use Rattle.enc_stream.proofs.OutputFullLemmas.{four_bytes}
 use Rattle.enc_stream.proofs.decoder.Decoder.decode_to_utf8.Goals as goal
 
 pub unreported-requires : goal.unreported-requires
@@ -11,7 +12,7 @@ pub returns-clause-call : goal.returns-clause-call
 returns-clause-call c =
     rw c.unreported.ensures (over_slice four_bytes c.convert-outcome.ensures
     (rw c.new-out.ensures.len refl)
-    (rw (c.new-out.ensures.now, c.new-out.ensures.len) (omega arith)) (search rules))
+    (rw (c.new-out.ensures.now, c.new-out.ensures.len) (omega arith)) (search rules) refl)
 
 pub returns-clause-read : goal.returns-clause-read
 returns-clause-read c = (returns-clause-call c).decodes.call.within
@@ -21,7 +22,7 @@ returns-clause-text c = let call = (returns-clause-call c).decodes.call in
     text_utf8 _ _ call.scalars call.text
 
 pub returns-clause-ended : goal.returns-clause-ended
-returns-clause-ended c = has_finished_by (returns-clause-call c).decodes
+returns-clause-ended c = rw (returns-clause-call c).decodes.life (search (ends_at_end))
 
 pub returns-clause-progress : goal.returns-clause-progress
 returns-clause-progress c = λ on. (returns-clause-call c).progress (still_goes_on _ on)

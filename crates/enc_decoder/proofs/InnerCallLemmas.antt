@@ -1,0 +1,309 @@
+-- A call of an inner decoder is a call of an outer one, whose chunk is shifted.
+use Rattle.std.proofs.Common.{◌≡◌, ℕ, ◌+◌, ◌-◌, ◌<◌, ◌≤◌, Bool, true, false, List, [], ◌∷◌, ◌++◌, length, take, drop}
+use Rattle.std.proofs.Common.{refl, ap, ◌∙◌, sym, arith, append_assoc, ◌||◌, inl, inr, subst, ◌⊎◌}
+use Rattle.std.proofs.lemmas.Bool.{false≢true}
+use Rattle.std.proofs.lemmas.List.{length-append}
+use Rattle.std.proofs.Math.ListN.{drop_of_length-le, length-take}
+use Rattle.enc_decoder.specs.declared.byte_codec.Kind.{Kind}
+use Rattle.enc_decoder.specs.declared.byte_codec.Kind.TheVariants as kind
+use Rattle.enc_units.specs.declared.decoder_result.DecoderResult.{DecoderResult}
+use Rattle.enc_units.specs.declared.decoder_result.DecoderResult.TheVariants.{InputEmpty, OutputFull, Malformed}
+use Rattle.enc_decoder.specs.Sequence.{Sequence, sequence_bytes, is_repeated_escape, set_after}
+use Rattle.enc_decoder.specs.Remainder.{Remainder, AreBytes, AreFirstSequences, Determines, AreDetermined}
+use Rattle.enc_decoder.specs.Call.{DecoderCall, DecoderStops, AreReportedLens, ReadsToReported}
+use Rattle.enc_decoder.specs.CallRecord.{Call, IsCall}
+use Rattle.enc_decoder.specs.Converting.{shifted_result}
+use Rattle.enc_decoder.proofs.SequenceLemmas.{sequence_bytes-one}
+use Rattle.enc_decoder.proofs.DeterminedLemmas.{begins_after}
+use Rattle.enc_decoder.proofs.StageLemmas.{Stage, HasWritten, IsPartAt, text_on, scalars_on, fits_on, flag_on}
+use Rattle.enc_decoder.proofs.StageLemmas.{length_on, none_replaced_on}
+use Rattle.enc_decoder.proofs.InnerInputLemmas.{ShiftsInput, MatchesRead, HasSequence, sequence_at_end, most_or_more}
+use Rattle.enc_decoder.proofs.InnerInputLemmas.{determines_outside, determines_inside, none_before, determined_outside}
+use Rattle.enc_decoder.proofs.InnerInputLemmas.{none_shown, shown_next, inner_within, reads_all}
+
+-- whether a call that stops so reports a repeated escape
+abbrev pub stops_at_escape : (units_of : ℕ → List ℕ) (old new : Remainder) (c : Call)
+    (put done : List Sequence) (result : DecoderResult)
+    → DecoderStops units_of old new c.src c.last c.mode c.room put done c.read result → Bool
+stops_at_escape units_of old new c put done InputEmpty stops = false
+stops_at_escape units_of old new c put done OutputFull stops = false
+stops_at_escape units_of old new c put done (Malformed l a) stops =
+    is_repeated_escape stops.next.kind
+
+abbrev pub reports_escape : {units_of : ℕ → List ℕ} {old new : Remainder} (c : Call)
+    → IsCall units_of old new c → Bool
+reports_escape {units_of} {old} {new} c call =
+    stops_at_escape units_of old new c call.put call.done c.result call.stops
+
+-- a repeated escape is reported only in a mode that doesn't replace
+pub escape_is_fatal : {units_of : ℕ → List ℕ} {old new : Remainder} {replaces : Bool} (c : Call)
+    (result : DecoderResult) (call : IsCall units_of old new (record c { result = result }))
+    → ((l a : ℕ) → result ≡ Malformed l a → replaces ≡ false)
+    → reports_escape (record c { result = result }) call ≡ true → replaces ≡ false
+escape_is_fatal c InputEmpty call reported escape = absurd (false≢true escape)
+escape_is_fatal c OutputFull call reported escape = absurd (false≢true escape)
+escape_is_fatal c (Malformed l a) call reported escape = reported l a refl
+
+-- No byte is pending before the inner call, which reads those of what it does and holds.
+abbrev pub AreAllRead : Remainder → Remainder → Call → List Sequence → Type 0
+AreAllRead mid then inner done = (mid.pending ≡ [])
+    × (mid.pending ++ take inner.read inner.src ≡ sequence_bytes done ++ then.pending)
+
+-- What the outer one is after the call, by what the inner one is, with `left` held bytes left. If a
+-- repeated escape is reported, its bytes are read, or else fewer than it has. If any malformed
+-- sequence is, at most one held byte is left.
+pub record MatchesState {units_of : ℕ → List ℕ} {old mid then : Remainder} {stage : Stage}
+    {inner : Call} (shift : ShiftsInput old mid stage inner) (call : IsCall units_of mid then inner)
+    (new : Remainder) (read left : ℕ) : Type 0 where
+  pub after : (z : List ℕ) → (inner.last ≡ true → z ≡ [])
+      → then.sequences (drop inner.read inner.src ++ z) ≡ new.sequences (drop read stage.src ++ z)
+  pub set : new.set ≡ set_after old.set (stage.done ++ call.done)
+  pub pending : length new.pending ≡ length then.pending + left
+  pub none_pending : inner.last ≡ true → inner.result ≡ InputEmpty → new.pending ≡ []
+  pub same : (new.pending ≡ then.pending) ⊎ ((read ≡ 0) ⊎ (read < shift.below))
+  pub escape : (reports_escape inner call ≡ true → shift.sure ≤ read)
+      ⊎ ((inner.read ≤ 5) × AreAllRead mid then inner call.done)
+  pub held : (l a : ℕ) → inner.result ≡ Malformed l a → (left ≡ 0)
+      ⊎ ((left ≡ 1) × (inner.read ≡ 1) × AreAllRead mid then inner call.done)
+
+-- a sequence of one byte, and one byte more after it
+one_and_one : (k : Kind) (l a left : ℕ) → l ≡ 1 → a ≡ 0 → left ≡ 1 → AreReportedLens k l a
+    → AreReportedLens k l (a + left)
+one_and_one kind.Valid l a left one none also lens = (omega arith, omega arith, omega arith)
+one_and_one kind.Skipped l a left one none also lens = (omega arith, omega arith, omega arith)
+one_and_one kind.Malformed l a left one none also lens = (omega arith, omega arith, omega arith)
+one_and_one kind.RepeatedEscape l a left one none also lens = absurd (omega (arith, lens.0))
+
+is_six : (k : Kind) (l a : ℕ) → is_repeated_escape k ≡ true → AreReportedLens k l a → l + a ≡ 6
+is_six kind.Valid l a is_repeated lens = absurd (false≢true is_repeated)
+is_six kind.Skipped l a is_repeated lens = absurd (false≢true is_repeated)
+is_six kind.Malformed l a is_repeated lens = absurd (false≢true is_repeated)
+is_six kind.RepeatedEscape l a is_repeated lens = omega (arith, lens.0, lens.1)
+
+module _ {units_of : ℕ → List ℕ} {old mid : Remainder} {stage : Stage} {inner : Call}
+    (bytes : AreBytes inner.src) (shift : ShiftsInput old mid stage inner)
+    (written : HasWritten units_of stage) (part : IsPartAt stage inner) where
+  module _ {then new : Remainder} {read left : ℕ} (reads : MatchesRead shift read)
+      (call : IsCall units_of mid then inner) (state : MatchesState shift call new read left) where
+    -- the call of the outer decoder stops as the inner one does
+    abbrev InnerStops : DecoderResult → Type 0
+    InnerStops result = DecoderStops units_of mid then inner.src inner.last inner.mode inner.room
+        call.put call.done inner.read result
+
+    abbrev OuterStops : DecoderResult → Type 0
+    OuterStops result = DecoderStops units_of old new stage.src inner.last stage.mode stage.room
+        (stage.done ++ call.put) (stage.done ++ call.done) read result
+
+    regrouped : (P : List Sequence → Type 0) (s : Sequence)
+        → P (stage.done ++ (call.done ++ s ∷ [])) → P ((stage.done ++ call.done) ++ s ∷ [])
+    regrouped P s = subst P (sym (append_assoc stage.done call.done (s ∷ [])))
+
+    stops_empty : inner.result ≡ InputEmpty → InnerStops InputEmpty → OuterStops InputEmpty
+    stops_empty is_empty stops = record {
+      only_put = ap (λ x. stage.done ++ x) stops.only_put;
+      all_read = reads_all shift reads stops.all_read;
+      none_determined = λ not_last s determines. stops.none_determined not_last s (λ z are_bytes.
+          begins_after stage.done (call.done ++ s ∷ []) (mid.sequences (inner.src ++ z))
+          (old.sequences (stage.src ++ z))
+          (shift.plain z (λ is_last. absurd (false≢true (sym not_last ∙ is_last))))
+          (subst (λ x. AreFirstSequences x (old.sequences (stage.src ++ z)))
+          (append_assoc stage.done call.done (s ∷ [])) (determines z are_bytes)));
+      none_left = λ is_last.
+          ap (λ x. new.sequences (x ++ []))
+          (sym (drop_of_length-le stage.src
+          (omega (arith, reads_all shift reads stops.all_read))))
+          ∙ sym (state.after [] (λ _. refl))
+          ∙ ap (λ x. then.sequences (x ++ []))
+          (drop_of_length-le inner.src (omega (arith, stops.all_read)))
+          ∙ stops.none_left is_last;
+      none_pending = λ is_last. state.none_pending is_last is_empty;
+    }
+
+    stops_full : InnerStops OutputFull → OuterStops OutputFull
+    stops_full stops = record {
+      only_put = ap (λ x. stage.done ++ x) stops.only_put;
+      next = stops.next;
+      determined = regrouped (AreDetermined inner.last old.sequences stage.src) stops.next
+          (determined_outside shift (call.done ++ stops.next ∷ []) stops.determined);
+      not_reported = λ none_kept. stops.not_reported (sym part.keeps ∙ none_kept);
+      full = omega (
+        arith,
+        length_on written call.done,
+        stops.full,
+        written.fits,
+        part.room,
+      );
+      reads = record {
+        not_shown = regrouped (λ x. (read ≡ 0)
+            ⊎ (Determines old.sequences (take read stage.src) x → ⊥)) stops.next
+            (none_shown shift reads (call.done ++ stops.next ∷ [])
+            (sequence_at_end call.done stops.next) stops.reads.not_shown);
+        shown_next = λ unread. regrouped (Determines old.sequences (take (read + 1) stage.src))
+            stops.next (shown_next shift reads bytes (call.done ++ stops.next ∷ [])
+            stops.reads.shown_next unread);
+      };
+    }
+
+    module _ (l a : ℕ) (stops : InnerStops (Malformed l a)) where
+      some : HasSequence call.done
+      some = let last_one = sequence_at_end call.put stops.next in
+          (last_one.0, last_one.1, stops.then_next ∙ last_one.2)
+
+      few : AreAllRead mid then inner call.done → l + a ≤ inner.read
+      few all_read =
+          omega (
+            arith,
+            inner_within shift reads,
+            ap length all_read.1,
+            ap length (ap (λ x. x ++ take inner.read inner.src) all_read.0),
+            length-take inner.read inner.src,
+            length-append (sequence_bytes call.done) then.pending,
+            ap length (ap sequence_bytes stops.then_next
+                ∙ sequence_bytes-one call.put stops.next),
+            length-append (sequence_bytes call.put) stops.next.bytes,
+            stops.len,
+            stops.pending,
+          )
+
+      lens : (left ≡ 0) ⊎ ((left ≡ 1) × (inner.read ≡ 1) × AreAllRead mid then inner call.done)
+          → AreReportedLens stops.next.kind l (a + left)
+      lens held = elim held [
+        | inl none_left ↦
+            let same_pending : a ≡ a + left = omega arith in
+            subst (AreReportedLens stops.next.kind l) same_pending stops.bounds
+        | inr one_left ↦
+            let few_read = few one_left.2 in
+            let some_read = stops.not_empty in
+            one_and_one stops.next.kind l a left (omega (arith, few_read, some_read))
+            (omega (arith, few_read, some_read)) one_left.0 stops.bounds
+      ]
+
+      sure_at_escape : (is_repeated_escape stops.next.kind ≡ true → shift.sure ≤ read)
+          ⊎ ((inner.read ≤ 5) × AreAllRead mid then inner call.done)
+          → is_repeated_escape stops.next.kind ≡ true → shift.sure ≤ read
+      sure_at_escape escape is_escape = elim escape [
+        | inl all_there ↦ all_there is_escape
+        | inr few_there ↦
+            let six_long = is_six stops.next.kind l a is_escape stops.bounds in
+            absurd (omega (arith, few few_there.1, six_long))
+      ]
+
+      -- how many bytes are read for it
+      reads_on : (is_escape : Bool) → (is_escape ≡ true → shift.sure ≤ read)
+          → ReadsToReported is_escape mid.sequences inner.src call.done inner.read then.pending
+          → ReadsToReported is_escape old.sequences stage.src (stage.done ++ call.done) read
+          new.pending
+      reads_on true is_sure reported = record {
+        not_shown = elim (most_or_more read 0) [
+          | inl none_read ↦ inl (omega arith)
+          | inr some_read ↦ inr (λ determines. elim reads.exact [
+            | inl none_read ↦ absurd (omega arith)
+            | inr near ↦ elim near [
+              | inl below ↦ one_less_hidden (omega (arith, below)) determines
+              | inr far ↦ elim reported.not_shown [
+                | inl none ↦ elim (reads.none none) [
+                  | inl none_read ↦ absurd (omega arith)
+                  | inr below ↦ one_less_hidden (omega (arith, below)) determines
+                ]
+                | inr hidden ↦ elim (most_or_more read shift.from) [
+                  | inl at_start ↦ one_less_hidden (omega (arith, shift.near)) determines
+                  | inr past_start ↦ hidden (determines_inside shift (inner.read - 1) (read - 1)
+                      call.done (omega arith) (omega (arith, reads.within))
+                      (omega (arith, shift.shift, far.1)) determines)
+                ]
+              ]
+            ]
+          ])
+        ];
+        shown = determines_outside shift bytes inner.read read call.done (is_sure refl)
+            reads.within reads.there reported.shown;
+      }
+        where
+          one_less_hidden : read - 1 < shift.below
+              → Determines old.sequences (take (read - 1) stage.src) (stage.done ++ call.done) → ⊥
+          one_less_hidden below = none_before shift call.done some (read - 1) below
+      reads_on false is_sure reported = record {
+        not_shown = elim state.same [
+          | inl same_pending ↦ elim reported.not_shown [
+            | inl none_pending ↦ inl (same_pending ∙ none_pending)
+            | inr hidden ↦ inr (none_shown shift reads call.done some hidden)
+          ]
+          | inr few_read ↦ inr (elim few_read [
+            | inl none_read ↦ inl none_read
+            | inr below ↦ inr (none_before shift call.done some read below)
+          ])
+        ];
+        shown_next = shown_next shift reads bytes call.done reported.shown_next;
+      }
+
+      stops_malformed : inner.result ≡ Malformed l a
+          → (is_repeated_escape stops.next.kind ≡ true → shift.sure ≤ read)
+          ⊎ ((inner.read ≤ 5) × AreAllRead mid then inner call.done)
+          → OuterStops (Malformed l (a + left))
+      stops_malformed is_malformed escape = record {
+        next = stops.next;
+        then_next = ap (λ x. stage.done ++ x) stops.then_next
+            ∙ sym (append_assoc stage.done call.put (stops.next ∷ []));
+        malformed = stops.malformed;
+        replacement = stops.replacement;
+        not_replaced = part.reported l a is_malformed;
+        len = stops.len;
+        not_empty = stops.not_empty;
+        pending = omega (arith, state.pending, stops.pending);
+        bounds = lens (state.held l a is_malformed);
+        room_kept = λ keeps. omega (
+          arith,
+          length_on written call.put,
+          stops.room_kept (sym part.keeps ∙ keeps),
+          written.fits,
+          part.room,
+        );
+        determined = determined_outside shift call.done stops.determined;
+        none_after = elim (most_or_more read 0) [
+          | inl none_read ↦ inl (omega arith)
+          | inr some_read ↦ inr (λ s. regrouped
+              (λ x. Determines old.sequences (take read stage.src) x → ⊥) s
+              (elim (none_shown shift reads (call.done ++ s ∷ []) (sequence_at_end call.done s)
+              (elim stops.none_after [ inl none ↦ inl none | inr hidden ↦ inr (hidden s) ])) [
+                | inl none_read ↦ absurd (omega arith)
+                | inr hidden ↦ hidden
+              ]))
+        ];
+        reads = reads_on (is_repeated_escape stops.next.kind) (sure_at_escape escape) stops.reads;
+      }
+
+    stops_outside : (result : DecoderResult) → inner.result ≡ result
+        → (stops : InnerStops result)
+        → (stops_at_escape units_of mid then inner call.put call.done result stops ≡ true
+        → shift.sure ≤ read)
+        ⊎ ((inner.read ≤ 5) × AreAllRead mid then inner call.done)
+        → OuterStops (shifted_result result left)
+    stops_outside InputEmpty is_result stops escape = stops_empty is_result stops
+    stops_outside OutputFull is_result stops escape = stops_full stops
+    stops_outside (Malformed l a) is_result stops escape =
+        stops_malformed l a stops is_result escape
+
+    -- The outer one does what was done, and then what the inner one does.
+    pub call_outside : (e : DecoderCall units_of old new stage.src inner.last stage.mode stage.room
+        (shifted_result inner.result left) read (stage.wrote ++ inner.wrote)
+        (stage.replaced || inner.replaced)) × (e.done ≡ stage.done ++ call.done)
+    call_outside = (
+      record {
+        put = stage.done ++ call.put;
+        done = stage.done ++ call.done;
+        within = reads.within;
+        residual = λ z ends. shift.plain z ends ∙ ap (λ x. stage.done ++ x) (call.residual z ends)
+            ∙ sym (append_assoc stage.done call.done
+            (then.sequences (drop inner.read inner.src ++ z)))
+            ∙ ap (λ x. (stage.done ++ call.done) ++ x) (state.after z ends);
+        set = state.set;
+        text = text_on written call.put call.text;
+        scalars = scalars_on written call.put call.scalars;
+        fits = fits_on written inner.wrote (omega (arith, call.fits, part.room));
+        flag = flag_on written call.put call.flag;
+        none_replaced = none_replaced_on written
+            (λ is_fatal. call.none_replaced (part.fatal is_fatal));
+        stops = stops_outside inner.result refl call.stops state.escape;
+      },
+      refl,
+    )

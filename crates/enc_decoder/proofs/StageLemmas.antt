@@ -1,0 +1,118 @@
+-- How far calls have come in a chunk, and the text that they write with the next call.
+use Rattle.std.proofs.Common.{◌≡◌, ℕ, ◌+◌, ◌-◌, ◌≤◌, Bool, false, List, [], ◌++◌, length, refl, ap, ◌∙◌, sym}
+use Rattle.std.proofs.Common.{arith, ◌||◌}
+use Rattle.std.proofs.lemmas.List.{length-append}
+use Rattle.enc_units.specs.declared.decoder_result.DecoderResult.{DecoderResult}
+use Rattle.enc_units.specs.declared.decoder_result.DecoderResult.TheVariants.{InputEmpty, OutputFull, Malformed}
+use Rattle.enc_units.specs.Output.{AreScalars, units_of_text}
+use Rattle.enc_decoder.specs.Sequence.{Sequence, sequence_text, any_malformed}
+use Rattle.enc_decoder.specs.Call.{DecodeErrorMode, is_replacement_mode, keeps_room}
+use Rattle.enc_decoder.specs.CallRecord.{Call, IsCall}
+use Rattle.enc_decoder.specs.Remainder.{Remainder}
+use Rattle.enc_decoder.proofs.SequenceLemmas.{units-append, any_malformed-append, scalars_of-append}
+
+-- The chunk, whether nothing follows it, the error mode and the room of the output; the number of
+-- bytes read, the sequences done, the code units written, and whether a sequence was replaced.
+pub record Stage : Type 0 where
+  pub src : List ℕ
+  pub last : Bool
+  pub mode : DecodeErrorMode
+  pub room : ℕ
+  pub read : ℕ
+  pub done : List Sequence
+  pub wrote : List ℕ
+  pub replaced : Bool
+
+-- The text of the sequences done is written, and fits.
+pub record HasWritten (units_of : ℕ → List ℕ) (stage : Stage) : Type 0 where
+  pub text : stage.wrote ≡ units_of_text units_of (sequence_text stage.done)
+  pub scalars : AreScalars (sequence_text stage.done)
+  pub fits : length stage.wrote ≤ stage.room
+  pub flag : stage.replaced ≡ any_malformed stage.done
+  pub none_replaced : is_replacement_mode stage.mode ≡ false → stage.replaced ≡ false
+
+-- The next call has the room that is left. Its error mode may be another: it keeps room for U+FFFD
+-- as the mode of the stage does, and replaces only if that does.
+pub record IsPartAt (stage : Stage) (next : Call) : Type 0 where
+  pub room : next.room ≡ stage.room - length stage.wrote
+  pub keeps : keeps_room stage.mode ≡ keeps_room next.mode
+  pub fatal : is_replacement_mode stage.mode ≡ false → is_replacement_mode next.mode ≡ false
+  pub reported : (l a : ℕ) → next.result ≡ Malformed l a → is_replacement_mode stage.mode ≡ false
+
+-- only a call that doesn't replace reports
+pub reports_in : {units_of : ℕ → List ℕ} {old new : Remainder} (c : Call) (result : DecoderResult)
+    → IsCall units_of old new (record c { result = result }) → (l a : ℕ) → result ≡ Malformed l a
+    → is_replacement_mode c.mode ≡ false
+reports_in c InputEmpty call l a is_malformed = cc
+reports_in c OutputFull call l a is_malformed = cc
+reports_in c (Malformed m n) call l a is_malformed = call.stops.not_replaced
+
+-- the next call in the mode of the stage
+pub same_mode : {units_of : ℕ → List ℕ} {old new : Remainder} (stage : Stage) (c : Call)
+    (result : DecoderResult) → c.room ≡ stage.room - length stage.wrote
+    → IsCall units_of old new (record c { mode = stage.mode; result = result })
+    → IsPartAt stage (record c { mode = stage.mode; result = result })
+same_mode stage c result is_room call = record {
+  room = is_room;
+  keeps = refl;
+  fatal = λ is_fatal. is_fatal;
+  reported = reports_in (record c { mode = stage.mode }) result call;
+}
+
+module _ {units_of : ℕ → List ℕ} {stage : Stage} (written : HasWritten units_of stage) where
+  pub text_on : {more : List ℕ} (ts : List Sequence)
+      → more ≡ units_of_text units_of (sequence_text ts)
+      → stage.wrote ++ more ≡ units_of_text units_of (sequence_text (stage.done ++ ts))
+  text_on {more} ts is_text =
+      ap (λ x. x ++ more) written.text
+      ∙ ap (λ x. units_of_text units_of (sequence_text stage.done) ++ x) is_text
+      ∙ sym (units-append units_of stage.done ts)
+
+  pub scalars_on : (ts : List Sequence) → AreScalars (sequence_text ts)
+      → AreScalars (sequence_text (stage.done ++ ts))
+  scalars_on ts are_scalars = scalars_of-append stage.done ts written.scalars are_scalars
+
+  pub fits_on : (more : List ℕ) → length more ≤ stage.room - length stage.wrote
+      → length (stage.wrote ++ more) ≤ stage.room
+  fits_on more fits = omega (arith, written.fits, length-append stage.wrote more)
+
+  pub flag_on : {replaced : Bool} (ts : List Sequence) → replaced ≡ any_malformed ts
+      → (stage.replaced || replaced) ≡ any_malformed (stage.done ++ ts)
+  flag_on {replaced} ts is_flag =
+      ap (λ b. b || replaced) written.flag ∙ ap (λ b. any_malformed stage.done || b) is_flag
+      ∙ sym (any_malformed-append stage.done ts)
+
+  pub none_replaced_on : {replaced : Bool}
+      → (is_replacement_mode stage.mode ≡ false → replaced ≡ false)
+      → is_replacement_mode stage.mode ≡ false → (stage.replaced || replaced) ≡ false
+  none_replaced_on none is_fatal = rw (written.none_replaced is_fatal, none is_fatal) refl
+
+  pub length_on : (ts : List Sequence)
+      → length (units_of_text units_of (sequence_text (stage.done ++ ts)))
+      ≡ length stage.wrote + length (units_of_text units_of (sequence_text ts))
+  length_on ts = ap length (sym (text_on ts refl)) ∙ length-append stage.wrote
+      (units_of_text units_of (sequence_text ts))
+
+-- nothing is read or done yet
+abbrev pub start_stage : List ℕ → Bool → DecodeErrorMode → ℕ → Stage
+start_stage src last mode room = record {
+  src = src;
+  last = last;
+  mode = mode;
+  room = room;
+  read = 0;
+  done = [];
+  wrote = [];
+  replaced = false;
+}
+
+pub nothing_written : {units_of : ℕ → List ℕ} {src : List ℕ} {last : Bool} {mode : DecodeErrorMode}
+    {room read : ℕ}
+    → HasWritten units_of (record (start_stage src last mode room) { read = read })
+nothing_written = record {
+  text = refl;
+  scalars = refl;
+  fits = omega arith;
+  flag = refl;
+  none_replaced = λ _. refl;
+}

@@ -1,0 +1,113 @@
+-- The length that a formula gives does not fall with the number of bytes.
+use Rattle.std.proofs.Common.{◌≡◌, ◌⊎◌, ℕ, ◌+◌, ◌*◌, ◌/◌, ◌^◌, ◌<◌, ◌≤◌, zero, suc, max, Bool, true, false, cond}
+use Rattle.std.proofs.Common.{nat_lt, ◌==◌, Option, Some, None, IfSome, List, [], ◌∷◌, ◌++◌, length, drop, refl, ap}
+use Rattle.std.proofs.Common.{◌∙◌, sym, subst, arith, inl, inr}
+use Rattle.std.proofs.lemmas.Bool.{cond-false}
+use Rattle.std.proofs.lemmas.Bool.Decides.{nat_tests}
+use Rattle.std.proofs.lemmas.List.{append-nil, length-append}
+use Rattle.std.proofs.Math.ListN.{length-drop}
+use Rattle.std.specs.Char.{encode_utf8}
+use Rattle.std.specs.Char.Escape.{encode_utf16}
+use Rattle.enc_units.specs.Checked.{checked_usize, checked_add, checked_mul, checked_half, checked_max}
+use Rattle.enc_decoder.specs.declared.text_lengths.TextLengths.{TextLengths}
+use Rattle.enc_decoder.specs.declared.text_lengths.TextLengths.TheVariants as by
+use Rattle.enc_decoder.specs.Sequence.{Sequence}
+use Rattle.enc_decoder.specs.Segmentation.{Rule, sequences_of}
+use Rattle.enc_decoder.specs.CodecState.{CodecState}
+use Rattle.enc_decoder.specs.Remainder.{AreBytes, AreFirstSequences}
+use Rattle.enc_decoder.specs.Call.{DecodeErrorMode, Replacement, Fatal}
+use Rattle.enc_decoder.specs.Need.{needed_units, NeedExceeds, IsEnoughForCodec, AreEnoughForCodec}
+use Rattle.enc_decoder.proofs.NeedLemmas.{at_end}
+use Rattle.enc_decoder.proofs.EnoughLemmas.{same_some}
+use Rattle.enc_codec.specs.Codecs.{codec_lengths, initial_state}
+use Rattle.enc_names.specs.declared.encoding_id.EncodingId.{EncodingId}
+use Rattle.enc_stream.specs.declared.encoding.Encoding.{Encoding}
+use Rattle.enc_stream.specs.declared.lengths.Query.{Query}
+use Rattle.enc_stream.specs.declared.lengths.Query.TheVariants as query
+use Rattle.enc_names.specs.EncodingTable.{codec_by_id}
+use Rattle.enc_stream.specs.Encodings.{rule_of}
+use Rattle.enc_stream.specs.declared.life_cycle.LifeCycle.{LifeCycle}
+use Rattle.enc_stream.specs.declared.life_cycle.LifeCycle.TheVariants.{AtStart, AtUtf8Start, AtUtf16BeStart}
+use Rattle.enc_stream.specs.declared.life_cycle.LifeCycle.TheVariants.{AtUtf16LeStart, SeenUtf8First, SeenUtf8Second}
+use Rattle.enc_stream.specs.declared.life_cycle.LifeCycle.TheVariants.{SeenUtf16BeFirst, SeenUtf16LeFirst}
+use Rattle.enc_stream.specs.declared.life_cycle.LifeCycle.TheVariants.{ConvertingWithPendingBb, Converting, Finished}
+use Rattle.enc_stream.specs.Bom.{Mark, marks, utf_8_mark, utf_16be_mark, utf_16le_mark, find_mark, sequences_by_mark}
+use Rattle.enc_stream.specs.LifeCycle.{phase_of, awaits_mark, held_mark_bytes}
+use Rattle.enc_stream.specs.Decoding.{DecoderState, remaining_sequences, decoder_remainder, held_or_pending_bytes}
+use Rattle.enc_stream.specs.Decoding.{decoder_state_of, unread_bytes, HeldBytesMatchCodec, LooksForOwnMark}
+use Rattle.enc_stream.specs.Lengths.{formula_length, life_cycle_length, max_length, idle_length, length_with_mark}
+use Rattle.enc_stream.specs.Lengths.{length_at, IsForMode, query_units, IsEnoughRoom}
+use Rattle.enc_stream.proofs.EncodingLemmas.{laws_of}
+
+-- if the second query has an answer, the first has one that is no greater
+abbrev IsNoMore : Option ℕ → Option ℕ → Type 0
+IsNoMore few many = (m : ℕ) → many ≡ Some m → (n : ℕ) × (few ≡ Some n) × (n ≤ m)
+
+fitting_fits : (m q : ℕ) (t : Bool) → nat_lt m (2 ^ 64) ≡ t → cond t (Some m) None ≡ Some q
+    → (m < 2 ^ 64) × (q ≡ m)
+fitting_fits m q true t e = (grind (arith, nat_tests), cc)
+fitting_fits m q false t e = absurd (cc)
+
+fits_below : (n m : ℕ) → n ≤ m → m < 2 ^ 64 → checked_usize n ≡ Some n
+fits_below n m l h = by_test (nat_lt n (2 ^ 64)) (grind (arith, nat_tests))
+  where
+    by_test : (t : Bool) → t ≡ true → cond t (Some n) None ≡ Some n
+    by_test true e = refl
+    by_test false e = absurd (cc)
+
+no_more_fitting : (n m : ℕ) → n ≤ m → IsNoMore (checked_usize n) (checked_usize m)
+no_more_fitting n m at_most q e =
+    let fits = fitting_fits m q (nat_lt m (2 ^ 64)) refl e in
+    (n, fits_below n m at_most fits.0, omega (arith, at_most, fits.1))
+
+no_more_some : (n m : ℕ) → n ≤ m → IsNoMore (Some n) (Some m)
+no_more_some n m l q e = (n, refl, omega (arith, l, same_some m q e))
+
+no_more_plus : (few many : Option ℕ) (k : ℕ) → IsNoMore few many
+    → IsNoMore (checked_add few k) (checked_add many k)
+no_more_plus few None k h q e = absurd (cc)
+no_more_plus few (Some m) k h q e =
+    let fewer = h m refl in
+    let fits = no_more_fitting (fewer.0 + k) (m + k) (omega (arith, fewer.2)) q e in
+    (fits.0, ap (λ o. checked_add o k) fewer.1 ∙ fits.1, fits.2)
+
+no_more_times : (few many : Option ℕ) → IsNoMore few many
+    → IsNoMore (checked_mul few 3) (checked_mul many 3)
+no_more_times few None h q e = absurd (cc)
+no_more_times few (Some m) h q e =
+    let fewer = h m refl in
+    let fits = no_more_fitting (fewer.0 * 3) (m * 3) (omega (arith, fewer.2)) q e in
+    (fits.0, ap (λ o. checked_mul o 3) fewer.1 ∙ fits.1, fits.2)
+
+no_more_half : (few many : Option ℕ) → IsNoMore few many
+    → IsNoMore (checked_half few) (checked_half many)
+no_more_half few None h q e = absurd (cc)
+no_more_half few (Some m) h q e =
+    let fewer = h m refl in
+    (fewer.0 / 2, ap checked_half fewer.1, omega (arith, fewer.2, same_some (m / 2) q e))
+
+no_more_sum : (n h m k : ℕ) → n + h ≤ m + k
+    → IsNoMore (checked_add (Some n) h) (checked_add (Some m) k)
+no_more_sum n h m k l = no_more_fitting (n + h) (m + k) l
+
+pub no_more : (q : Query) (f : TextLengths) (n h m k : ℕ) → n ≤ m → n + h ≤ m + k
+    → IsNoMore (formula_length q f n h) (formula_length q f m k)
+no_more query.Utf8 by.Utf8 n h m k l s =
+    no_more_plus _ _ 3 (no_more_times _ _ (no_more_sum n h m k s))
+no_more query.Utf8 by.Utf16 n h m k l s = no_more_plus _ _ 1 (no_more_times _ _
+    (no_more_half _ _ (no_more_plus _ _ 1 (no_more_sum n h m k s))))
+no_more query.Utf8 by.OneByte n h m k l s = no_more_times _ _ (no_more_some n m l)
+no_more query.Utf8 by.Replacement n h m k l s = no_more_some 3 3 (omega arith)
+no_more query.Utf8 by.MultiByte n h m k l s = no_more_times _ _ (no_more_sum n h m k s)
+no_more query.Utf8Reporting by.Utf8 n h m k l s = no_more_plus _ _ 3 (no_more_sum n h m k s)
+no_more query.Utf8Reporting by.Utf16 n h m k l s = no_more_plus _ _ 1 (no_more_times _ _
+    (no_more_half _ _ (no_more_plus _ _ 1 (no_more_sum n h m k s))))
+no_more query.Utf8Reporting by.OneByte n h m k l s = no_more_times _ _ (no_more_some n m l)
+no_more query.Utf8Reporting by.Replacement n h m k l s = no_more_some 3 3 (omega arith)
+no_more query.Utf8Reporting by.MultiByte n h m k l s = no_more_times _ _ (no_more_sum n h m k s)
+no_more query.Utf16 by.Utf8 n h m k l s = no_more_plus _ _ 1 (no_more_sum n h m k s)
+no_more query.Utf16 by.Utf16 n h m k l s = no_more_plus _ _ 1 (no_more_half _ _
+    (no_more_plus _ _ 1 (no_more_sum n h m k s)))
+no_more query.Utf16 by.OneByte n h m k l s = no_more_some n m l
+no_more query.Utf16 by.Replacement n h m k l s = no_more_some 1 1 (omega arith)
+no_more query.Utf16 by.MultiByte n h m k l s = no_more_sum n h m k s

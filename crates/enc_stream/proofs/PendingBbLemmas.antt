@@ -1,0 +1,130 @@
+-- Of the held bytes EF BB, which are no byte order mark, the codec does EF: BB stays pending.
+use Rattle.std.specs.Prelude.{if◌then◌else◌, bytes_eq}
+use Rattle.std.proofs.Common.{◌≡◌, ℕ, ◌+◌, ◌-◌, ◌<◌, ◌≤◌, zero, suc, Bool, true, false, ◌&&◌, eqb, List, [], ◌∷◌}
+use Rattle.std.proofs.Common.{◌++◌, length, take, drop, refl, ap, ◌∙◌, sym, arith, append_assoc, inl, inr, ◌⊎◌, None}
+use Rattle.std.proofs.Common.{Some, subst}
+use Rattle.std.proofs.lemmas.Bool.{false≢true}
+use Rattle.std.proofs.lemmas.Bool.Decides.{nat_tests}
+use Rattle.std.proofs.lemmas.List.{append-nil, length-append, take-append-drop}
+use Rattle.std.proofs.lemmas.Slice.Eq.{bytes_eq-Decides}
+use Rattle.std.proofs.Math.ListN.{drop_of_length-le, length-take}
+use Rattle.std.proofs.Math.Seq.{take-append-add, drop-append-add, take-append_seam, drop-append_seam}
+use Rattle.enc_stream.specs.declared.encoding.Encoding.{Encoding}
+use Rattle.enc_stream.specs.declared.life_cycle.LifeCycle.{LifeCycle}
+use Rattle.enc_stream.specs.declared.life_cycle.LifeCycle.TheVariants.{AtStart, AtUtf8Start, AtUtf16BeStart}
+use Rattle.enc_stream.specs.declared.life_cycle.LifeCycle.TheVariants.{AtUtf16LeStart, SeenUtf8First, SeenUtf8Second}
+use Rattle.enc_stream.specs.declared.life_cycle.LifeCycle.TheVariants.{SeenUtf16BeFirst, SeenUtf16LeFirst}
+use Rattle.enc_stream.specs.declared.life_cycle.LifeCycle.TheVariants.{ConvertingWithPendingBb, Converting, Finished}
+use Rattle.enc_units.specs.declared.decoder_result.DecoderResult.{DecoderResult}
+use Rattle.enc_units.specs.declared.decoder_result.DecoderResult.TheVariants.{InputEmpty, OutputFull, Malformed}
+use Rattle.enc_units.specs.Output.{Output}
+use Rattle.enc_decoder.specs.Sequence.{Sequence, sequence_bytes, set_after}
+use Rattle.enc_decoder.specs.Segmentation.{Rule, sequences_of}
+use Rattle.enc_decoder.specs.CodecState.{CodecState, remainder_of}
+use Rattle.enc_decoder.specs.Remainder.{Remainder, AreBytes, AreFirstSequences, Determines}
+use Rattle.enc_decoder.specs.Call.{DecoderCall, DecoderAtInputEmpty, DecoderStops, DecodeErrorMode, reaches_end}
+use Rattle.enc_decoder.proofs.RuleLemmas.{has_bytes}
+use Rattle.enc_decoder.proofs.ByteLemmas.{bytes-append}
+use Rattle.enc_stream.specs.Encodings.{rule_of}
+use Rattle.enc_stream.specs.LifeCycle.{phase_of, awaits_mark, mark_bytes, encoding_of_mark_or, held_mark_bytes}
+use Rattle.enc_stream.specs.LifeCycle.{mark_prefixes, life_at_prefix, life_after_bytes, life_after_sequences}
+use Rattle.enc_stream.specs.LifeCycle.{life_after, Phase, InFront, Within, Ended, mark_in, sequences_in}
+use Rattle.enc_decoder.specs.Converting.{PrefixedCallInto, ReadsHeldFirst, shifted_result}
+use Rattle.enc_stream.specs.Decoding.{DecoderState, has_ended, remaining_sequences, decoder_remainder}
+use Rattle.enc_stream.specs.Decoding.{held_or_pending_bytes, decoder_state_of, unread_bytes, HeldBytesMatchCodec}
+use Rattle.enc_stream.specs.Decoding.{PendingAreHeldBytes, DecodesInto}
+use Rattle.enc_decoder.proofs.JoinedCallLemmas.{no_bytes}
+use Rattle.enc_stream.proofs.LifeCycleLemmas.{own_prefix, second_if_two, IsOpen, open_phase, held_unmarked}
+use Rattle.enc_decoder.proofs.SegmentationLemmas.{sequences_of-nil}
+use Rattle.enc_stream.specs.Bom.{Mark, utf_8_mark, utf_16be_mark, utf_16le_mark, sequences_by_mark}
+use Rattle.enc_stream.specs.Sniffing.{HasNoMark}
+use Rattle.enc_stream.proofs.MarkFirstLemmas.{undetermined_in}
+use Rattle.enc_stream.proofs.PendingBytesLemmas.{pending_of_held}
+use Rattle.enc_stream.proofs.PendingBytesLemmas.{none_unread}
+
+two_bytes : (life : LifeCycle) (n : ℕ) → length (unread_bytes life n) ≡ 2
+    → (life ≡ SeenUtf8Second) × (n ≡ 0)
+two_bytes life zero two = (second_if_two life two, refl)
+two_bytes life (suc n) two =
+    absurd (omega (arith, two, ap length (none_unread life (suc n) (omega arith))))
+
+one_and_rest : (front rest bytes : List ℕ) (b : ℕ) → front ++ rest ≡ b ∷ bytes → length front ≡ 1
+    → (front ≡ b ∷ []) × (rest ≡ bytes)
+one_and_rest front rest bytes b same one = (
+  sym (take-append_seam front rest) ∙ rw (one, same) refl,
+  sym (drop-append_seam front rest) ∙ rw (one, same) refl,
+)
+
+-- the codec does EF of EF BB and leaves BB
+pub record LeavesBb (v w : CodecState) (src : List ℕ) (done : List Sequence) (left read : ℕ)
+    (life : LifeCycle) : Type 0 where
+  pub state : life ≡ SeenUtf8Second
+  pub unread : unread_bytes life (length v.pending) ≡ 0xEF ∷ 0xBB ∷ []
+  pub none : v.pending ≡ []
+  pub done_bytes : sequence_bytes done ≡ 0xEF ∷ []
+  pub bb_left : w.pending ++ drop (length (unread_bytes life (length v.pending)) - left + read)
+      (unread_bytes life (length v.pending) ++ src) ≡ 0xBB ∷ src
+
+pub leaves_bb : {v w : CodecState} {src : List ℕ} {done : List Sequence} {left read : ℕ}
+    {life : LifeCycle}
+    → ReadsHeldFirst (unread_bytes life (length v.pending)) src left read
+    → v.pending ++ take (length (unread_bytes life (length v.pending)) - left + read)
+    (unread_bytes life (length v.pending) ++ src) ≡ sequence_bytes done ++ w.pending
+    → read ≡ 0 → length (unread_bytes life (length v.pending)) ≡ 2 → length w.pending + left ≡ 1
+    → LeavesBb v w src done left read life
+leaves_bb {v} {w} {src} {done} {left} {read} {life} reads_held accounted nothing_read two one =
+    let held : List ℕ = unread_bytes life (length v.pending) in
+    let total : ℕ = length held - left + read in
+    let two_held_bytes = two_bytes life (length v.pending) two in
+    let none : v.pending ≡ [] = no_bytes v.pending two_held_bytes.1 in
+    let unread : held ≡ 0xEF ∷ 0xBB ∷ [] = rw (none, two_held_bytes.0) refl in
+    let one_done : length (sequence_bytes done) ≡ 1 =
+    omega (
+      arith,
+      ap length accounted,
+      length-append v.pending (take total (held ++ src)),
+      length-append (sequence_bytes done) w.pending,
+      length-take total (held ++ src),
+      length-append held src,
+      ap length none,
+      reads_held.most,
+    ) in
+    let whole : sequence_bytes done ++ (w.pending ++ drop total (held ++ src)) ≡ 0xEF
+    ∷ (0xBB ∷ src) =
+    sym (append_assoc (sequence_bytes done) w.pending (drop total (held ++ src)))
+    ∙ ap (λ x. x ++ drop total (held ++ src))
+    (sym accounted ∙ ap (λ x. x ++ take total (held ++ src)) none)
+    ∙ take-append-drop total (held ++ src) ∙ ap (λ x. x ++ src) unread in
+    let parts = one_and_rest (sequence_bytes done) (w.pending ++ drop total (held ++ src))
+    (0xBB ∷ src) 0xEF whole one_done in
+    record {
+      state = two_held_bytes.0;
+      unread = unread;
+      none = none;
+      done_bytes = parts.0;
+      bb_left = parts.1;
+    }
+
+-- the codec then has BB, or hasn't read it
+pub holds_bb : {v w : CodecState} {src : List ℕ} {done : List Sequence} {left read : ℕ}
+    {life : LifeCycle}
+    → LeavesBb v w src done left read life → length w.pending + left ≡ 1
+    → HeldBytesMatchCodec ConvertingWithPendingBb w
+holds_bb {v} {w} {src} {left = left} {read} {life} leaves one = record {
+  unread = λ awaits. absurd (false≢true awaits);
+  held =
+      by_pending w.pending (drop (length (unread_bytes life (length v.pending)) - left + read)
+      (unread_bytes life (length v.pending) ++ src)) leaves.bb_left (omega arith);
+}
+  where
+    by_pending : (pending rest : List ℕ) → pending ++ rest ≡ 0xBB ∷ src → length pending ≤ 1
+        → 0xBB ∷ [] ≡ pending ++ unread_bytes ConvertingWithPendingBb (length pending)
+    by_pending [] rest same few = refl
+    by_pending (x ∷ []) rest same few = sym (one_and_rest (x ∷ []) rest src 0xBB same refl).0
+    by_pending (x ∷ y ∷ pending) rest same few = absurd (omega arith)
+
+pub bb_state : (done : List Sequence) → sequence_bytes done ≡ 0xEF ∷ []
+    → life_after_sequences (life_at_prefix (mark_prefixes SeenUtf8Second) (0xEF ∷ 0xBB ∷ [])) done
+    ≡ ConvertingWithPendingBb
+bb_state [] ef_done = absurd (omega (arith, ap length ef_done))
+bb_state (s ∷ ss) ef_done = ap (life_after_bytes SeenUtf8Second) ef_done
