@@ -20,7 +20,8 @@ use Rattle.enc_units.specs.Gathering.{GathersChars}
 use Rattle.enc_units.specs.Output.{AreScalars, units_of_text}
 use Rattle.enc_units.specs.Pieces.{ReadsPieces}
 use Rattle.enc_units.specs.Validity.{AreAscii}
-use Rattle.enc_units.proofs.GatherLemmas.{utf8_two, utf8_three, gathers_then, stored_lanes}
+use Rattle.enc_units.proofs.GatherLemmas.{gathers_then, stored_lanes}
+use Rattle.enc_units.proofs.Utf8FormLemmas.{utf8_two, utf8_three}
 use Rattle.enc_units.proofs.PiecesLemmas.{reads_none, reads_one, reads_then, reads_wider}
 use Rattle.enc_units.proofs.ScalarLemmas.{ascii_scalars}
 use Rattle.enc_units.proofs.UnitsLemmas.{one_unit}

@@ -1,8 +1,7 @@
 -- Characters that are gathered one after another.
-use Rattle.std.proofs.Common.{◌≡◌, ℕ, zero, suc, ◌+◌, ◌/◌, ◌%◌, ◌<◌, ◌≤◌, List, [], ◌∷◌, ◌++◌, length, get_or}
+use Rattle.std.proofs.Common.{◌≡◌, ℕ, zero, suc, ◌+◌, ◌/◌, ◌<◌, ◌≤◌, List, [], ◌∷◌, ◌++◌, length, get_or}
 use Rattle.std.proofs.Common.{take, drop, refl, ap, ◌∙◌, sym, subst, arith, append_assoc, append-nil}
-use Rattle.std.proofs.Common.{length-drop, take-add, drop-cons, drop-drop}
-use Rattle.std.proofs.lemmas.Bool.{lt-ltb, le-ltb}
+use Rattle.std.proofs.Common.{take-add, drop-cons}
 use Rattle.std.proofs.lemmas.List.{length-take-le}
 use Rattle.std.proofs.lemmas.Simd.{put_chunk_is}
 use Rattle.std.proofs.Math.Seq.{take-append_seam, drop-append_seam}
@@ -18,6 +17,7 @@ use Rattle.enc_units.specs.Gathering.{GathersChars}
 use Rattle.enc_units.specs.Pairs.{MeansWord, MeansUnit}
 use Rattle.enc_units.proofs.PiecesLemmas.{reads_none, reads_then, reads_one, reads_own, own_ascii, units-append}
 use Rattle.enc_units.proofs.PiecesLemmas.{then_rest}
+use Rattle.enc_units.proofs.LengthLemmas.{lengths}
 use Rattle.enc_units.proofs.UnitsLemmas.{one_unit}
 use Rattle.enc_units.proofs.ScalarLemmas.{one_scalar, scalars-append, ascii_scalars}
 
@@ -45,23 +45,6 @@ pub stored_lanes : (at n : ℕ) (old ys : List ℕ) → at + length ys ≤ lengt
     → take (at + n) (put_chunk at old ys) ≡ take at old ++ take n ys
 stored_lanes at n old ys h k =
     ap (take (at + n)) (put_chunk_is at old ys h) ∙ stored_front at n old ys _ (omega arith) k
-
--- the UTF-8 of a character (Unicode Standard 3.9, table 3-6)
-
-pub utf8_two : (c : ℕ) → 128 ≤ c → c < 2048 → encode_utf8 c ≡ (192 + c / 64) ∷ (128 + c % 64) ∷ []
-unfolding encode_utf8
-utf8_two c l h = rw (le-ltb c 128 l, lt-ltb c 2048 h) refl
-
-pub utf8_three : (c : ℕ) → 2048 ≤ c → c < 65536
-    → encode_utf8 c ≡ (224 + c / 4096) ∷ (128 + c / 64 % 64) ∷ (128 + c % 64) ∷ []
-unfolding encode_utf8
-utf8_three c l h = rw (le-ltb c 128 (omega arith), le-ltb c 2048 l, lt-ltb c 65536 h) refl
-
-pub utf8_four : (c : ℕ) → 65536 ≤ c
-    → encode_utf8 c ≡ (240 + c / 262144) ∷ (128 + c / 4096 % 64) ∷ (128 + c / 64 % 64)
-    ∷ (128 + c % 64) ∷ []
-unfolding encode_utf8
-utf8_four c l = rw (le-ltb c 128 (omega arith), le-ltb c 2048 (omega arith), le-ltb c 65536 l) refl
 
 -- gathered characters
 
@@ -91,13 +74,14 @@ module _ {units_of : ℕ → List ℕ} {Means : List ℕ → ℕ → Type 0} {sr
         ∙ ap (λ z. before ++ z) (sym (units-append units_of first.text then_more.text));
   }
 
--- the same, where the rest is named by its place in the whole input
-module _ {units_of : ℕ → List ℕ} {Means : List ℕ → ℕ → Type 0} {a n : ℕ} {before mid after : List ℕ}
-    (src : List ℕ) (from : ℕ) (p : GathersChars units_of Means (drop from src) a before mid)
-    (q : GathersChars units_of Means (drop (from + a) src) n mid after) where
-  pub gathers_on : GathersChars units_of Means (drop from src) (a + n) before after
-  gathers_on = gathers_then p
-      (subst (λ rest. GathersChars units_of Means rest n mid after) (sym (drop-drop a from src)) q)
+-- the same, where the rest is a list of its own
+pub gathers_on : {units_of : ℕ → List ℕ} {Means : List ℕ → ℕ → Type 0} {src rest : List ℕ} {a n : ℕ}
+    {before mid after : List ℕ} → GathersChars units_of Means src a before mid
+    → rest ≡ drop a src → GathersChars units_of Means rest n mid after
+    → GathersChars units_of Means src (a + n) before after
+gathers_on {units_of} {Means} {n = n} {mid = mid} {after = after} first rest_is then_more =
+    gathers_then first
+    (subst (λ z. GathersChars units_of Means z n mid after) rest_is then_more)
 
 pub gathers_own : {units_of : ℕ → List ℕ} {Means : List ℕ → ℕ → Type 0} {src : List ℕ} {n : ℕ}
     {before after : List ℕ}
@@ -148,49 +132,35 @@ gathers_one {units_of} {Means} {src} {n} c {before} h w i m e = record {
   written = e ∙ ap (λ z. before ++ z) (sym (append-nil (units_of c)));
 }
 
-pub get_or_drop : (n i : ℕ) (xs : List ℕ) → get_or (drop n xs) i 0 ≡ get_or xs (n + i) 0
-get_or_drop zero i xs = ap (λ k. get_or xs k 0) (omega arith)
-get_or_drop (suc n) i [] = refl
-get_or_drop (suc n) i (x ∷ xs) = get_or_drop n i xs ∙ ap (λ k. get_or (x ∷ xs) k 0) next
-  where
-    next : suc (n + i) ≡ suc n + i
-    next = omega arith
-
 -- a byte that is a character
-module _ {Means : List ℕ → ℕ → Type 0} (src : List ℕ) (from : ℕ) {read : ℕ} {before mid : List ℕ}
-    (inside : from + read < length src) where
-  gathers_single : {units_of : ℕ → List ℕ} {after : List ℕ} (c : ℕ) → IsScalar c
-      → Means (get_or src (from + read) 0 ∷ []) c
-      → GathersChars units_of Means (drop from src) read before mid
-      → after ≡ mid ++ units_of c
-      → GathersChars units_of Means (drop from src) (read + 1) before after
-  gathers_single c is_scalar means p e =
-      let rest = drop from src in
-      let long : read < length rest = omega (arith, length-drop from src) in
-      let is_byte = ap (take 1) (drop-cons rest read 0 long)
-      ∙ ap (λ b. b ∷ []) (get_or_drop from read src) in
-      gathers_then p
-      (gathers_one c (omega arith) (omega (arith, length-drop read rest)) is_scalar
-      (subst (λ z. Means z c) (sym is_byte) means) e)
+module _ {Means : List ℕ → ℕ → Type 0} {src : List ℕ} {read : ℕ} {before mid after : List ℕ}
+    (inside : read < length src) where
+  gathers_single : {units_of : ℕ → List ℕ} (c : ℕ) → IsScalar c → Means (get_or src read 0 ∷ []) c
+      → GathersChars units_of Means src read before mid → after ≡ mid ++ units_of c
+      → GathersChars units_of Means src (read + 1) before after
+  gathers_single c is_scalar means gathers stored =
+      let is_byte = ap (take 1) (drop-cons src read 0 inside) in
+      gathers_then gathers
+      (gathers_one c (omega arith) (omega (arith, lengths)) is_scalar
+      (subst (λ z. Means z c) (sym is_byte) means) stored)
 
   -- by a word
-  pub gathers_byte : {word : ℕ} {after : List ℕ}
-      → MeansWord Means (get_or src (from + read) 0 ∷ []) word
-      → GathersChars encode_utf8 Means (drop from src) read before mid
+  pub gathers_byte : {word : ℕ} → MeansWord Means (get_or src read 0 ∷ []) word
+      → GathersChars encode_utf8 Means src read before mid
       → after ≡ mid ++ take (word / 0x100_0000) (to_le_bytes w32 word)
-      → GathersChars encode_utf8 Means (drop from src) (read + 1) before after
-  gathers_byte is_word p e =
-      gathers_single is_word.char is_word.scalar is_word.means p
-      (e ∙ ap (λ z. mid ++ z) is_word.utf8)
+      → GathersChars encode_utf8 Means src (read + 1) before after
+  gathers_byte is_word gathers stored =
+      gathers_single is_word.char is_word.scalar is_word.means gathers
+      (stored ∙ ap (λ z. mid ++ z) is_word.utf8)
 
   -- by a code unit
-  pub gathers_byte_unit : {unit : ℕ} {after : List ℕ} → unit < 0x1_0000
-      → MeansUnit Means (get_or src (from + read) 0 ∷ []) unit
-      → GathersChars encode_utf16 Means (drop from src) read before mid → after ≡ mid ++ unit ∷ []
-      → GathersChars encode_utf16 Means (drop from src) (read + 1) before after
-  gathers_byte_unit {unit} l is_unit p e =
-      gathers_single unit is_unit.scalar is_unit.means p
-      (e ∙ ap (λ z. mid ++ z) (sym (one_unit unit l)))
+  pub gathers_byte_unit : {unit : ℕ} → unit < 0x1_0000
+      → MeansUnit Means (get_or src read 0 ∷ []) unit
+      → GathersChars encode_utf16 Means src read before mid → after ≡ mid ++ unit ∷ []
+      → GathersChars encode_utf16 Means src (read + 1) before after
+  gathers_byte_unit {unit} fits is_unit gathers stored =
+      gathers_single unit is_unit.scalar is_unit.means gathers
+      (stored ∙ ap (λ z. mid ++ z) (sym (one_unit unit fits)))
 
 -- gathered characters are put out
 pub puts_gathered : {units_of : ℕ → List ℕ} {Means : List ℕ → ℕ → Type 0} {before after : Output}

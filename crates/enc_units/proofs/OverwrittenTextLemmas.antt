@@ -12,7 +12,7 @@ use Rattle.std.proofs.Math.Seq.{drop-append-add}
 use Rattle.std.specs.Char.{encode_utf8, IsScalar, InScalarRange}
 use Rattle.std.specs.Str.{IsUtf8, all_scalars, encode_utf8_all}
 use Rattle.enc_units.specs.Output.{AreScalars, units_of_text}
-use Rattle.enc_units.proofs.GatherLemmas.{utf8_two, utf8_three, utf8_four}
+use Rattle.enc_units.proofs.Utf8FormLemmas.{utf8_two, utf8_three, utf8_four}
 use Rattle.enc_units.proofs.Utf8CharsLemmas.{their_units}
 use Rattle.enc_units.specs.Rest.{without_continuations}
 

@@ -1,5 +1,5 @@
 -- Pieces that follow one another, read and put out.
-use Rattle.std.proofs.Common.{◌≡◌, ℕ, suc, ◌+◌, ◌<◌, ◌≤◌, true, List, [], ◌∷◌, ◌++◌, length, take, drop, refl, ap, ◌∙◌}
+use Rattle.std.proofs.Common.{◌≡◌, ℕ, ◌+◌, ◌<◌, ◌≤◌, true, List, [], ◌∷◌, ◌++◌, length, take, drop, refl, ap, ◌∙◌}
 use Rattle.std.proofs.Common.{sym, subst, arith, append_assoc, append-nil, length-append, length-drop, take-add, nat_le}
 use Rattle.std.proofs.Common.{length-take, Bool}
 use Rattle.std.proofs.lemmas.Bool.Decides.{nat_tests}
@@ -11,20 +11,10 @@ use Rattle.enc_units.specs.Validity.{AreAscii}
 use Rattle.enc_units.specs.AsciiRun.{PutsAscii}
 use Rattle.enc_units.specs.Mappings.{AreWrittenAsThemselves, IsWrittenAsItself}
 use Rattle.enc_units.specs.Pieces.{Piece, piece_bytes, piece_chars, EachMeansChar, ReadsPieces, PutsPieces}
+use Rattle.enc_units.proofs.PieceListLemmas.{piece_bytes-append, piece_chars-append, EachMeansChar-append}
+use Rattle.enc_units.proofs.PieceListLemmas.{alone, units_alone, pieces_of, bytes_of, chars_of, they_mean}
 use Rattle.enc_units.proofs.OutputLemmas.{with_appended-nil, with_appended-with_appended, room_left}
 use Rattle.enc_units.proofs.ScalarLemmas.{one_scalar, scalars-append, ascii_scalars}
-
-piece_bytes-append : (ps qs : List Piece)
-    → piece_bytes (ps ++ qs) ≡ piece_bytes ps ++ piece_bytes qs
-piece_bytes-append [] qs = refl
-piece_bytes-append (p ∷ ps) qs =
-    ap (λ z. p.bytes ++ z) (piece_bytes-append ps qs)
-    ∙ sym (append_assoc p.bytes (piece_bytes ps) (piece_bytes qs))
-
-piece_chars-append : (ps qs : List Piece)
-    → piece_chars (ps ++ qs) ≡ piece_chars ps ++ piece_chars qs
-piece_chars-append [] qs = refl
-piece_chars-append (p ∷ ps) qs = ap (λ z. p.char ∷ z) (piece_chars-append ps qs)
 
 pub units-append : (units_of : ℕ → List ℕ) (cs ds : List ℕ)
     → units_of_text units_of (cs ++ ds) ≡ units_of_text units_of cs ++ units_of_text units_of ds
@@ -32,12 +22,6 @@ units-append units_of [] ds = refl
 units-append units_of (c ∷ cs) ds =
     ap (λ t. units_of c ++ t) (units-append units_of cs ds)
     ∙ sym (append_assoc (units_of c) (units_of_text units_of cs) (units_of_text units_of ds))
-
-EachMeansChar-append : (Means : List ℕ → ℕ → Type 0) (ps qs : List Piece) → EachMeansChar Means ps
-    → EachMeansChar Means qs → EachMeansChar Means (ps ++ qs)
-EachMeansChar-append Means [] qs first_mean others_mean = others_mean
-EachMeansChar-append Means (p ∷ ps) qs first_mean others_mean =
-    (first_mean.0, EachMeansChar-append Means ps qs first_mean.1 others_mean)
 
 -- no piece is read
 pub reads_none : (Means : List ℕ → ℕ → Type 0) (src : List ℕ) → ReadsPieces Means src 0 []
@@ -80,26 +64,6 @@ reads_one Means src n c h w m = record {
   none = λ z. absurd (omega arith);
 }
 
-abbrev alone : List ℕ → List Piece
-alone [] = []
-alone (b ∷ bs) = record { bytes = b ∷ []; char = b } ∷ alone bs
-
-alone_bytes : (bs : List ℕ) → piece_bytes (alone bs) ≡ bs
-alone_bytes [] = refl
-alone_bytes (b ∷ bs) = ap (λ x. b ∷ x) (alone_bytes bs)
-
-alone_chars : (bs : List ℕ) → piece_chars (alone bs) ≡ bs
-alone_chars [] = refl
-alone_chars (b ∷ bs) = ap (λ x. b ∷ x) (alone_chars bs)
-
-alone_mean : (Means : List ℕ → ℕ → Type 0) (bs : List ℕ) → AreWrittenAsThemselves Means bs
-    → EachMeansChar Means (alone bs)
-alone_mean Means [] own = tt
-alone_mean Means (b ∷ bs) own = (
-  (own 0 0 (omega arith)).1,
-  alone_mean Means bs (λ k d l. own (suc k) d (omega arith)),
-)
-
 -- ASCII bytes, where each has that number as its character
 pub own_ascii : (Means : List ℕ → ℕ → Type 0) (bs : List ℕ)
     → ((b : ℕ) → b < 0x80 → Means (b ∷ []) b) → AreAscii bs → AreWrittenAsThemselves Means bs
@@ -110,12 +74,12 @@ own_ascii Means bs h are_ascii k d l =
 pub reads_own : (Means : List ℕ → ℕ → Type 0) (src : List ℕ) (n : ℕ) → n ≤ length src
     → AreWrittenAsThemselves Means (take n src) → ReadsPieces Means src n (take n src)
 reads_own Means src n w own = record {
-  pieces = alone (take n src);
+  pieces = pieces_of alone (take n src);
   within = w;
-  bytes = alone_bytes (take n src);
-  chars = alone_chars (take n src);
-  mean = alone_mean Means (take n src) own;
-  none = λ z. ap (λ k. alone (take k src)) z;
+  bytes = bytes_of alone (take n src) ∙ units_alone (take n src);
+  chars = chars_of alone (take n src);
+  mean = they_mean alone Means (take n src) (λ k d inside. (own k d inside).1);
+  none = λ z. ap (λ k. pieces_of alone (take k src)) z;
 }
 
 -- ASCII bytes
@@ -264,16 +228,6 @@ module _ {units_of : ℕ → List ℕ} {Means : List ℕ → ℕ → Type 0} {be
       → PutsPieces units_of Means before after src (a + n)
   then_one c p some within means scalar test was_appended e =
       then p (one_piece c some within scalar means (sym test ∙ was_appended) e)
-
--- the same by an equal meaning
-pub puts_same : {units_of : ℕ → List ℕ} {T : Type 0} (means : T → List ℕ → ℕ → Type 0) {a b : T}
-    {before after : Output}
-    {src : List ℕ} {n : ℕ}
-    → a ≡ b
-    → PutsPieces units_of (means a) before after src n
-    → PutsPieces units_of (means b) before after src n
-puts_same {units_of} means {before = before} {after = after} {src = src} {n = n} e p =
-    subst (λ t. PutsPieces units_of (means t) before after src n) e p
 
 -- what the bytes mean by one reading, they mean by another
 

@@ -1,6 +1,6 @@
 -- How many code units the last bytes of a text in UTF-8 give.
 use Rattle.std.proofs.Common.{◌≡◌, ℕ, suc, ◌+◌, ◌-◌, ◌*◌, ◌/◌, ◌%◌, ◌<◌, ◌≤◌, List, [], ◌∷◌, ◌++◌, inl, inr}
-use Rattle.std.proofs.Common.{length, take, ap, ◌∙◌, sym, subst, arith, length-append, length-take}
+use Rattle.std.proofs.Common.{refl, length, take, ap, ◌∙◌, sym, subst, arith, length-append, length-take}
 use Rattle.std.proofs.lemmas.Bool.{and_parts, cases_lt}
 use Rattle.std.proofs.lemmas.Str.{encode_ascii}
 use Rattle.std.specs.Char.{encode_utf8}
@@ -8,11 +8,12 @@ use Rattle.std.specs.Char.Escape.{encode_utf16}
 use Rattle.enc_units.specs.Output.{AreScalars, units_of_text}
 use Rattle.enc_units.specs.Validity.{IsWellFormedUtf8}
 use Rattle.enc_units.specs.Utf8Units.{byte_two_before, units_from}
-use Rattle.enc_units.proofs.GatherLemmas.{utf8_two, utf8_three, utf8_four}
+use Rattle.enc_units.proofs.Utf8FormLemmas.{utf8_two, utf8_three, utf8_four}
+use Rattle.enc_units.proofs.LengthLemmas.{lengths}
 use Rattle.enc_units.proofs.UnitsLemmas.{one_unit, two_units}
 use Rattle.enc_units.proofs.Utf8CharsLemmas.{their_units}
 use Rattle.enc_units.proofs.Utf8TextLemmas.{Stand, stands, units_of_utf8}
-use Rattle.enc_units.proofs.Utf8UnitsLemmas.{units_split}
+use Rattle.enc_units.proofs.Utf8UnitsLemmas.{units_then}
 
 abbrev bytes_of : List ℕ → List ℕ
 bytes_of = units_of_text encode_utf8
@@ -75,11 +76,10 @@ module _ (src : List ℕ) (t : List ℕ) (scalars : AreScalars t) (rest : Counts
         subst (λ n. n ≤ 3 * length (units_from src from n) + 4) count
         (omega (
           arith,
+          lengths,
           text_wide t,
           ap length units,
-          ap length (units_split src from first more),
-          length-append (units_from src from first) (units_from src (from + first) more),
-          ap (λ i. length (units_from src i more)) place,
+          ap length (units_then src from first more {place = next} (sym place) refl),
         ))
   ]
 

@@ -1,5 +1,5 @@
 -- The faults of sixteen bytes with those before them, lane by lane.
-use Rattle.std.proofs.Common.{◌≡◌, ℕ, zero, suc, ◌+◌, ◌-◌, ◌*◌, ◌/◌, ◌%◌, ◌^◌, ◌<◌, ◌≤◌, ◌⊎◌, Bool, true, false, not}
+use Rattle.std.proofs.Common.{◌≡◌, ℕ, suc, ◌+◌, ◌-◌, ◌*◌, ◌/◌, ◌%◌, ◌^◌, ◌<◌, ◌≤◌, ◌⊎◌, Bool, true, false, not}
 use Rattle.std.proofs.Common.{◌||◌, ◌&&◌, if◌then◌else◌, cond, eqb, leb, ltb, le-leb, leb-true, ltb-true, eqb-true}
 use Rattle.std.proofs.Common.{eq-eqb, List, map, length, get_or, replicate, take, bit_and, bit_or, bit_xor, refl, ap}
 use Rattle.std.proofs.Common.{◌∙◌, sym, subst, arith, inl, inr, ◌∷◌, ◌++◌, drop, length-drop, length-append}
@@ -16,6 +16,7 @@ use lib.Lanes.{zip2, mask_l, top, chunk, sel_l, pick_l}
 use Rattle.enc_units.specs.declared.utf8_faults.TheConstants.{FIRST_UPPER, FIRST_LOWER, SECOND_UPPER}
 use Rattle.enc_units.specs.Utf8Run.{CanFollowBytes, CanFollowBytesAt, IsCharBoundaryAfter, ArePairFaults}
 use Rattle.enc_units.specs.Validity.{IsWellFormedUtf8}
+use Rattle.enc_units.proofs.TestLemmas.{every, every_passes}
 use Rattle.enc_units.proofs.Utf8RunLemmas.{blocks_utf8}
 use Rattle.enc_units.specs.Utf8Run.{allows_second, begins_or_is_second, is_continuation_byte, required_faults}
 use Rattle.enc_units.proofs.Utf8Lanes.{IsFlags, places, top_flag, lanes, below, unequal_to, none_set}
@@ -35,19 +36,6 @@ pub lane_of_two : (f : ℕ → ℕ → ℕ) (xs ys : List ℕ) (k : ℕ) → len
 lane_of_two f xs ys k lx ly h = get_or-zip2 f xs ys k 0 0 0 (omega arith) (omega arith)
 
 -- the tables, at all halves
-
-unfoldable every : ℕ → (ℕ → Bool) → Bool
-every zero p = true
-every (suc n) p = p n && every n p
-
-every_passes : (n : ℕ) (p : ℕ → Bool) → every n p ≡ true → (k : ℕ) → k < n → p k ≡ true
-unfolding every
-every_passes zero p all k h = absurd (omega arith)
-every_passes (suc n) p all k h = elim (cases_lt k n) [
-  | inl l ↦ every_passes n p (and_parts _ _ all).1 k l
-  | inr g ↦ let last : n ≡ k = omega arith in
-      subst (λ i. p i ≡ true) last (and_parts (p n) _ all).0
-]
 
 abbrev alike : Bool → Bool → Bool
 alike true b = b

@@ -12,7 +12,7 @@ use Rattle.enc_units.specs.Validity.{IsWellFormedUtf8}
 use Rattle.enc_units.specs.Gathering.{GathersChars}
 use Rattle.enc_units.specs.Pieces.{IsUtf8Char}
 use Rattle.enc_units.specs.Utf8Units.{gives_unit, code_unit_of_byte, byte_two_before, unit_at, units_from}
-use Rattle.enc_units.proofs.GatherLemmas.{utf8_two, utf8_three, utf8_four}
+use Rattle.enc_units.proofs.Utf8FormLemmas.{utf8_two, utf8_three, utf8_four}
 use Rattle.enc_units.proofs.UnitsLemmas.{one_unit, two_units, scalar_range}
 use Rattle.enc_units.proofs.Utf8CharsLemmas.{their_units, reads_utf8}
 use Rattle.enc_units.proofs.Utf8UnitsLemmas.{if_one, low_unit}

@@ -92,33 +92,34 @@ chosen_lanes t {f} {g} {m} {xs} {ys} p q r =
 
 -- the code units of characters of at most three bytes
 
-abbrev pair : ℕ → ℕ → ℕ
+abbrev pub pair : ℕ → ℕ → ℕ
 pair a b = ((a * 0x40) % 0x1_0000 + b) % 0x1_0000
 
 abbrev three : ℕ → ℕ → ℕ → ℕ
 three a b c = (((pair a b * 0x40) % 0x1_0000 + c) % 0x1_0000 + 0xDF80) % 0x1_0000
 
-abbrev two : ℕ → ℕ → ℕ
+abbrev pub two : ℕ → ℕ → ℕ
 two a b = (pair a b + 0xCF80) % 0x1_0000
 
 abbrev narrow : ℕ → ℕ → ℕ → ℕ
 narrow a b c = cond (ltb a 0x80) a (cond (leb 0xE0 a) (three a b c) (two a b))
 
-module _ (xs ys zs : List ℕ) (la : length xs ≡ 16) (lb : length ys ≡ 16) (lc : length zs ≡ 16) where
-  abbrev firsts : IsLanes (map (λ b. b) xs) (λ k. get_or xs k 0)
+module _ (xs ys : List ℕ) (la : length xs ≡ 16) (lb : length ys ≡ 16) where
+  abbrev pub firsts : IsLanes (map (λ b. b) xs) (λ k. get_or xs k 0)
   firsts = widened xs la
 
-  abbrev pairs : (m : List ℕ) × IsLanes m (λ k. pair (get_or xs k 0) (get_or ys k 0))
+  abbrev pub pairs : (m : List ℕ) × IsLanes m (λ k. pair (get_or xs k 0) (get_or ys k 0))
   pairs = (_, sum_lanes (product_lanes firsts (splat_lanes 0x40)) (widened ys lb))
 
-  abbrev twos : (m : List ℕ) × IsLanes m (λ k. two (get_or xs k 0) (get_or ys k 0))
+  abbrev pub twos : (m : List ℕ) × IsLanes m (λ k. two (get_or xs k 0) (get_or ys k 0))
   twos = (_, sum_lanes pairs.1 (splat_lanes 0xCF80))
 
+module _ (xs ys zs : List ℕ) (la : length xs ≡ 16) (lb : length ys ≡ 16) (lc : length zs ≡ 16) where
   abbrev threes : (m : List ℕ)
       × IsLanes m (λ k. three (get_or xs k 0) (get_or ys k 0) (get_or zs k 0))
   threes = (
     _,
-    sum_lanes (sum_lanes (product_lanes pairs.1 (splat_lanes 0x40)) (widened zs lc))
+    sum_lanes (sum_lanes (product_lanes (pairs xs ys la lb).1 (splat_lanes 0x40)) (widened zs lc))
         (splat_lanes 0xDF80),
   )
 
@@ -126,8 +127,9 @@ module _ (xs ys zs : List ℕ) (la : length xs ≡ 16) (lb : length ys ≡ 16) (
       × IsLanes m (λ k. narrow (get_or xs k 0) (get_or ys k 0) (get_or zs k 0))
   narrows = (
     _,
-    chosen_lanes _ (below_lanes firsts (splat_lanes 0x80)) firsts
-        (chosen_lanes _ (at_least_lanes (splat_lanes 0xE0) firsts) threes.1 twos.1),
+    let first = firsts xs ys la lb in
+        chosen_lanes _ (below_lanes first (splat_lanes 0x80)) first
+        (chosen_lanes _ (at_least_lanes (splat_lanes 0xE0) first) threes.1 (twos xs ys la lb).1),
   )
 
   pub narrow_at : (k : ℕ) → k < 16
@@ -155,7 +157,7 @@ module _ (xs ys zs : List ℕ) (la : length xs ≡ 16) (lb : length ys ≡ 16) (
   abbrev lows : (m : List ℕ) × IsLanes m (λ k. low (get_or xs k 0) (get_or ys k 0))
   lows = (
     _,
-    sum_lanes (and_lanes (sum_lanes (pairs xs ys zs la lb lc).1 (splat_lanes 0xFF80))
+    sum_lanes (and_lanes (sum_lanes (pairs xs ys la lb).1 (splat_lanes 0xFF80))
         (splat_lanes 0x3FF))
         (splat_lanes 0xDC00),
   )
@@ -165,7 +167,7 @@ module _ (xs ys zs : List ℕ) (la : length xs ≡ 16) (lb : length ys ≡ 16) (
   fours = (
     _,
     sum_lanes
-        (sum_lanes (product_lanes (pairs xs ys zs la lb lc).1 (splat_lanes 4))
+        (sum_lanes (product_lanes (pairs xs ys la lb).1 (splat_lanes 4))
         (shifted_lanes (widened zs lc) (splat_lanes 4)))
         (splat_lanes 0xE5B8),
   )
@@ -173,11 +175,11 @@ module _ (xs ys zs : List ℕ) (la : length xs ≡ 16) (lb : length ys ≡ 16) (
   abbrev all : (m : List ℕ)
       × IsLanes m (λ k. any_unit (get_or xs k 0) (get_or ys k 0) (get_or zs k 0))
   all =
-      let first = firsts xs ys zs la lb lc in (
+      let first = firsts xs ys la lb in (
         _,
         chosen_lanes _ (at_least_lanes (splat_lanes 0xF0) first) fours.1
             (chosen_lanes _ (at_least_lanes (splat_lanes 0xE0) first) (threes xs ys zs la lb lc).1
-            (chosen_lanes _ (at_least_lanes (splat_lanes 0xC0) first) (twos xs ys zs la lb lc).1
+            (chosen_lanes _ (at_least_lanes (splat_lanes 0xC0) first) (twos xs ys la lb).1
             (chosen_lanes _ (below_lanes first (splat_lanes 0x80)) first lows.1))),
       )
 

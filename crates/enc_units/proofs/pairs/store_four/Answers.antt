@@ -1,6 +1,7 @@
-use Rattle.std.proofs.Common.{◌+◌, ◌%◌, ◌/◌, ◌^◌, get_or, ◌≡◌, ◌∙◌, refl, arith}
+use Rattle.std.proofs.Common.{◌+◌, ◌/◌, ◌^◌, ◌∙◌, refl, arith}
+use Rattle.enc_units.proofs.EndsLemmas.{end_is, end_next}
 use Rattle.enc_units.proofs.GatherLemmas.{gathers_nothing}
-use Rattle.enc_units.proofs.PairsLemmas.{goes_up, end_goes, end_next, gathers_stored, place_of_next}
+use Rattle.enc_units.proofs.PairsLemmas.{gathers_stored, place_of_next}
 use Rattle.enc_units.proofs.pairs.store_four.Goals as goal
 
 pub loop-count-init : goal.loop-count-init
@@ -16,20 +17,17 @@ loop-count-preserved g c =
     let invariant = c.loop-count.invariant in
     let read = c.loop-count.read in
     let stored = c.in-Some.ensures in
-    let next : get_or c.ends_of-ends.result c.loop-count.count 0
-    ≡ c.loop-count.read + 1 + c.args.leads / 2 ^ c.loop-count.read % 2 =
-    end_goes c.args.leads c.loop-count.count _ _ c.ends_of-ends.ensures c.loop-count-test.true
-    invariant.1 (omega (arith, invariant.2)) in
-    let up = goes_up (c.args.leads / 2 ^ read) next in (
+    let lookups = c.args.lookups.now in
+    let leads = lookups.leads / 2 ^ c.args.from in
+    let next = end_is leads c.loop-count.count read _ c.ends_of-ends.ensures c.loop-count-test.true
+    invariant.1 (omega (arith, invariant.2)) in (
       omega arith,
       end_next c.ends_of-ends.result c.loop-count.count,
-      omega (arith, invariant.2, up.1),
+      omega (arith, invariant.2, next),
       omega (arith, invariant.3, stored.bound),
       stored.len ∙ invariant.4,
-      λ src long are. gathers_stored _ src c.args.leads read _ next
-          (omega (arith, invariant.2, long))
-          (stored.stored _
-          (place_of_next (g.P.Pieces.stands_for c.args.pieces) c.args.places.now c.args.leads src
-          c.args.from read (omega (arith, invariant.2)) are))
+      λ src long are. gathers_stored src leads read _ next (omega (arith, invariant.2, long))
+          (stored.stored _ (place_of_next (g.P.Pieces.stands_for c.args.pieces) lookups.places leads
+          src c.args.from read (omega (arith, invariant.2)) are))
           (invariant.5 src long are),
     )
