@@ -167,7 +167,7 @@ module _ {Means : List ℕ → ℕ → Type 0} (big : Bool) (mean : AreCodeUnits
   reads_units : (n : ℕ) (bytes : List ℕ) → n + n ≤ length bytes
       → AreScalars (take n (units_of_bytes big bytes))
       → ReadsPieces Means bytes (n + n) (take n (units_of_bytes big bytes))
-  reads_units zero bytes h are_scalars = reads_none Means bytes
+  reads_units zero bytes h are_scalars = reads_none bytes
   reads_units (suc n) [] h are_scalars = absurd (omega arith)
   reads_units (suc n) (a ∷ []) h are_scalars = absurd (omega arith)
   reads_units (suc n) (a ∷ b ∷ bs) h are_scalars =
@@ -175,8 +175,7 @@ module _ {Means : List ℕ → ℕ → Type 0} (big : Bool) (mean : AreCodeUnits
       let more = take n (units_of_bytes big bs) in
       let long : 2 + (n + n) ≡ suc n + suc n = omega arith in
       subst (λ k. ReadsPieces Means (a ∷ b ∷ bs) k (unit ∷ more)) long
-      (reads_then Means (a ∷ b ∷ bs) 2 (n + n) (unit ∷ []) more
-      (reads_one Means (a ∷ b ∷ bs) 2 unit (omega arith) (omega arith)
+      (reads_then (reads_one unit (omega arith) (omega arith)
       (mean a b (and_parts _ _ are_scalars).0))
       (reads_units n bs (omega arith) (and_parts _ _ are_scalars).1))
 
@@ -191,8 +190,7 @@ module _ {Means : List ℕ → ℕ → Type 0} (big : Bool) (mean : AreCodeUnits
         text = take n units;
         scalars = are_scalars;
         reads = subst (λ us. ReadsPieces Means src (n + n) (take n us)) (sym are_units)
-            (reads_wider Means src 16 (n + n) (take n (units_of_bytes big (take 16 src)))
-            (reads_units n (take 16 src) (omega (arith, length-take 16 src))
+            (reads_wider 16 (reads_units n (take 16 src) (omega (arith, length-take 16 src))
             (subst (λ us. AreScalars (take n us)) are_units are_scalars)));
         written = w;
       })

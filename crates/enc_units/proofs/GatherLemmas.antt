@@ -12,11 +12,10 @@ use lib.Lanes.{put_chunk}
 use Rattle.enc_units.specs.Output.{Output, with_appended, units_of_text}
 use Rattle.enc_units.specs.Validity.{AreAscii}
 use Rattle.enc_units.specs.Pieces.{PutsPieces}
-use Rattle.enc_units.specs.Mappings.{AreWrittenAsThemselves}
+use Rattle.enc_units.specs.Mappings.{AreWrittenAsThemselves, KeepsAscii}
 use Rattle.enc_units.specs.Gathering.{GathersChars}
 use Rattle.enc_units.specs.Pairs.{MeansWord, MeansUnit}
 use Rattle.enc_units.proofs.PiecesLemmas.{reads_none, reads_then, reads_one, reads_own, own_ascii, units-append}
-use Rattle.enc_units.proofs.PiecesLemmas.{then_rest}
 use Rattle.enc_units.proofs.LengthLemmas.{lengths}
 use Rattle.enc_units.proofs.UnitsLemmas.{one_unit}
 use Rattle.enc_units.proofs.ScalarLemmas.{one_scalar, scalars-append, ascii_scalars}
@@ -48,89 +47,95 @@ stored_lanes at n old ys h k =
 
 -- gathered characters
 
-pub gathers_nothing : {units_of : ℕ → List ℕ} {Means : List ℕ → ℕ → Type 0}
-    {src before after : List ℕ}
-    → after ≡ before
-    → GathersChars units_of Means src 0 before after
-gathers_nothing {Means} {src} {before} e = record {
-  text = [];
-  scalars = refl;
-  reads = reads_none Means src;
-  written = e ∙ sym (append-nil before);
-}
-
-module _ {units_of : ℕ → List ℕ} {Means : List ℕ → ℕ → Type 0} {src : List ℕ} {a n : ℕ}
-    {before mid after : List ℕ}
-    (first : GathersChars units_of Means src a before mid)
-    (then_more : GathersChars units_of Means (drop a src) n mid after) where
-  pub gathers_then : GathersChars units_of Means src (a + n) before after
-  gathers_then = record {
-    text = first.text ++ then_more.text;
-    scalars = scalars-append first.text then_more.text first.scalars then_more.scalars;
-    reads = reads_then Means src a n first.text then_more.text first.reads then_more.reads;
-    written = then_more.written ∙ ap (λ z. z ++ units_of_text units_of then_more.text) first.written
-        ∙ append_assoc before (units_of_text units_of first.text)
-        (units_of_text units_of then_more.text)
-        ∙ ap (λ z. before ++ z) (sym (units-append units_of first.text then_more.text));
+module _ {units_of : ℕ → List ℕ} {Means : List ℕ → ℕ → Type 0} where
+  pub gathers_nothing : {src before after : List ℕ} → after ≡ before
+      → GathersChars units_of Means src 0 before after
+  gathers_nothing {src} {before} same = record {
+    text = [];
+    scalars = refl;
+    reads = reads_none src;
+    written = same ∙ sym (append-nil before);
   }
 
--- the same, where the rest is a list of its own
-pub gathers_on : {units_of : ℕ → List ℕ} {Means : List ℕ → ℕ → Type 0} {src rest : List ℕ} {a n : ℕ}
-    {before mid after : List ℕ} → GathersChars units_of Means src a before mid
-    → rest ≡ drop a src → GathersChars units_of Means rest n mid after
-    → GathersChars units_of Means src (a + n) before after
-gathers_on {units_of} {Means} {n = n} {mid = mid} {after = after} first rest_is then_more =
-    gathers_then first
-    (subst (λ z. GathersChars units_of Means z n mid after) rest_is then_more)
+  pub gathers_then : {src : List ℕ} {a n : ℕ} {before mid after : List ℕ}
+      → GathersChars units_of Means src a before mid
+      → GathersChars units_of Means (drop a src) n mid after
+      → GathersChars units_of Means src (a + n) before after
+  gathers_then {before = before} first then_more =
+      let first_units = units_of_text units_of first.text in
+      let more_units = units_of_text units_of then_more.text in
+      record {
+        text = first.text ++ then_more.text;
+        scalars = scalars-append first.text then_more.text first.scalars then_more.scalars;
+        reads = reads_then first.reads then_more.reads;
+        written = then_more.written ∙ ap (λ z. z ++ more_units) first.written
+            ∙ append_assoc before first_units more_units
+            ∙ ap (λ z. before ++ z) (sym (units-append units_of first.text then_more.text));
+      }
 
-pub gathers_own : {units_of : ℕ → List ℕ} {Means : List ℕ → ℕ → Type 0} {src : List ℕ} {n : ℕ}
-    {before after : List ℕ}
-    → ((bs : List ℕ) → AreAscii bs → units_of_text units_of bs ≡ bs) → n ≤ length src
-    → AreWrittenAsThemselves Means (take n src)
-    → after ≡ before ++ take n src → GathersChars units_of Means src n before after
-gathers_own {Means = Means} {src = src} {n = n} {before = before} alone w own e =
-    let are_ascii : AreAscii (take n src) = λ k d l. (own k d l).0 in
-    record {
-      text = take n src;
-      scalars = ascii_scalars (take n src) are_ascii;
-      reads = reads_own Means src n w own;
-      written = e ∙ ap (λ z. before ++ z) (sym (alone (take n src) are_ascii));
-    }
+  -- the same, where the rest is a list of its own
+  pub gathers_on : {src rest : List ℕ} {a n : ℕ} {before mid after : List ℕ}
+      → GathersChars units_of Means src a before mid → rest ≡ drop a src
+      → GathersChars units_of Means rest n mid after
+      → GathersChars units_of Means src (a + n) before after
+  gathers_on {n = n} {mid = mid} {after = after} first rest_is then_more =
+      gathers_then first
+      (subst (λ z. GathersChars units_of Means z n mid after) rest_is then_more)
 
-pub gathers_ascii : {units_of : ℕ → List ℕ} {Means : List ℕ → ℕ → Type 0} {src : List ℕ} {n : ℕ}
-    {before after : List ℕ}
-    → ((b : ℕ) → b < 0x80 → Means (b ∷ []) b)
-    → ((bs : List ℕ) → AreAscii bs → units_of_text units_of bs ≡ bs) → n ≤ length src
-    → AreAscii (take n src)
-    → after ≡ before ++ take n src → GathersChars units_of Means src n before after
-gathers_ascii {Means = Means} {src = src} {n = n} h alone w are_ascii e =
-    gathers_own alone w (own_ascii Means (take n src) h are_ascii) e
+  -- bytes that are their own characters, and their own code units
+  pub gathers_own : {src : List ℕ} {n : ℕ} {before after : List ℕ}
+      → ((bs : List ℕ) → AreAscii bs → units_of_text units_of bs ≡ bs) → n ≤ length src
+      → AreWrittenAsThemselves Means (take n src) → after ≡ before ++ take n src
+      → GathersChars units_of Means src n before after
+  gathers_own {src} {n} {before} own_units within own stored =
+      let are_ascii : AreAscii (take n src) = λ k d inside. (own k d inside).0 in
+      record {
+        text = take n src;
+        scalars = ascii_scalars (take n src) are_ascii;
+        reads = reads_own within own;
+        written = stored ∙ ap (λ z. before ++ z) (sym (own_units (take n src) are_ascii));
+      }
 
--- the same, where the code units are those of the text
-pub gathers_kept_ascii : {units_of : ℕ → List ℕ} {Means : List ℕ → ℕ → Type 0} {src : List ℕ}
-    {n : ℕ} {before after : List ℕ}
-    → ((b : ℕ) → b < 0x80 → Means (b ∷ []) b) → n ≤ length src → AreAscii (take n src)
-    → after ≡ before ++ units_of_text units_of (take n src)
-    → GathersChars units_of Means src n before after
-gathers_kept_ascii {Means = Means} {src = src} {n = n} h w are_ascii e = record {
-  text = take n src;
-  scalars = ascii_scalars (take n src) are_ascii;
-  reads = reads_own Means src n w (own_ascii Means (take n src) h are_ascii);
-  written = e;
-}
+  pub gathers_ascii : {src : List ℕ} {n : ℕ} {before after : List ℕ} → KeepsAscii Means
+      → ((bs : List ℕ) → AreAscii bs → units_of_text units_of bs ≡ bs) → n ≤ length src
+      → AreAscii (take n src) → after ≡ before ++ take n src
+      → GathersChars units_of Means src n before after
+  gathers_ascii {src} {n} keeps own_units within are_ascii stored =
+      gathers_own own_units within (own_ascii Means (take n src) keeps are_ascii) stored
 
-pub gathers_one : {units_of : ℕ → List ℕ} {Means : List ℕ → ℕ → Type 0} {src : List ℕ} {n : ℕ}
-    (c : ℕ)
-    {before after : List ℕ}
-    → 0 < n → n ≤ length src → IsScalar c
-    → Means (take n src) c → after ≡ before ++ units_of c
-    → GathersChars units_of Means src n before after
-gathers_one {units_of} {Means} {src} {n} c {before} h w i m e = record {
-  text = c ∷ [];
-  scalars = one_scalar c i;
-  reads = reads_one Means src n c h w m;
-  written = e ∙ ap (λ z. before ++ z) (sym (append-nil (units_of c)));
-}
+  -- the same, where the code units are those of the text
+  pub gathers_kept_ascii : {src : List ℕ} {n : ℕ} {before after : List ℕ} → KeepsAscii Means
+      → n ≤ length src → AreAscii (take n src)
+      → after ≡ before ++ units_of_text units_of (take n src)
+      → GathersChars units_of Means src n before after
+  gathers_kept_ascii {src} {n} keeps within are_ascii stored = record {
+    text = take n src;
+    scalars = ascii_scalars (take n src) are_ascii;
+    reads = reads_own within (own_ascii Means (take n src) keeps are_ascii);
+    written = stored;
+  }
+
+  pub gathers_one : {src : List ℕ} {n : ℕ} (c : ℕ) {before after : List ℕ} → 0 < n
+      → n ≤ length src → IsScalar c → Means (take n src) c → after ≡ before ++ units_of c
+      → GathersChars units_of Means src n before after
+  gathers_one c {before} some within scalar means stored = record {
+    text = c ∷ [];
+    scalars = one_scalar c scalar;
+    reads = reads_one c some within means;
+    written = stored ∙ ap (λ z. before ++ z) (sym (append-nil (units_of c)));
+  }
+
+  -- gathered characters are put out
+  pub puts_gathered : {before after : Output} {src : List ℕ} {n : ℕ} {units : List ℕ}
+      → GathersChars units_of Means src n [] units → length units ≤ before.room
+      → after ≡ with_appended before units → PutsPieces units_of Means before after src n
+  puts_gathered {before} gathers fits appended = record {
+    text = gathers.text;
+    scalars = gathers.scalars;
+    reads = gathers.reads;
+    fits = omega (arith, ap length gathers.written);
+    written = appended ∙ ap (with_appended before) gathers.written;
+  }
 
 -- a byte that is a character
 module _ {Means : List ℕ → ℕ → Type 0} {src : List ℕ} {read : ℕ} {before mid after : List ℕ}
@@ -161,28 +166,3 @@ module _ {Means : List ℕ → ℕ → Type 0} {src : List ℕ} {read : ℕ} {be
   gathers_byte_unit {unit} fits is_unit gathers stored =
       gathers_single unit is_unit.scalar is_unit.means gathers
       (stored ∙ ap (λ z. mid ++ z) (sym (one_unit unit fits)))
-
--- gathered characters are put out
-pub puts_gathered : {units_of : ℕ → List ℕ} {Means : List ℕ → ℕ → Type 0} {before after : Output}
-    {src : List ℕ} {n : ℕ}
-    {units : List ℕ}
-    → GathersChars units_of Means src n [] units
-    → length units ≤ before.room → after ≡ with_appended before units
-    → PutsPieces units_of Means before after src n
-puts_gathered {before = before} gathers f e = record {
-  text = gathers.text;
-  scalars = gathers.scalars;
-  reads = gathers.reads;
-  fits = omega (arith, ap length gathers.written);
-  written = e ∙ ap (with_appended before) gathers.written;
-}
-
--- the same after what is put out already, where the rest is a list of its own
-module _ {units_of : ℕ → List ℕ} {Means : List ℕ → ℕ → Type 0} {before mid after : Output}
-    {src rest units : List ℕ}
-    {a n : ℕ} where
-  pub then_gathered : rest ≡ drop a src → PutsPieces units_of Means before mid src a
-      → GathersChars units_of Means rest n [] units
-      → length units ≤ mid.room → after ≡ with_appended mid units
-      → PutsPieces units_of Means before after src (a + n)
-  then_gathered e p gathers f w = then_rest e p (puts_gathered gathers f w)

@@ -1,5 +1,5 @@
 -- Characters of one byte or two.
-use Rattle.std.proofs.Common.{◌≡◌, ◌∙◌, ℕ, suc, ◌+◌, ◌-◌, ◌/◌, ◌%◌, ◌^◌, ◌<◌, ◌≤◌, Bool, true, false, List, []}
+use Rattle.std.proofs.Common.{◌≡◌, ◌∙◌, ℕ, suc, ◌+◌, ◌-◌, ◌/◌, ◌%◌, ◌^◌, ◌≤◌, Bool, true, false, List, []}
 use Rattle.std.proofs.Common.{◌∷◌, length, take, drop, get_or, ap, sym, subst, arith, length-drop, drop-cons}
 use Rattle.std.proofs.Common.{eqb-true, refl}
 use Rattle.std.proofs.lemmas.Bool.{eqb-false}
@@ -53,13 +53,6 @@ module _ (src : List ℕ) (leads read next : ℕ)
 -- places
 
 module _ (StandsFor : ℕ → List ℕ → Type 0) (places : List ℕ) (leads : ℕ) (src : List ℕ) where
-  -- the place of the character that begins at `read`
-  pub place_of_next : (from read : ℕ) → read < 8
-      → ArePlaces StandsFor 8 (drop from places) leads src (drop 1 src)
-      → StandsFor (get_or places (from + read) 0)
-      (byte_or_pair (has_bit leads read) (get_or src read 0) (get_or (drop 1 src) read 0))
-  place_of_next from read below are = rw (← get_or-drop from places read 0) (are read below)
-
   -- the places of the bytes after the first n
   pub places_after : (n : ℕ) → n ≤ 8 → ArePlaces StandsFor 16 places leads src (drop 1 src)
       → ArePlaces StandsFor 8 (drop n places) (leads / 2 ^ n) (drop n src) (drop 1 (drop n src))

@@ -1,10 +1,11 @@
 -- The code units of the first bytes of UTF-8, which a loop writes to the front of a slice.
 use Rattle.std.proofs.Common.{◌≡◌, ◌∙◌, ℕ, ◌+◌, ◌≤◌, List, ◌++◌, length, take, drop, ap, arith}
+use Rattle.std.proofs.Common.{refl}
 use Rattle.enc_units.specs.Utf8Units.{units_from}
 use Rattle.enc_units.specs.Validity.{IsWellFormedUtf8}
 use Rattle.enc_units.proofs.LengthLemmas.{lengths}
 use Rattle.enc_units.proofs.Utf8CountLemmas.{enough_units}
-use Rattle.enc_units.proofs.Utf8UnitsLemmas.{units_further, units_few, units_cover, dropped_beyond}
+use Rattle.enc_units.proofs.Utf8UnitsLemmas.{units_further, units_few, units_cover}
 
 -- `read` of `len` bytes are read, and the slice is unchanged after the code units of all
 pub record UnitsWritten (src first dst : List ℕ) (len read written : ℕ) : Type 0 where
@@ -16,23 +17,23 @@ pub record UnitsWritten (src first dst : List ℕ) (len read written : ℕ) : Ty
   pub rest : drop (length (units_from src 0 len)) dst ≡ drop (length (units_from src 0 len)) first
 
 -- those of n bytes more are stored after them
-pub written_further : {src first dst new : List ℕ} {len read written next after : ℕ} (n reach : ℕ)
-    → UnitsWritten src first dst len read written → next ≡ read + n → next ≤ len
+pub written_further : {src first dst new : List ℕ} {len read written after : ℕ} (n : ℕ)
+    → UnitsWritten src first dst len read written → read + n ≤ len
     → length new ≡ length dst → after ≤ length new
     → take after new ≡ take written dst ++ units_from src read n
-    → drop reach new ≡ drop reach dst → reach ≤ length (units_from src 0 len)
-    → UnitsWritten src first new len next after
-written_further {src} {dst = dst} {new = new} {len = len} {read = read} {next = next} {after = after} n reach
-    written next_is within long inside stored same beyond =
-    let front = units_further src 0 read read n next written.front stored (omega arith) next_is in
-    let count : after ≡ length (units_from src 0 next) = omega (arith, lengths, ap length front) in
+    → drop (length (units_from src 0 len)) new ≡ drop (length (units_from src 0 len)) dst
+    → UnitsWritten src first new len (read + n) after
+written_further {src} {read = read} {after = after} n writes within long inside stored same =
+    let front = units_further src 0 read read n (read + n) writes.front stored (omega arith) refl in
+    let count : after ≡ length (units_from src 0 (read + n)) =
+    omega (arith, lengths, ap length front) in
     record {
       within = within;
-      few = omega (arith, count, units_few src 0 next);
-      long = long ∙ written.long;
+      few = omega (arith, count, units_few src 0 (read + n));
+      long = long ∙ writes.long;
       count = count;
       front = front;
-      rest = dropped_beyond reach _ new dst beyond same ∙ written.rest;
+      rest = same ∙ writes.rest;
     }
 
 -- in front of the last 52 bytes, sixteen code units fit in the place of those to come

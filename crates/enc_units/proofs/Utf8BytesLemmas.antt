@@ -12,7 +12,7 @@ use Rattle.enc_units.proofs.PutLemmas.{put_one}
 use Rattle.enc_units.proofs.Utf16MappedLemmas.{clamped_at, unclamped}
 use Rattle.enc_units.proofs.Utf8MappedLemmas.{short_at, own_written}
 use Rattle.enc_units.proofs.Utf8UnitLanes.{IsLanes, lane_at, splat_lanes, below_lanes, chosen_lanes, firsts, two, twos}
-use Rattle.enc_units.proofs.WriteLoopLemmas.{writes_one, writes_on}
+use Rattle.enc_units.proofs.WriteLoopLemmas.{of_same, writes_one, writes_then}
 
 -- what sixteen bytes begin
 
@@ -85,12 +85,10 @@ module _ {Means : List ℕ → ℕ → Type 0} where
       → WritesFront chars IsUtf8 Means (drop from src) before after at n m → IsUtf8 (drop (from + n) src)
   later_utf8 src from {n = n} writes = subst IsUtf8 (drop-drop n from src) writes.rest
 
-  pub writes_further : (src : List ℕ) (from : ℕ) {before mid after : List ℕ} {at n m k j : ℕ}
-      → WritesFront chars IsUtf8 Means (drop from src) before mid at n m
-      → WritesFront chars IsUtf8 Means (drop (from + n) src) mid after (at + m) k j
-      → WritesFront chars IsUtf8 Means (drop from src) before after at (n + k) (m + j)
-  writes_further src from {n = n} first then_more =
-      writes_on first (sym (drop-drop n from src)) then_more
+  pub of_rest : (src : List ℕ) (from n : ℕ) {before after : List ℕ} {at k j : ℕ}
+      → WritesFront chars IsUtf8 Means (drop (from + n) src) before after at k j
+      → WritesFront chars IsUtf8 Means (drop n (drop from src)) before after at k j
+  of_rest src from n writes = of_same (sym (drop-drop n from src)) writes
 
   -- four characters of lanes, one after another
   module _ {text units : List ℕ} {leads : ℕ} (lanes : AreLanesOf text units leads)
@@ -100,15 +98,16 @@ module _ {Means : List ℕ → ℕ → Type 0} where
         → WritesFront chars IsUtf8 Means (drop place text) first dst at read count → 0 < byte
         → Means (byte ∷ []) (get_or units (place + read) 0)
         → (get_or units (place + read) 0 ≡ 0x7FF → byte ≡ 0) → at + count < length dst
-        → WritesFront chars IsUtf8 Means (drop place text) first (set dst (at + count) byte) at next (count + 1)
+        → WritesFront chars IsUtf8 Means (drop place text) first (set dst (at + count) byte) at next
+        (count + 1)
     four_further {first} {dst} {read} {count} {at} byte here ends writes some means last room =
         let char_is = unclamped _ _ byte (lanes.unit (place + read) here) some last in
         let lead = ap (λ x. x % 2) (shr-shr leads place read) ∙ lanes.lead (place + read) here in
         let ends_at = ap (λ bit. read + 1 + bit) lead in
         let width : read + (1 + lead_bit (get_or text (place + read) 0))
         ≡ read + 1 + lead_bit (get_or text (place + read) 0) = omega arith in
-        subst (λ n. WritesFront chars IsUtf8 Means (drop place text) first (set dst (at + count) byte) at n (count + 1))
-        (width ∙ sym (ends ∙ ends_at))
-        (writes_further text place writes (short_written text (place + read) byte
+        subst (λ n. WritesFront chars IsUtf8 Means (drop place text) first
+        (set dst (at + count) byte) at n (count + 1)) (width ∙ sym (ends ∙ ends_at))
+        (writes_then writes (of_rest text place read (short_written text (place + read) byte
         (later_utf8 text place writes)
-        (omega arith) char_is.1 (omega (arith, char_is.0, char_is.1)) means room))
+        (omega arith) char_is.1 (omega (arith, char_is.0, char_is.1)) means room)))

@@ -13,7 +13,7 @@ use Rattle.std.specs.List.{range_with_len}
 use lib.Lanes.{zip2, mask_l, top, sel_l, Each1}
 use mir.Val.{Fits}
 use Rattle.enc_units.specs.Utf8Units.{gives_unit, code_unit_of_byte}
-use Rattle.enc_units.proofs.Utf8Lanes.{IsFlags, at_least, below, either, none_set, flag_bit}
+use Rattle.enc_units.proofs.Utf8Lanes.{IsFlags, at_least, below, either, none_set, flag_bit, top_flag}
 
 abbrev places : List ℕ
 places = range_with_len 0 16
@@ -43,6 +43,9 @@ widened bs long = record {
   is = ap (map (λ b. b)) (sym (pick_l_whole 0 bs 16 long))
       ∙ map-map (λ (b : ℕ). b) (λ k. get_or bs k 0) places;
 }
+
+pub own_lanes : (xs : List ℕ) → length xs ≡ 16 → IsLanes xs (λ k. get_or xs k 0)
+own_lanes xs long = record { is = sym (pick_l_whole 0 xs 16 long) }
 
 pub splat_lanes : (n : ℕ) → IsLanes (replicate 16 n) (λ _. n)
 splat_lanes n = record { is = splat_is_map places 16 n refl }
@@ -77,18 +80,29 @@ pub choices : (t : ℕ → Bool) (f g : ℕ → ℕ) (ks : List ℕ)
 choices t f g [] = refl
 choices t f g (k ∷ ks) = ap (λ z. cond (t k) (f k) (g k) ∷ z) (choices t f g ks)
 
+-- lanes that a comparison of lanes of some width chooses
+module _ (n : ℕ) (flag : Bool → ℕ) (tops : (t : Bool) → top n (flag t) ≡ t) where
+  chosen_by : (t : ℕ → Bool) {f g : ℕ → ℕ} {m xs ys : List ℕ} → m ≡ map (λ k. flag (t k)) places
+      → IsLanes xs f → IsLanes ys g
+      → IsLanes (sel_l (map (top n) m) xs ys) (λ k. cond (t k) (f k) (g k))
+  chosen_by t {f} {g} {m} {xs} {ys} flags first second =
+      let tests : map (top n) m ≡ map t places =
+      ap (map (top n)) flags ∙ map-map (top n) (λ j. flag (t j)) places
+      ∙ ap (λ (h : ℕ → Bool). map h places) (λ i j. tops (t j) i) in
+      record {
+        is = ap (λ l. sel_l l xs ys) tests ∙ ap (λ z. sel_l (map t places) z ys) first.is
+            ∙ ap (λ z. sel_l (map t places) (map f places) z) second.is ∙ choices t f g places;
+      }
+
 pub chosen_lanes : (t : ℕ → Bool) {f g : ℕ → ℕ} {m xs ys : List ℕ}
-    → IsLanes m (λ k. wide_flag (t k)) → IsLanes xs f
-    → IsLanes ys g
+    → IsLanes m (λ k. wide_flag (t k)) → IsLanes xs f → IsLanes ys g
     → IsLanes (sel_l (map (top 15) m) xs ys) (λ k. cond (t k) (f k) (g k))
-chosen_lanes t {f} {g} {m} {xs} {ys} p q r =
-    let tops : map (top 15) m ≡ map t places =
-    ap (map (top 15)) p.is ∙ map-map (top 15) (λ j. wide_flag (t j)) places
-    ∙ ap (λ (h : ℕ → Bool). map h places) (λ i j. wide_top (t j) i) in
-    record {
-      is = ap (λ l. sel_l l xs ys) tops ∙ ap (λ x. sel_l (map t places) x ys) q.is
-          ∙ ap (λ y. sel_l (map t places) (map f places) y) r.is ∙ choices t f g places;
-    }
+chosen_lanes t flags = chosen_by 15 wide_flag wide_top t flags.is
+
+pub chosen_bytes : (t : ℕ → Bool) {f g : ℕ → ℕ} {m xs ys : List ℕ}
+    → m ≡ map (λ k. cond (t k) 255 0) places → IsLanes xs f → IsLanes ys g
+    → IsLanes (sel_l (map (top 7) m) xs ys) (λ k. cond (t k) (f k) (g k))
+chosen_bytes t flags = chosen_by 7 (λ t. cond t 255 0) top_flag t flags
 
 -- the code units of characters of at most three bytes
 

@@ -96,14 +96,12 @@ module _ {chars_in : List ℕ → List ℕ} {Rest : List ℕ → Type 0} {Means 
             j) later then_more.writes);
       }
 
-  -- the same, where the rest is a list of its own
-  pub writes_on : {text rest before mid after : List ℕ} {at n m k j : ℕ}
-      → WritesFront chars_in Rest Means text before mid at n m → rest ≡ drop n text
-      → WritesFront chars_in Rest Means rest mid after (at + m) k j
-      → WritesFront chars_in Rest Means text before after at (n + k) (m + j)
-  writes_on {mid = mid} {after = after} {at = at} {m = m} {k = k} {j = j} first rest_is then_more =
-      writes_then first
-      (subst (λ z. WritesFront chars_in Rest Means z mid after (at + m) k j) rest_is then_more)
+  -- the same of an equal text
+  pub of_same : {text other before after : List ℕ} {at n m : ℕ} → text ≡ other
+      → WritesFront chars_in Rest Means text before after at n m
+      → WritesFront chars_in Rest Means other before after at n m
+  of_same {before = before} {after = after} {at = at} {n = n} {m = m} same writes =
+      subst (λ z. WritesFront chars_in Rest Means z before after at n m) same writes
 
 -- the invariant of a loop that writes from `from` on, and has come to `at`
 module _ (chars_in : List ℕ → List ℕ) (Rest : List ℕ → Type 0) (Means : List ℕ → ℕ → Type 0) where
@@ -136,11 +134,11 @@ module _ {chars_in : List ℕ → List ℕ} {Rest : List ℕ → Type 0} {Means 
       (written_from (writes_none fits rest))
 
   -- the loop goes on
-  pub written_then : {text rest first dst new : List ℕ} {from read at n k : ℕ}
-      → Written chars_in Rest Means text first dst from read at → rest ≡ drop read text
-      → WritesFront chars_in Rest Means rest dst new at n k
+  pub written_then : {text first dst new : List ℕ} {from read at n k : ℕ}
+      → Written chars_in Rest Means text first dst from read at
+      → WritesFront chars_in Rest Means (drop read text) dst new at n k
       → Written chars_in Rest Means text first new from (read + n) (at + k)
-  written_then {text} {rest} {first} {dst} {new} {from} {read} {at} {n} {k} written rest_is more =
+  written_then {text} {first} {dst} {new} {from} {read} {at} {n} {k} written more =
       let place : at ≡ from + (at - from) = omega (arith, written.ahead) in
       let count : at - from + k ≡ at + k - from = omega (arith, written.ahead) in
       let long : length new ≡ length dst = same_length more.writes in
@@ -149,6 +147,6 @@ module _ {chars_in : List ℕ → List ℕ} {Rest : List ℕ → Type 0} {Means 
         long = long ∙ written.long;
         room = omega (arith, long, more.writes.fits);
         front = subst (WritesFront chars_in Rest Means text first new from (read + n)) count
-            (writes_on written.front rest_is
-            (subst (λ x. WritesFront chars_in Rest Means rest dst new x n k) place more));
+            (writes_then written.front
+            (subst (λ x. WritesFront chars_in Rest Means (drop read text) dst new x n k) place more));
       }

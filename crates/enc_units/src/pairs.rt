@@ -1,6 +1,6 @@
 //! Characters of one byte or two, eight at a time, with no branch on their lengths.
 
-ghost use Rattle.std.specs.Prelude.{◌≡◌, ℕ, ◌+◌, ◌/◌, ◌^◌, ◌<◌, ◌≤◌, List, [], ◌∷◌, length, take, drop};
+ghost use Rattle.std.specs.Prelude.{◌≡◌, ℕ, ◌+◌, ◌<◌, ◌≤◌, List, [], ◌∷◌, length, take, drop};
 ghost use Rattle.std.specs.Char.{encode_utf8};
 ghost use Rattle.std.specs.Char.Escape.{encode_utf16};
 ghost use Rattle.enc_units.specs.Gathering.{GathersChars};
@@ -25,15 +25,9 @@ pub(crate) fn ends_of(leads: u64) -> [u8; 4]
     ENDS[(leads % 0x100) as usize]
 }
 
-/// The places at which sixteen bytes are looked up, and a bit for each lead of a pair.
-#[derive(Clone, Copy)]
-struct LookUps {
-    places: [u16; 16],
-    leads: u64,
-}
-
 /// Stores four characters, or those before one that is not known, after the first `at` code units
-/// of a buffer. The first is looked up at place number `from`.
+/// of a buffer. They are looked up at the first of `places`, and the bit of the first is the lowest
+/// of `leads`.
 ///
 /// Returns how many bytes the characters have, the end of their code units, and whether they are
 /// four.
@@ -42,28 +36,27 @@ fn store_four<B: BufferUnit, P: Pieces>(
     pieces: P,
     buffer: &mut [B],
     at: usize,
-    lookups: &LookUps,
-    from: usize,
+    places: &[u16],
+    leads: u64,
 ) -> (usize, usize, bool)
-    requires from { from ≤ 8 }
-    requires places { EachIsPlace (P.stands_for pieces) lookups.now.places }
+    requires long { 8 ≤ length places.now }
+    requires places { EachIsPlace (P.stands_for pieces) 8 places.now }
     requires room { at + 16 ≤ length (B.units buffer.old) }
     ensures read { result.0 ≤ 8 }
     ensures bound { result.1 ≤ at + 16 }
     ensures len { length (B.units buffer.new) ≡ length (B.units buffer.old) }
     ensures gathers { (src : List ℕ) → 8 ≤ length src
-        → ArePlaces (P.stands_for pieces) 8 (drop from lookups.now.places)
-        (lookups.now.leads / 2 ^ from) src (drop 1 src)
+        → ArePlaces (P.stands_for pieces) 8 places.now leads src (drop 1 src)
         → GathersChars B.units_of (P.means pieces) src result.0
         (take at (B.units buffer.old)) (take result.1 (B.units buffer.new)) }
 {
-    let ends = ends_of(lookups.leads >> from as u64);
+    let ends = ends_of(leads);
     let mut read = 0;
     let mut end = at;
     let mut count = 0;
     while count < 4 {
         let next = ends[count] as usize;
-        let Some(stored) = B::store_place(buffer, end, pieces, lookups.places[from + read]) else {
+        let Some(stored) = B::store_place(buffer, end, pieces, places[read]) else {
             return (read, end, false);
         };
         end = stored;
@@ -79,23 +72,25 @@ fn store_eight<B: BufferUnit, P: Pieces>(
     pieces: P,
     buffer: &mut [B],
     at: usize,
-    lookups: &LookUps,
+    places: &[u16; 16],
+    leads: u64,
 ) -> (usize, usize)
-    requires places { EachIsPlace (P.stands_for pieces) lookups.now.places }
+    requires places { EachIsPlace (P.stands_for pieces) 16 places.now }
     requires room { at + 32 ≤ length (B.units buffer.old) }
     ensures read { result.0 ≤ 16 }
     ensures bound { result.1 ≤ at + 32 }
     ensures len { length (B.units buffer.new) ≡ length (B.units buffer.old) }
     ensures gathers { (src : List ℕ) → 16 ≤ length src
-        → ArePlaces (P.stands_for pieces) 16 lookups.now.places lookups.now.leads src (drop 1 src)
+        → ArePlaces (P.stands_for pieces) 16 places.now leads src (drop 1 src)
         → GathersChars B.units_of (P.means pieces) src result.0
         (take at (B.units buffer.old)) (take result.1 (B.units buffer.new)) }
 {
-    let (first, end, is_whole) = store_four(pieces, buffer, at, lookups, 0);
+    let (first, end, is_whole) = store_four(pieces, buffer, at, places, leads);
     if !is_whole {
         return (first, end);
     }
-    let (second, end, _) = store_four(pieces, buffer, end, lookups, first);
+    let (_, rest) = places.split_at(first);
+    let (second, end, _) = store_four(pieces, buffer, end, rest, leads >> first as u64);
     (first + second, end)
 }
 
@@ -132,11 +127,8 @@ fn gather_pairs<B: BufferUnit, P: Pieces>(
         let Some(found) = pieces.places(lanes, next) else {
             break;
         };
-        let lookups = LookUps {
-            places: found.places.to_array(),
-            leads: found.leads,
-        };
-        let (more, end) = store_eight(pieces, buffer, written, &lookups);
+        let places = found.places.to_array();
+        let (more, end) = store_eight(pieces, buffer, written, &places, found.leads);
         read += more;
         written = end;
         if more > 0 {

@@ -124,7 +124,9 @@ fn marks_of(before: u8x16, bytes: u8x16) -> u64
 #[inline(always)]
 pub(crate) fn pick(bytes: u8x16, places: u8x16) -> u8x16
     requires { (k : ℕ) → k < 16 → slice_index places k < 16 }
-    ensures { result ≡ map (λ place. slice_index bytes place) places }
+    ensures list { result ≡ map (λ place. slice_index bytes place) places }
+    ensures lanes { (k : ℕ) → k < 16 → slice_index result k
+        ≡ slice_index bytes (slice_index places k) }
 {
     bytes.swizzle_dyn(places)
 }

@@ -1,4 +1,5 @@
-use Rattle.enc_units.proofs.Utf8BytesLemmas.{later_utf8, writes_further}
+use Rattle.enc_units.proofs.Utf8BytesLemmas.{later_utf8, of_rest}
+use Rattle.enc_units.proofs.WriteLoopLemmas.{writes_then}
 use Rattle.enc_units.proofs.utf8_bytes.put_sixteen.Goals as goal
 
 pub put_eight-second-requires-clause-utf8 : goal.put_eight-second-requires-clause-utf8
@@ -6,4 +7,5 @@ put_eight-second-requires-clause-utf8 g c = later_utf8 c.args.src.now c.args.fro
 
 pub returns-clause-writes : goal.returns-clause-writes
 returns-clause-writes g c =
-    writes_further c.args.src.now c.args.from c.put_eight-first.ensures.writes c.put_eight-second.ensures.writes
+    writes_then c.put_eight-first.ensures.writes
+    (of_rest c.args.src.now c.args.from _ c.put_eight-second.ensures.writes)

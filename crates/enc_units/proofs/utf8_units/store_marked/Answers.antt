@@ -15,7 +15,7 @@ returns-clause-stored c =
     stores_marked args.at args.marks args.units _ _ args.buffer.now c.requires c.fits-units.0
     c.fits-units.1
     (row_long mask (omega arith)) (row_is mask (omega arith))
-    c.pick.ensures
+    c.pick.ensures.list
 
 pub returns-clause-rest : goal.returns-clause-rest
 returns-clause-rest c =

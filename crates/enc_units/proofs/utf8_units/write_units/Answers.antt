@@ -1,3 +1,4 @@
+use Rattle.std.proofs.Common.{refl}
 use Rattle.std.proofs.Common.{◌≡◌, ◌∙◌, ◌+◌, ◌-◌, ◌≤◌, ◌++◌, length, take, drop, ap, sym, arith}
 use Rattle.enc_units.specs.Utf8Units.{units_from}
 use Rattle.enc_units.proofs.LengthLemmas.{lengths}
@@ -34,20 +35,22 @@ loop-read-preserved c =
     omega (arith, gathered.few, gathered.within, written.few, written.long) in
     let put = put_part state.written end state.dst c.copy_from_slice.ensures.after count room in
     let long = put_length put in
-    let whole : next ≡ state.read + (next - state.read) = omega (arith, gathered.some) in
+    let n = next - state.read in
+    let whole : state.read + n ≡ next = omega (arith, gathered.some) in
     let stored = put_front put
     ∙ ap (λ z. take state.written state.dst ++ z) gathered.gathered in
-    let front = units_further c.args.src.now 0 state.read state.read (next - state.read) next written.front
-    stored (omega arith) whole in (
-      gathered.len ∙ state.invariant.0,
-      written_further (next - state.read) (state.written + end) written whole gathered.within long
-          (omega (arith, long, room)) stored (put_rest put _ (omega arith))
-          (omega (
-            arith,
-            lengths,
-            ap length front,
-            long,
-            room,
-            units_grow c.args.src.now next c.args.len gathered.within,
-          )),
-    )
+    let front = units_further c.args.src.now 0 state.read state.read n (state.read + n)
+    written.front stored (omega arith) refl in
+    let all : state.written + end ≤ length (units_from c.args.src.now 0 c.args.len) =
+    omega (
+      arith,
+      lengths,
+      ap length front,
+      long,
+      room,
+      whole,
+      units_grow c.args.src.now (state.read + n) c.args.len (omega (arith, whole, gathered.within)),
+    ) in
+    let further = written_further n written (omega (arith, whole, gathered.within)) long
+    (omega (arith, long, room)) stored (put_rest put _ all) in
+    (gathered.len ∙ state.invariant.0, rw whole at further)
