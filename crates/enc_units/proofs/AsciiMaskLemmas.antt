@@ -4,6 +4,7 @@ use Rattle.std.proofs.Common.{take, drop, replicate, ap, subst, arith, length-dr
 use Rattle.std.proofs.lemmas.List.{drop-map, drop-take, take-take}
 use lib.Count.{count_trailing_zeros}
 use lib.Lanes.{zip2, mask_l, top}
+use Rattle.enc_units.proofs.LengthLemmas.{lengths}
 use Rattle.enc_units.specs.Validity.{AreAscii}
 use Rattle.enc_units.proofs.LaneLemmas.{splat_mask_of, mask_after, before_lowest}
 
@@ -16,7 +17,7 @@ pub ascii_after : (xs : List ℕ) (from n : ℕ) → length xs ≡ 64 → from +
 ascii_after xs from n long within h k d l =
     let mask = ap (λ m. m / 2 ^ from) (splat_mask_of 64 (omega arith) w8 leb 128 xs long)
     ∙ mask_after from (map (leb 128) xs) ∙ ap mask_l (drop-map (leb 128) from xs) in
-    let left : length (drop from xs) ≡ 64 - from = omega (arith, length-drop from xs) in
+    let left : length (drop from xs) ≡ 64 - from = omega (arith, lengths) in
     leb-false _ _ (before_lowest (leb 128) (drop from xs) n (omega arith) (omega arith)
     (subst (λ m. n ≤ count_trailing_zeros 64 m) mask h) k d l)
 

@@ -1,4 +1,5 @@
 -- The first lanes of a vector that are stored, where the others keep what was there.
+use Rattle.enc_units.proofs.LengthLemmas.{lengths}
 use Rattle.std.proofs.Common.{◌≡◌, ℕ, zero, suc, ◌+◌, ◌≤◌, cond, ltb, List, [], ◌∷◌, ◌++◌, map, length, take, drop}
 use Rattle.std.proofs.Common.{replicate, lt-ltb, le-ltb, refl, ap, ◌∙◌, sym, arith, append_assoc, drop-drop}
 use Rattle.std.proofs.Common.{length-append, length-drop, length-take, take-append-drop, w8}
@@ -36,16 +37,9 @@ stored_front m at n numbers old lanes are_numbers all fits few long =
     let old_rest = drop at old in
     let old_lanes = take m old_rest in
     let old_long : length old_lanes ≡ m =
-    omega (arith, length-take m old_rest, length-drop at old) in
+    omega (arith, lengths) in
     let ys = take n lanes ++ drop n old_lanes in
-    let ys_long : length ys ≡ m = omega (
-      arith,
-      length-append (take n lanes) (drop n old_lanes),
-      length-take n lanes,
-      length-drop n old_lanes,
-      long,
-      old_long,
-    ) in
+    let ys_long : length ys ≡ m = omega (arith, lengths, long, old_long) in
     let flags = tops_compared w8 ltb numbers (replicate m n) ∙ zip2_splat ltb numbers m n all
     ∙ ap (map (λ k. ltb k n)) are_numbers in
     let blended = ap (λ ms. sel_l ms lanes old_lanes) flags

@@ -15,6 +15,7 @@ use Rattle.std.specs.Int.{to_le_bytes}
 use lib.Lanes.{Each1, put_chunk}
 use mir.Syntax.{w16, w32}
 use mir.Val.{Fits}
+use Rattle.enc_units.proofs.LengthLemmas.{lengths}
 use Rattle.enc_units.specs.CodeUnits.{unit_of, units_of_bytes, AreCodeUnits, unit_word, bytes_of_words}
 use Rattle.enc_units.specs.Gathering.{GathersChars}
 use Rattle.enc_units.specs.Output.{AreScalars, units_of_text}
@@ -190,7 +191,7 @@ module _ {Means : List ℕ → ℕ → Type 0} (big : Bool) (mean : AreCodeUnits
         text = take n units;
         scalars = are_scalars;
         reads = subst (λ us. ReadsPieces Means src (n + n) (take n us)) (sym are_units)
-            (reads_wider 16 (reads_units n (take 16 src) (omega (arith, length-take 16 src))
+            (reads_wider 16 (reads_units n (take 16 src) (omega (arith, lengths))
             (subst (λ us. AreScalars (take n us)) are_units are_scalars)));
         written = w;
       })
@@ -207,8 +208,8 @@ module _ {Means : List ℕ → ℕ → Type 0} (big : Bool) (mean : AreCodeUnits
   gathers_lanes n at {read} {src} {units} buffer few inside room are_units are_scalars alone
       gathers =
       let rest = drop read src in
-      let long : 16 ≤ length rest = omega (arith, length-drop read src) in
-      let bytes : length (take 16 rest) ≡ 16 = omega (arith, length-take 16 rest) in
+      let long : 16 ≤ length rest = omega (arith, lengths) in
+      let bytes : length (take 16 rest) ≡ 16 = omega (arith, lengths) in
       let eight = ap length are_units ∙ units_long big 8 (take 16 rest) bytes in
       gathers_then gathers
       (gathers_units n few long are_units are_scalars

@@ -5,6 +5,7 @@ use Rattle.std.proofs.Common.{eqb-true, refl}
 use Rattle.std.proofs.lemmas.Bool.{eqb-false}
 use Rattle.std.proofs.lemmas.List.{get_or-drop, get_or-take}
 use Rattle.std.proofs.lemmas.Nat.{shr-shr}
+use Rattle.enc_units.proofs.LengthLemmas.{lengths}
 use Rattle.enc_units.specs.Gathering.{GathersChars, StoresChar}
 use Rattle.enc_units.specs.Pairs.{byte_or_pair}
 use Rattle.enc_units.specs.Places.{has_bit, ArePlaces}
@@ -46,7 +47,7 @@ module _ (src : List ℕ) (leads read next : ℕ)
       let whole : read + (next - read) ≡ next = omega (arith, ends_at) in
       subst (λ n. GathersChars units_of Means src n before after) whole
       (gathers_then gathers (gathers_one one.char (omega (arith, ends_at))
-      (omega (arith, ends_at, length-drop read src)) one.scalar
+      (omega (arith, lengths, ends_at)) one.scalar
       (subst (λ bytes. Means bytes one.char) (sym (front_is (has_bit leads read) refl)) one.means)
       one.stored))
 

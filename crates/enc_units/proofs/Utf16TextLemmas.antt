@@ -7,6 +7,7 @@ use Rattle.std.proofs.lemmas.Bool.Decides.{nat_tests}
 use Rattle.std.proofs.lemmas.List.{take-take}
 use Rattle.std.specs.Char.{IsScalar, encode_utf8}
 use Rattle.std.specs.Char.Utf16.{utf16_lossy_chars}
+use Rattle.enc_units.proofs.LengthLemmas.{lengths}
 use Rattle.enc_units.specs.Mappings.{AreAnyUnits, AreWrittenAsUtf8, WritesFront}
 use Rattle.enc_units.specs.Output.{AreScalars, units_of_text}
 use Rattle.enc_units.specs.Surrogates.{lossy_unit_char, IsSurrogatePair, IsFirstUtf16Char}
@@ -41,7 +42,7 @@ lossy_scalars (u ∷ us) rest are_scalars =
 pub text_then : {us front more : List ℕ} {a n : ℕ} → AreUtf8OfUnits us a front
     → AreUtf8OfUnits (drop a us) n more → AreUtf8OfUnits us (a + n) (front ++ more)
 text_then {us} {front} {more} {a} {n} first others = record {
-  within = omega (arith, first.within, others.within, length-drop a us);
+  within = omega (arith, lengths, first.within, others.within);
   text = first.text ++ others.text;
   scalars = scalars-append first.text others.text first.scalars others.scalars;
   reads = first.reads ∙ ap (λ z. first.text ++ z) others.reads
@@ -90,7 +91,7 @@ pub text_then_units : (n : ℕ) {us units before after : List ℕ} {a : ℕ}
     → AreScalars (take n units)
     → after ≡ before ++ units_of_text encode_utf8 (take n units) → AreUtf8OfUnits us (a + n) after
 text_then_units n {us} {a = a} first few long are_units are_scalars stored =
-    text_stored first (text_units n few (omega (arith, length-drop a us)) are_units are_scalars)
+    text_stored first (text_units n few (omega (arith, lengths)) are_units are_scalars)
     stored
 
 -- they are written to a slice

@@ -5,6 +5,7 @@ use Rattle.std.proofs.Math.Utf8.{low_scalar}
 use Rattle.std.proofs.lemmas.Str.{length-encode, len_utf8_bounds, encode_ascii}
 use Rattle.std.specs.Char.{encode_utf8}
 use Rattle.std.specs.Str.{encode_utf8_all}
+use Rattle.enc_units.proofs.LengthLemmas.{lengths}
 use Rattle.enc_units.specs.Output.{Output, with_appended, units_of_text}
 use Rattle.enc_units.specs.Validity.{IsWellFormedUtf8}
 use Rattle.enc_units.specs.Pieces.{IsUtf8Char, ReadsPieces, PutsPieces}
@@ -17,8 +18,7 @@ their_units (c ∷ cs) = ap (λ x. encode_utf8 c ++ x) (their_units cs)
 none_of : (cs : List ℕ) → length (encode_utf8_all cs) ≡ 0 → pieces_of encode_utf8 cs ≡ []
 none_of [] e = refl
 none_of (c ∷ cs) e =
-    absurd (omega
-    (arith, length-append (encode_utf8 c) (encode_utf8_all cs), length-encode c, len_utf8_bounds c))
+    absurd (omega (arith, lengths, length-encode c, len_utf8_bounds c))
 
 -- an ASCII byte is its own character
 pub ascii_char : (b : ℕ) → b < 0x80 → IsUtf8Char (b ∷ []) b
@@ -34,7 +34,7 @@ reads_utf8 src n l utf8 = record {
   chars = chars_of encode_utf8 utf8.0;
   mean = they_mean encode_utf8 IsUtf8Char utf8.0
       (λ k d inside. (AreScalars-all utf8.0 utf8.1.0 k d inside, refl));
-  none = λ z. none_of utf8.0 (omega (arith, ap length utf8.1.1, length-take n src));
+  none = λ z. none_of utf8.0 (omega (arith, lengths, ap length utf8.1.1));
 }
 
 -- and well-formed bytes are put out as they are
@@ -47,6 +47,6 @@ puts_utf8 before after src n l f utf8 e =
       text = utf8.0;
       scalars = utf8.1.0;
       reads = reads_utf8 src n l utf8;
-      fits = omega (arith, ap length units, length-take n src);
+      fits = omega (arith, lengths, ap length units);
       written = e ∙ ap (with_appended before) (sym units);
     }

@@ -103,7 +103,7 @@ pub enough_units : (src : List ℕ) (len from : ℕ) → len ≤ length src
 enough_units src len from within utf8 far =
     let bytes : bytes_of utf8.0 ≡ take len src = their_units utf8.0 ∙ utf8.1.1 in
     let long : 0 + length (bytes_of utf8.0) ≡ len =
-    omega (arith, ap length bytes, length-take len src) in
+    omega (arith, lengths, ap length bytes) in
     let enough = subst (λ n. n - from ≤ 3 * length (units_from src from (n - from)) + 4) long
     (counts src utf8.0 utf8.1.0 0 (omega arith) (omega arith)
     (subst (Stand src 0) (sym bytes) (stands src 0 len (omega arith))) from (omega arith)

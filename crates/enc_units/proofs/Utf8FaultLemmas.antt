@@ -13,6 +13,7 @@ use Rattle.std.proofs.lemmas.Simd.{pick_l-range_with_len}
 use Rattle.std.specs.Int.Bits.{or_add_and, xor_assoc, xor_self, xor_zero_l, xor_zero_r}
 use Rattle.std.specs.List.{range_with_len}
 use lib.Lanes.{zip2, mask_l, top, chunk, pick_l}
+use Rattle.enc_units.proofs.LengthLemmas.{lengths}
 use Rattle.enc_units.specs.declared.utf8_faults.TheConstants.{FIRST_UPPER, FIRST_LOWER, SECOND_UPPER}
 use Rattle.enc_units.specs.Utf8Run.{CanFollowBytes, CanFollowBytesAt, IsCharBoundaryAfter, ArePairFaults}
 use Rattle.enc_units.specs.Validity.{IsWellFormedUtf8}
@@ -261,7 +262,7 @@ pub shifted : (n : ℕ) (bytes : List ℕ) → n ≤ 16 → length bytes ≡ 16 
 shifted n bytes few long k h =
     let both : List ℕ = replicate 16 0 ++ bytes in
     let both_long : length both ≡ 32 =
-    omega (arith, long, length-append {A = ℕ} (replicate 16 0) bytes) in
+    omega (arith, lengths, long) in
     ap (λ l. get_or l k 0) (pick_l-range_with_len 0 both n 16 (omega arith))
     ∙ get_or-chunk n 16 both k 0 h ∙ sym (get_or-drop n both k 0)
 
@@ -279,7 +280,7 @@ pub follow_after : (src : List ℕ) (n m : ℕ)
     → ((k : ℕ) → k < m → CanFollowBytesAt (take (length src - n) (drop n src)) k)
     → (k : ℕ) → n ≤ k → k < n + m → CanFollowBytesAt src k
 follow_after src n m all k from to =
-    let rest_long : length (drop n src) ≤ length src - n = omega (arith, length-drop n src) in
+    let rest_long : length (drop n src) ≤ length src - n = omega (arith, lengths) in
     let rest = take_all (length src - n) (drop n src) rest_long in
     let here : (i j : ℕ) → n + i ≡ j → get_or (drop n src) i 0 ≡ get_or src j 0 =
     λ i j e. get_or-drop n src i 0 ∙ ap (λ m. get_or src m 0) e in

@@ -6,6 +6,7 @@ use Rattle.std.proofs.lemmas.List.{take_all}
 use Rattle.std.proofs.lemmas.Simd.{get_or-chunk}
 use Rattle.std.proofs.lemmas.Str.{IsUtf8-nil, IsUtf8-append}
 use Rattle.std.proofs.str.Valid.{of_one, of_two, of_three, of_four}
+use Rattle.enc_units.proofs.LengthLemmas.{lengths}
 use Rattle.enc_units.specs.Validity.{IsWellFormedUtf8, AreAscii}
 use Rattle.enc_units.specs.Utf8Run.{CanFollowBytes, CanFollowBytesAt, IsCharBoundaryAfter}
 
@@ -146,7 +147,7 @@ blocks_utf8 n (z ∷ y ∷ x ∷ bs) l b h e =
 -- n bytes more are well-formed
 
 rest_is : (src : List ℕ) (at : ℕ) → take (length src - at) (drop at src) ≡ drop at src
-rest_is src at = take_all (length src - at) (drop at src) (omega (arith, length-drop at src))
+rest_is src at = take_all (length src - at) (drop at src) (omega (arith, lengths))
 
 pub longer : (src : List ℕ) (at n : ℕ) → IsWellFormedUtf8 (take at src)
     → IsWellFormedUtf8 (take n (take (length src - at) (drop at src)))
@@ -174,8 +175,7 @@ module _ (src : List ℕ) (at n : ℕ) (l : at + 3 + n ≤ length src) (b : IsCh
       let place : at + 3 + (m - (at + 3)) ≡ m = omega arith in
       subst (λ v. v < 0x80)
       (get_or-chunk (at + 3) n src (m - (at + 3)) 0 (omega arith) ∙ ap (λ k. get_or src k 0) place)
-      (a (m - (at + 3)) 0 (omega
-      (arith, length-take n (drop (at + 3) src), length-drop (at + 3) src)))
+      (a (m - (at + 3)) 0 (omega (arith, lengths)))
 
   between : (d : ℕ) → d < n → IsCharBoundaryAfter src (at + d)
   between zero h =

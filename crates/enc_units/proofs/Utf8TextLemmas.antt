@@ -5,6 +5,7 @@ use Rattle.std.proofs.lemmas.Bool.{and_parts}
 use Rattle.std.proofs.lemmas.Bool.Decides.{nat_tests}
 use Rattle.std.specs.Char.{IsScalar, encode_utf8}
 use Rattle.std.specs.Char.Escape.{encode_utf16}
+use Rattle.enc_units.proofs.LengthLemmas.{lengths}
 use Rattle.enc_units.specs.Output.{AreScalars, units_of_text}
 use Rattle.enc_units.specs.Validity.{IsWellFormedUtf8}
 use Rattle.enc_units.specs.Gathering.{GathersChars}
@@ -172,7 +173,7 @@ pub gathers_units : (src : List ℕ) (n : ℕ) (after : List ℕ) → n ≤ leng
 gathers_units src n after l utf8 e =
     let bytes : units_of_text encode_utf8 utf8.0 ≡ take n src = their_units utf8.0 ∙ utf8.1.1 in
     let long : length (units_of_text encode_utf8 utf8.0) ≡ n =
-    omega (arith, ap length bytes, length-take n src) in
+    omega (arith, lengths, ap length bytes) in
     record {
       text = utf8.0;
       scalars = utf8.1.0;

@@ -3,6 +3,7 @@ use Rattle.std.proofs.Common.{◌≡◌, ℕ, ◌+◌, ◌-◌, ◌≤◌, List,
 use Rattle.std.proofs.Common.{length-drop, drop-drop}
 use Rattle.std.proofs.lemmas.List.{length-take-le, take_all}
 use lib.Lanes.{put_chunk}
+use Rattle.enc_units.proofs.LengthLemmas.{lengths}
 use Rattle.enc_units.specs.Mappings.{WritesMapped, WritesThemselves, WritesFront, KeepsAscii, AreWrittenAsThemselves}
 use Rattle.enc_units.specs.Validity.{AreAscii}
 use borrow.Rule.Slice.PartMut.{put_mid}
@@ -12,7 +13,7 @@ use Rattle.enc_units.proofs.PutLemmas.{Put, put_lanes, put_copied}
 -- the rest of a slice
 pub rest_is : (read : ℕ) (src : List ℕ) → take (length src - read) (drop read src) ≡ drop read src
 rest_is read src =
-    take_all (length src - read) (drop read src) (omega (arith, length-drop read src))
+    take_all (length src - read) (drop read src) (omega (arith, lengths))
 
 -- the first lanes are stored
 
@@ -89,7 +90,7 @@ module _ {chars_in : List ℕ → List ℕ} {Rest : List ℕ → Type 0} {Means 
       then_more =
       let later = drop-drop k n text in
       record {
-        within = omega (arith, first.within, then_more.within, length-drop n text);
+        within = omega (arith, lengths, first.within, then_more.within);
         rest = subst Rest later then_more.rest;
         writes = maps_both first.writes
             (subst (λ z. WritesMapped Means (chars_in (drop n text)) (chars_in z) mid after (at + m)

@@ -1,5 +1,6 @@
 use Rattle.std.proofs.Common.{◌≤◌, subst, arith, length-take}
 use Rattle.std.proofs.lemmas.List.{take-take}
+use Rattle.enc_units.proofs.LengthLemmas.{lengths}
 use Rattle.enc_units.specs.Validity.{IsWellFormedUtf8}
 use Rattle.enc_units.proofs.Utf8CharsLemmas.{puts_utf8}
 use Rattle.enc_units.proofs.Utf8SliceLemmas.{grown}
@@ -16,7 +17,7 @@ returns c =
     let valid = c.utf8_front-taken.ensures in
     let most = c.min-most.result in
     let least = c.min-most.ensures in
-    let few : taken ≤ most = omega (arith, valid.within, length-take most src) in
+    let few : taken ≤ most = omega (arith, lengths, valid.within) in
     puts_utf8 _ _ src taken (omega arith) (omega arith)
     (subst IsWellFormedUtf8 (take-take taken most src few) valid.utf8)
     (grown slice.dst.ghost_name (put_part slice.len taken slice.dst.now
