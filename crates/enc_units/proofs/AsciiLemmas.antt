@@ -11,6 +11,7 @@ use Rattle.std.proofs.Math.Seq.{take-append_seam, drop-append_seam, set-append_s
 use Rattle.std.proofs.Math.ListN.{set}
 use Rattle.std.proofs.lemmas.Simd.{length-zip2, length-replicate, mask_l-mod, put_chunk_is}
 use lib.Lanes.{zip2, mask_l, top, put_chunk}
+use Rattle.enc_units.proofs.LengthLemmas.{lengths}
 use Rattle.enc_units.specs.Validity.{AreAscii}
 
 abbrev at_least : ℕ → ℕ → ℕ
@@ -60,7 +61,7 @@ ascii_one i xs a h b =
 at_seam : (a b ys : List ℕ) → length ys ≤ length b
     → put_chunk (length a) (a ++ b) ys ≡ a ++ (ys ++ drop (length ys) b)
 at_seam a b ys h =
-    put_chunk_is (length a) (a ++ b) ys (omega (arith, length-append a b))
+    put_chunk_is (length a) (a ++ b) ys (omega (arith, lengths))
     ∙ ap (λ x. x ++ (ys ++ drop (length ys) (drop (length a) (a ++ b)))) (take-append_seam a b)
     ∙ ap (λ x. a ++ (ys ++ drop (length ys) x)) (drop-append_seam a b)
 
@@ -70,10 +71,10 @@ pub copied_more : (i n : ℕ) (src dst old : List ℕ) → i + n ≤ length src 
     → put_chunk i dst (take n (drop i src)) ≡ take (i + n) src ++ drop (i + n) old
 copied_more i n src dst old h k e =
     let ys = take n (drop i src) in
-    let long : length ys ≡ n = omega (arith, length-take n (drop i src), length-drop i src) in
+    let long : length ys ≡ n = omega (arith, lengths) in
     ap (λ x. put_chunk i x ys) e
     ∙ ap (λ m. put_chunk m (take i src ++ drop i old) ys) (sym (length-take-le i src (omega arith)))
-    ∙ at_seam (take i src) (drop i old) ys (omega (arith, long, length-drop i old))
+    ∙ at_seam (take i src) (drop i old) ys (omega (arith, lengths, long))
     ∙ sym (append_assoc (take i src) ys (drop (length ys) (drop i old)))
     ∙ ap (λ x. x ++ drop (length ys) (drop i old)) (sym (take-add i n src))
     ∙ ap (λ x. take (i + n) src ++ x) (ap (λ m. drop m (drop i old)) long ∙ drop-drop n i old)
@@ -102,13 +103,13 @@ pub ascii_ends : (i n : ℕ) (xs : List ℕ) → AreAscii (take i xs) → length
     → AreAscii (drop (length xs - n) xs) → AreAscii xs
 ascii_ends i n xs front overlaps back k d h = elim (cases_lt k i) [
   | inl l ↦ subst (λ b. b < 0x80) (get_or-take i xs k d l)
-      (front k d (omega (arith, length-take i xs)))
+      (front k d (omega (arith, lengths)))
   | inr g ↦
       let first = length xs - n in
       let place : first + (k - first) ≡ k = omega arith in
       subst (λ b. b < 0x80)
       (get_or-drop first xs (k - first) d ∙ ap (λ j. get_or xs j d) place)
-      (back (k - first) d (omega (arith, length-drop first xs)))
+      (back (k - first) d (omega (arith, lengths)))
 ]
 
 pub ascii_all : (xs : List ℕ) → AreAscii xs → AreAscii (take (length xs) xs)

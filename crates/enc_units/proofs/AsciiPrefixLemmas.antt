@@ -7,6 +7,7 @@ use Rattle.std.specs.Prelude.{min}
 use Rattle.std.specs.Char.{encode_utf8}
 use Rattle.std.specs.Char.Escape.{encode_utf16}
 use Rattle.std.specs.Str.{IsUtf8}
+use Rattle.enc_units.proofs.LengthLemmas.{lengths}
 use Rattle.enc_units.specs.Output.{Output, AreScalars, with_appended, units_of_text}
 use Rattle.enc_units.specs.Validity.{AreAscii}
 use Rattle.enc_units.specs.AsciiRun.{PutsAscii}
@@ -35,14 +36,14 @@ pub puts_front : {units_of : ℕ → List ℕ}
     → (n < length front → 0x80 ≤ get_or front n 0) → after ≡ with_appended before (take n src)
     → PutsAscii units_of before after src n
 puts_front own {before} {src = src} {front = front} {n = n} most is_front m l a ends e =
-    let few : n ≤ most = omega (arith, ap length is_front, length-take most src) in
+    let few : n ≤ most = omega (arith, lengths, ap length is_front) in
     let ascii : AreAscii (take n src) =
     subst AreAscii (ap (take n) is_front ∙ take-take n most src few) a in
     let units = own (take n src) ascii in
     record {
       within = omega arith;
       ascii = ascii;
-      fits = omega (arith, ap length units, length-take n src);
+      fits = omega (arith, lengths, ap length units);
       written = e ∙ ap (with_appended before) (sym units);
       longest = λ more low. elim (cases_lt n most) [
         | inl h ↦
@@ -50,15 +51,11 @@ puts_front own {before} {src = src} {front = front} {n = n} most is_front m l a 
             ∙ get_or-take most src n 0 h in
             absurd (omega (
               arith,
-              ends (omega (arith, ap length is_front, length-take most src)),
+              ends (omega (arith, lengths, ap length is_front)),
               here,
             ))
         | inr h ↦
-            omega (
-              arith,
-              ap length (own (take (n + 1) src) (ascii_one n src ascii more low)),
-              length-take (n + 1) src,
-            )
+            omega (arith, lengths, ap length (own (take (n + 1) src) (ascii_one n src ascii more low)))
       ];
     }
 
@@ -70,7 +67,7 @@ text_utf8 units text s e = (text, (s, sym (their_units text) ∙ sym e))
 pub front_utf8 : (src front : List ℕ) (n most : ℕ) → front ≡ take most src → n ≤ length front
     → AreAscii (take n front) → IsUtf8 (take n src)
 front_utf8 src front n most is_front l a =
-    let few : n ≤ most = omega (arith, ap length is_front, length-take most src) in
+    let few : n ≤ most = omega (arith, lengths, ap length is_front) in
     let ascii : AreAscii (take n src) =
     subst AreAscii (ap (take n) is_front ∙ take-take n most src few) a in
     text_utf8 (take n src) (take n src) (ascii_scalars (take n src) ascii)

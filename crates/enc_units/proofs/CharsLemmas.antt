@@ -6,6 +6,7 @@ use Rattle.std.proofs.Common.{inl, inr}
 use Rattle.std.specs.Char.Escape.{encode_utf16}
 use Rattle.std.specs.Char.Utf16.{utf16_lossy_chars, is_high_surrogate, is_low_surrogate, surrogate_pair_char}
 use Rattle.std.proofs.lemmas.Str.{encodes-chars, utf16_chars-nil, utf16_chars_lone, utf16_chars_pair}
+use Rattle.enc_units.proofs.LengthLemmas.{lengths}
 use Rattle.enc_units.specs.Output.{units_of_text}
 use Rattle.enc_units.specs.Surrogates.{lossy_unit_char, IsSurrogatePair, IsFirstUtf16Char}
 use Rattle.std.specs.Option.{unwrap_or}
@@ -72,7 +73,7 @@ step : (us : List ℕ) (c n : ℕ) → IsFirstUtf16Char us c n
     → length us ≡ length (units_of_text encode_utf16 (utf16_lossy_chars us))
 step us c n begins e =
     rw (begins.chars, length-append)
-    (omega (arith, begins.within, begins.width, e, length-drop n us))
+    (omega (arith, lengths, begins.within, begins.width, e))
 
 pub utf16_length : (us : List ℕ) → AreUnits us
     → length us ≡ length (units_of_text encode_utf16 (utf16_lossy_chars us))

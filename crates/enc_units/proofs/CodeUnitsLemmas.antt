@@ -15,12 +15,14 @@ use Rattle.std.specs.Int.{to_le_bytes}
 use lib.Lanes.{Each1, put_chunk}
 use mir.Syntax.{w16, w32}
 use mir.Val.{Fits}
+use Rattle.enc_units.proofs.LengthLemmas.{lengths}
 use Rattle.enc_units.specs.CodeUnits.{unit_of, units_of_bytes, AreCodeUnits, unit_word, bytes_of_words}
 use Rattle.enc_units.specs.Gathering.{GathersChars}
 use Rattle.enc_units.specs.Output.{AreScalars, units_of_text}
 use Rattle.enc_units.specs.Pieces.{ReadsPieces}
 use Rattle.enc_units.specs.Validity.{AreAscii}
-use Rattle.enc_units.proofs.GatherLemmas.{utf8_two, utf8_three, gathers_then, stored_lanes}
+use Rattle.enc_units.proofs.GatherLemmas.{gathers_then, stored_lanes}
+use Rattle.enc_units.proofs.Utf8FormLemmas.{utf8_two, utf8_three}
 use Rattle.enc_units.proofs.PiecesLemmas.{reads_none, reads_one, reads_then, reads_wider}
 use Rattle.enc_units.proofs.ScalarLemmas.{ascii_scalars}
 use Rattle.enc_units.proofs.UnitsLemmas.{one_unit}
@@ -166,7 +168,7 @@ module _ {Means : List ℕ → ℕ → Type 0} (big : Bool) (mean : AreCodeUnits
   reads_units : (n : ℕ) (bytes : List ℕ) → n + n ≤ length bytes
       → AreScalars (take n (units_of_bytes big bytes))
       → ReadsPieces Means bytes (n + n) (take n (units_of_bytes big bytes))
-  reads_units zero bytes h are_scalars = reads_none Means bytes
+  reads_units zero bytes h are_scalars = reads_none bytes
   reads_units (suc n) [] h are_scalars = absurd (omega arith)
   reads_units (suc n) (a ∷ []) h are_scalars = absurd (omega arith)
   reads_units (suc n) (a ∷ b ∷ bs) h are_scalars =
@@ -174,8 +176,7 @@ module _ {Means : List ℕ → ℕ → Type 0} (big : Bool) (mean : AreCodeUnits
       let more = take n (units_of_bytes big bs) in
       let long : 2 + (n + n) ≡ suc n + suc n = omega arith in
       subst (λ k. ReadsPieces Means (a ∷ b ∷ bs) k (unit ∷ more)) long
-      (reads_then Means (a ∷ b ∷ bs) 2 (n + n) (unit ∷ []) more
-      (reads_one Means (a ∷ b ∷ bs) 2 unit (omega arith) (omega arith)
+      (reads_then (reads_one unit (omega arith) (omega arith)
       (mean a b (and_parts _ _ are_scalars).0))
       (reads_units n bs (omega arith) (and_parts _ _ are_scalars).1))
 
@@ -190,8 +191,7 @@ module _ {Means : List ℕ → ℕ → Type 0} (big : Bool) (mean : AreCodeUnits
         text = take n units;
         scalars = are_scalars;
         reads = subst (λ us. ReadsPieces Means src (n + n) (take n us)) (sym are_units)
-            (reads_wider Means src 16 (n + n) (take n (units_of_bytes big (take 16 src)))
-            (reads_units n (take 16 src) (omega (arith, length-take 16 src))
+            (reads_wider 16 (reads_units n (take 16 src) (omega (arith, lengths))
             (subst (λ us. AreScalars (take n us)) are_units are_scalars)));
         written = w;
       })
@@ -208,8 +208,8 @@ module _ {Means : List ℕ → ℕ → Type 0} (big : Bool) (mean : AreCodeUnits
   gathers_lanes n at {read} {src} {units} buffer few inside room are_units are_scalars alone
       gathers =
       let rest = drop read src in
-      let long : 16 ≤ length rest = omega (arith, length-drop read src) in
-      let bytes : length (take 16 rest) ≡ 16 = omega (arith, length-take 16 rest) in
+      let long : 16 ≤ length rest = omega (arith, lengths) in
+      let bytes : length (take 16 rest) ≡ 16 = omega (arith, lengths) in
       let eight = ap length are_units ∙ units_long big 8 (take 16 rest) bytes in
       gathers_then gathers
       (gathers_units n few long are_units are_scalars

@@ -1,8 +1,7 @@
 -- Characters that are gathered one after another.
-use Rattle.std.proofs.Common.{◌≡◌, ℕ, zero, suc, ◌+◌, ◌/◌, ◌%◌, ◌<◌, ◌≤◌, List, [], ◌∷◌, ◌++◌, length, get_or}
+use Rattle.std.proofs.Common.{◌≡◌, ℕ, zero, suc, ◌+◌, ◌/◌, ◌<◌, ◌≤◌, List, [], ◌∷◌, ◌++◌, length, get_or}
 use Rattle.std.proofs.Common.{take, drop, refl, ap, ◌∙◌, sym, subst, arith, append_assoc, append-nil}
-use Rattle.std.proofs.Common.{length-drop, take-add, drop-cons, drop-drop}
-use Rattle.std.proofs.lemmas.Bool.{lt-ltb, le-ltb}
+use Rattle.std.proofs.Common.{take-add, drop-cons}
 use Rattle.std.proofs.lemmas.List.{length-take-le}
 use Rattle.std.proofs.lemmas.Simd.{put_chunk_is}
 use Rattle.std.proofs.Math.Seq.{take-append_seam, drop-append_seam}
@@ -13,11 +12,11 @@ use lib.Lanes.{put_chunk}
 use Rattle.enc_units.specs.Output.{Output, with_appended, units_of_text}
 use Rattle.enc_units.specs.Validity.{AreAscii}
 use Rattle.enc_units.specs.Pieces.{PutsPieces}
-use Rattle.enc_units.specs.Mappings.{AreWrittenAsThemselves}
+use Rattle.enc_units.specs.Mappings.{AreWrittenAsThemselves, KeepsAscii}
 use Rattle.enc_units.specs.Gathering.{GathersChars}
 use Rattle.enc_units.specs.Pairs.{MeansWord, MeansUnit}
 use Rattle.enc_units.proofs.PiecesLemmas.{reads_none, reads_then, reads_one, reads_own, own_ascii, units-append}
-use Rattle.enc_units.proofs.PiecesLemmas.{then_rest}
+use Rattle.enc_units.proofs.LengthLemmas.{lengths}
 use Rattle.enc_units.proofs.UnitsLemmas.{one_unit}
 use Rattle.enc_units.proofs.ScalarLemmas.{one_scalar, scalars-append, ascii_scalars}
 
@@ -46,173 +45,124 @@ pub stored_lanes : (at n : ℕ) (old ys : List ℕ) → at + length ys ≤ lengt
 stored_lanes at n old ys h k =
     ap (take (at + n)) (put_chunk_is at old ys h) ∙ stored_front at n old ys _ (omega arith) k
 
--- the UTF-8 of a character (Unicode Standard 3.9, table 3-6)
-
-pub utf8_two : (c : ℕ) → 128 ≤ c → c < 2048 → encode_utf8 c ≡ (192 + c / 64) ∷ (128 + c % 64) ∷ []
-unfolding encode_utf8
-utf8_two c l h = rw (le-ltb c 128 l, lt-ltb c 2048 h) refl
-
-pub utf8_three : (c : ℕ) → 2048 ≤ c → c < 65536
-    → encode_utf8 c ≡ (224 + c / 4096) ∷ (128 + c / 64 % 64) ∷ (128 + c % 64) ∷ []
-unfolding encode_utf8
-utf8_three c l h = rw (le-ltb c 128 (omega arith), le-ltb c 2048 l, lt-ltb c 65536 h) refl
-
-pub utf8_four : (c : ℕ) → 65536 ≤ c
-    → encode_utf8 c ≡ (240 + c / 262144) ∷ (128 + c / 4096 % 64) ∷ (128 + c / 64 % 64)
-    ∷ (128 + c % 64) ∷ []
-unfolding encode_utf8
-utf8_four c l = rw (le-ltb c 128 (omega arith), le-ltb c 2048 (omega arith), le-ltb c 65536 l) refl
-
 -- gathered characters
 
-pub gathers_nothing : {units_of : ℕ → List ℕ} {Means : List ℕ → ℕ → Type 0}
-    {src before after : List ℕ}
-    → after ≡ before
-    → GathersChars units_of Means src 0 before after
-gathers_nothing {Means} {src} {before} e = record {
-  text = [];
-  scalars = refl;
-  reads = reads_none Means src;
-  written = e ∙ sym (append-nil before);
-}
-
-module _ {units_of : ℕ → List ℕ} {Means : List ℕ → ℕ → Type 0} {src : List ℕ} {a n : ℕ}
-    {before mid after : List ℕ}
-    (first : GathersChars units_of Means src a before mid)
-    (then_more : GathersChars units_of Means (drop a src) n mid after) where
-  pub gathers_then : GathersChars units_of Means src (a + n) before after
-  gathers_then = record {
-    text = first.text ++ then_more.text;
-    scalars = scalars-append first.text then_more.text first.scalars then_more.scalars;
-    reads = reads_then Means src a n first.text then_more.text first.reads then_more.reads;
-    written = then_more.written ∙ ap (λ z. z ++ units_of_text units_of then_more.text) first.written
-        ∙ append_assoc before (units_of_text units_of first.text)
-        (units_of_text units_of then_more.text)
-        ∙ ap (λ z. before ++ z) (sym (units-append units_of first.text then_more.text));
+module _ {units_of : ℕ → List ℕ} {Means : List ℕ → ℕ → Type 0} where
+  pub gathers_nothing : {src before after : List ℕ} → after ≡ before
+      → GathersChars units_of Means src 0 before after
+  gathers_nothing {src} {before} same = record {
+    text = [];
+    scalars = refl;
+    reads = reads_none src;
+    written = same ∙ sym (append-nil before);
   }
 
--- the same, where the rest is named by its place in the whole input
-module _ {units_of : ℕ → List ℕ} {Means : List ℕ → ℕ → Type 0} {a n : ℕ} {before mid after : List ℕ}
-    (src : List ℕ) (from : ℕ) (p : GathersChars units_of Means (drop from src) a before mid)
-    (q : GathersChars units_of Means (drop (from + a) src) n mid after) where
-  pub gathers_on : GathersChars units_of Means (drop from src) (a + n) before after
-  gathers_on = gathers_then p
-      (subst (λ rest. GathersChars units_of Means rest n mid after) (sym (drop-drop a from src)) q)
+  pub gathers_then : {src : List ℕ} {a n : ℕ} {before mid after : List ℕ}
+      → GathersChars units_of Means src a before mid
+      → GathersChars units_of Means (drop a src) n mid after
+      → GathersChars units_of Means src (a + n) before after
+  gathers_then {before = before} first then_more =
+      let first_units = units_of_text units_of first.text in
+      let more_units = units_of_text units_of then_more.text in
+      record {
+        text = first.text ++ then_more.text;
+        scalars = scalars-append first.text then_more.text first.scalars then_more.scalars;
+        reads = reads_then first.reads then_more.reads;
+        written = then_more.written ∙ ap (λ z. z ++ more_units) first.written
+            ∙ append_assoc before first_units more_units
+            ∙ ap (λ z. before ++ z) (sym (units-append units_of first.text then_more.text));
+      }
 
-pub gathers_own : {units_of : ℕ → List ℕ} {Means : List ℕ → ℕ → Type 0} {src : List ℕ} {n : ℕ}
-    {before after : List ℕ}
-    → ((bs : List ℕ) → AreAscii bs → units_of_text units_of bs ≡ bs) → n ≤ length src
-    → AreWrittenAsThemselves Means (take n src)
-    → after ≡ before ++ take n src → GathersChars units_of Means src n before after
-gathers_own {Means = Means} {src = src} {n = n} {before = before} alone w own e =
-    let are_ascii : AreAscii (take n src) = λ k d l. (own k d l).0 in
-    record {
-      text = take n src;
-      scalars = ascii_scalars (take n src) are_ascii;
-      reads = reads_own Means src n w own;
-      written = e ∙ ap (λ z. before ++ z) (sym (alone (take n src) are_ascii));
-    }
+  -- the same, where the rest is a list of its own
+  pub gathers_on : {src rest : List ℕ} {a n : ℕ} {before mid after : List ℕ}
+      → GathersChars units_of Means src a before mid → rest ≡ drop a src
+      → GathersChars units_of Means rest n mid after
+      → GathersChars units_of Means src (a + n) before after
+  gathers_on {n = n} {mid = mid} {after = after} first rest_is then_more =
+      gathers_then first
+      (subst (λ z. GathersChars units_of Means z n mid after) rest_is then_more)
 
-pub gathers_ascii : {units_of : ℕ → List ℕ} {Means : List ℕ → ℕ → Type 0} {src : List ℕ} {n : ℕ}
-    {before after : List ℕ}
-    → ((b : ℕ) → b < 0x80 → Means (b ∷ []) b)
-    → ((bs : List ℕ) → AreAscii bs → units_of_text units_of bs ≡ bs) → n ≤ length src
-    → AreAscii (take n src)
-    → after ≡ before ++ take n src → GathersChars units_of Means src n before after
-gathers_ascii {Means = Means} {src = src} {n = n} h alone w are_ascii e =
-    gathers_own alone w (own_ascii Means (take n src) h are_ascii) e
+  -- bytes that are their own characters, and their own code units
+  pub gathers_own : {src : List ℕ} {n : ℕ} {before after : List ℕ}
+      → ((bs : List ℕ) → AreAscii bs → units_of_text units_of bs ≡ bs) → n ≤ length src
+      → AreWrittenAsThemselves Means (take n src) → after ≡ before ++ take n src
+      → GathersChars units_of Means src n before after
+  gathers_own {src} {n} {before} own_units within own stored =
+      let are_ascii : AreAscii (take n src) = λ k d inside. (own k d inside).0 in
+      record {
+        text = take n src;
+        scalars = ascii_scalars (take n src) are_ascii;
+        reads = reads_own within own;
+        written = stored ∙ ap (λ z. before ++ z) (sym (own_units (take n src) are_ascii));
+      }
 
--- the same, where the code units are those of the text
-pub gathers_kept_ascii : {units_of : ℕ → List ℕ} {Means : List ℕ → ℕ → Type 0} {src : List ℕ}
-    {n : ℕ} {before after : List ℕ}
-    → ((b : ℕ) → b < 0x80 → Means (b ∷ []) b) → n ≤ length src → AreAscii (take n src)
-    → after ≡ before ++ units_of_text units_of (take n src)
-    → GathersChars units_of Means src n before after
-gathers_kept_ascii {Means = Means} {src = src} {n = n} h w are_ascii e = record {
-  text = take n src;
-  scalars = ascii_scalars (take n src) are_ascii;
-  reads = reads_own Means src n w (own_ascii Means (take n src) h are_ascii);
-  written = e;
-}
+  pub gathers_ascii : {src : List ℕ} {n : ℕ} {before after : List ℕ} → KeepsAscii Means
+      → ((bs : List ℕ) → AreAscii bs → units_of_text units_of bs ≡ bs) → n ≤ length src
+      → AreAscii (take n src) → after ≡ before ++ take n src
+      → GathersChars units_of Means src n before after
+  gathers_ascii {src} {n} keeps own_units within are_ascii stored =
+      gathers_own own_units within (own_ascii Means (take n src) keeps are_ascii) stored
 
-pub gathers_one : {units_of : ℕ → List ℕ} {Means : List ℕ → ℕ → Type 0} {src : List ℕ} {n : ℕ}
-    (c : ℕ)
-    {before after : List ℕ}
-    → 0 < n → n ≤ length src → IsScalar c
-    → Means (take n src) c → after ≡ before ++ units_of c
-    → GathersChars units_of Means src n before after
-gathers_one {units_of} {Means} {src} {n} c {before} h w i m e = record {
-  text = c ∷ [];
-  scalars = one_scalar c i;
-  reads = reads_one Means src n c h w m;
-  written = e ∙ ap (λ z. before ++ z) (sym (append-nil (units_of c)));
-}
+  -- the same, where the code units are those of the text
+  pub gathers_kept_ascii : {src : List ℕ} {n : ℕ} {before after : List ℕ} → KeepsAscii Means
+      → n ≤ length src → AreAscii (take n src)
+      → after ≡ before ++ units_of_text units_of (take n src)
+      → GathersChars units_of Means src n before after
+  gathers_kept_ascii {src} {n} keeps within are_ascii stored = record {
+    text = take n src;
+    scalars = ascii_scalars (take n src) are_ascii;
+    reads = reads_own within (own_ascii Means (take n src) keeps are_ascii);
+    written = stored;
+  }
 
-pub get_or_drop : (n i : ℕ) (xs : List ℕ) → get_or (drop n xs) i 0 ≡ get_or xs (n + i) 0
-get_or_drop zero i xs = ap (λ k. get_or xs k 0) (omega arith)
-get_or_drop (suc n) i [] = refl
-get_or_drop (suc n) i (x ∷ xs) = get_or_drop n i xs ∙ ap (λ k. get_or (x ∷ xs) k 0) next
-  where
-    next : suc (n + i) ≡ suc n + i
-    next = omega arith
+  pub gathers_one : {src : List ℕ} {n : ℕ} (c : ℕ) {before after : List ℕ} → 0 < n
+      → n ≤ length src → IsScalar c → Means (take n src) c → after ≡ before ++ units_of c
+      → GathersChars units_of Means src n before after
+  gathers_one c {before} some within scalar means stored = record {
+    text = c ∷ [];
+    scalars = one_scalar c scalar;
+    reads = reads_one c some within means;
+    written = stored ∙ ap (λ z. before ++ z) (sym (append-nil (units_of c)));
+  }
+
+  -- gathered characters are put out
+  pub puts_gathered : {before after : Output} {src : List ℕ} {n : ℕ} {units : List ℕ}
+      → GathersChars units_of Means src n [] units → length units ≤ before.room
+      → after ≡ with_appended before units → PutsPieces units_of Means before after src n
+  puts_gathered {before} gathers fits appended = record {
+    text = gathers.text;
+    scalars = gathers.scalars;
+    reads = gathers.reads;
+    fits = omega (arith, ap length gathers.written);
+    written = appended ∙ ap (with_appended before) gathers.written;
+  }
 
 -- a byte that is a character
-module _ {Means : List ℕ → ℕ → Type 0} (src : List ℕ) (from : ℕ) {read : ℕ} {before mid : List ℕ}
-    (inside : from + read < length src) where
-  gathers_single : {units_of : ℕ → List ℕ} {after : List ℕ} (c : ℕ) → IsScalar c
-      → Means (get_or src (from + read) 0 ∷ []) c
-      → GathersChars units_of Means (drop from src) read before mid
-      → after ≡ mid ++ units_of c
-      → GathersChars units_of Means (drop from src) (read + 1) before after
-  gathers_single c is_scalar means p e =
-      let rest = drop from src in
-      let long : read < length rest = omega (arith, length-drop from src) in
-      let is_byte = ap (take 1) (drop-cons rest read 0 long)
-      ∙ ap (λ b. b ∷ []) (get_or_drop from read src) in
-      gathers_then p
-      (gathers_one c (omega arith) (omega (arith, length-drop read rest)) is_scalar
-      (subst (λ z. Means z c) (sym is_byte) means) e)
+module _ {Means : List ℕ → ℕ → Type 0} {src : List ℕ} {read : ℕ} {before mid after : List ℕ}
+    (inside : read < length src) where
+  gathers_single : {units_of : ℕ → List ℕ} (c : ℕ) → IsScalar c → Means (get_or src read 0 ∷ []) c
+      → GathersChars units_of Means src read before mid → after ≡ mid ++ units_of c
+      → GathersChars units_of Means src (read + 1) before after
+  gathers_single c is_scalar means gathers stored =
+      let is_byte = ap (take 1) (drop-cons src read 0 inside) in
+      gathers_then gathers
+      (gathers_one c (omega arith) (omega (arith, lengths)) is_scalar
+      (subst (λ z. Means z c) (sym is_byte) means) stored)
 
   -- by a word
-  pub gathers_byte : {word : ℕ} {after : List ℕ}
-      → MeansWord Means (get_or src (from + read) 0 ∷ []) word
-      → GathersChars encode_utf8 Means (drop from src) read before mid
+  pub gathers_byte : {word : ℕ} → MeansWord Means (get_or src read 0 ∷ []) word
+      → GathersChars encode_utf8 Means src read before mid
       → after ≡ mid ++ take (word / 0x100_0000) (to_le_bytes w32 word)
-      → GathersChars encode_utf8 Means (drop from src) (read + 1) before after
-  gathers_byte is_word p e =
-      gathers_single is_word.char is_word.scalar is_word.means p
-      (e ∙ ap (λ z. mid ++ z) is_word.utf8)
+      → GathersChars encode_utf8 Means src (read + 1) before after
+  gathers_byte is_word gathers stored =
+      gathers_single is_word.char is_word.scalar is_word.means gathers
+      (stored ∙ ap (λ z. mid ++ z) is_word.utf8)
 
   -- by a code unit
-  pub gathers_byte_unit : {unit : ℕ} {after : List ℕ} → unit < 0x1_0000
-      → MeansUnit Means (get_or src (from + read) 0 ∷ []) unit
-      → GathersChars encode_utf16 Means (drop from src) read before mid → after ≡ mid ++ unit ∷ []
-      → GathersChars encode_utf16 Means (drop from src) (read + 1) before after
-  gathers_byte_unit {unit} l is_unit p e =
-      gathers_single unit is_unit.scalar is_unit.means p
-      (e ∙ ap (λ z. mid ++ z) (sym (one_unit unit l)))
-
--- gathered characters are put out
-pub puts_gathered : {units_of : ℕ → List ℕ} {Means : List ℕ → ℕ → Type 0} {before after : Output}
-    {src : List ℕ} {n : ℕ}
-    {units : List ℕ}
-    → GathersChars units_of Means src n [] units
-    → length units ≤ before.room → after ≡ with_appended before units
-    → PutsPieces units_of Means before after src n
-puts_gathered {before = before} gathers f e = record {
-  text = gathers.text;
-  scalars = gathers.scalars;
-  reads = gathers.reads;
-  fits = omega (arith, ap length gathers.written);
-  written = e ∙ ap (with_appended before) gathers.written;
-}
-
--- the same after what is put out already, where the rest is a list of its own
-module _ {units_of : ℕ → List ℕ} {Means : List ℕ → ℕ → Type 0} {before mid after : Output}
-    {src rest units : List ℕ}
-    {a n : ℕ} where
-  pub then_gathered : rest ≡ drop a src → PutsPieces units_of Means before mid src a
-      → GathersChars units_of Means rest n [] units
-      → length units ≤ mid.room → after ≡ with_appended mid units
-      → PutsPieces units_of Means before after src (a + n)
-  then_gathered e p gathers f w = then_rest e p (puts_gathered gathers f w)
+  pub gathers_byte_unit : {unit : ℕ} → unit < 0x1_0000
+      → MeansUnit Means (get_or src read 0 ∷ []) unit
+      → GathersChars encode_utf16 Means src read before mid → after ≡ mid ++ unit ∷ []
+      → GathersChars encode_utf16 Means src (read + 1) before after
+  gathers_byte_unit {unit} fits is_unit gathers stored =
+      gathers_single unit is_unit.scalar is_unit.means gathers
+      (stored ∙ ap (λ z. mid ++ z) (sym (one_unit unit fits)))

@@ -16,6 +16,7 @@ use lib.Count.{count_trailing_zeros}
 use lib.Lanes.{zip2, mask_l, top}
 use mir.Syntax.{Width}
 use mir.Val.{bits, hbits}
+use Rattle.enc_units.proofs.LengthLemmas.{lengths}
 use Rattle.enc_units.specs.Validity.{AreIso2022JpAscii, IsLongestPrefix}
 use Rattle.enc_units.proofs.Utf8Lanes.{IsFlags, at_least, equal_to, either, none_set}
 
@@ -40,7 +41,7 @@ module _ (p : ℕ → Bool) (xs : List ℕ) (long : length xs ≡ 16) (mask : �
 
     pub front_fails : All (λ x. p x ≡ false) (take n xs)
     front_fails k d h =
-        let in_front : k < n = omega (arith, length-take n xs) in
+        let in_front : k < n = omega (arith, lengths) in
         subst (λ x. p x ≡ false) (sym (get_or-take n xs k d in_front))
         (not-true _ (prefix_len_passes (λ x. not (p x)) xs k d (omega arith)))
 
@@ -87,7 +88,7 @@ mask_after (suc k) (m ∷ ms) =
 pub before_lowest : (p : ℕ → Bool) (xs : List ℕ) (n : ℕ) → length xs ≤ 64 → n ≤ length xs
     → n ≤ count_trailing_zeros 64 (mask_l (map p xs)) → All (λ x. p x ≡ false) (take n xs)
 before_lowest p xs n few within h k d l =
-    let inside : k < n = omega (arith, length-take n xs) in
+    let inside : k < n = omega (arith, lengths) in
     let reaches : n ≤ prefix_len (λ x. not (p x)) xs = elim (cases_eq (mask_l (map p xs)) 0) [
       | inl none ↦ omega (arith, leading_from_mask_l p xs none)
       | inr some ↦ omega (arith, trailing_mask_l p 64 xs few (omega arith))
@@ -99,9 +100,9 @@ before_lowest p xs n few within h k d l =
 pub all_fewer : (P : ℕ → Type 0) (n m : ℕ) (xs : List ℕ) → n ≤ m → All P (take m xs)
     → All P (take n xs)
 all_fewer P n m xs h a = subst (All P) (take-take n m xs h) (λ k d l.
-    let short : k < n = omega (arith, length-take n (take m xs)) in
+    let short : k < n = omega (arith, lengths) in
     subst P (sym (get_or-take n (take m xs) k d short))
-    (a k d (omega (arith, length-take n (take m xs)))))
+    (a k d (omega (arith, lengths))))
 
 -- the first n of sixteen bytes, before one that is not ASCII, a shift or an escape
 pub unshifted : (xs : List ℕ) (n a b c d : ℕ) → n ≤ a → n ≤ b → n ≤ c → n ≤ d
@@ -173,5 +174,5 @@ unshifted_longest i xs a within stops = record {
   longest = λ m more fits has.
       stops (omega arith)
       (subst (λ b. (b < 0x80) × (b ≢ 0x0E) × (b ≢ 0x0F) × (b ≢ 0x1B)) (get_or-take m xs i 0 more)
-      (has i 0 (omega (arith, length-take m xs))));
+      (has i 0 (omega (arith, lengths))));
 }

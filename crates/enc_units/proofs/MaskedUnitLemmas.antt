@@ -12,6 +12,7 @@ use Rattle.std.proofs.lemmas.Nat.{ones-le}
 use lib.Count.{ones}
 use lib.Lanes.{put_chunk, chunk, number_l, digits_l, Each1}
 use mir.Val.{Fits}
+use Rattle.enc_units.proofs.LengthLemmas.{lengths}
 use Rattle.enc_units.specs.declared.marked.TheConstants.{MARKED}
 use Rattle.enc_units.specs.Utf8Units.{marked_places, marked_code_units}
 use Rattle.enc_units.proofs.GatherLemmas.{stored_lanes}
@@ -155,12 +156,7 @@ row_of_table mask h = take-take 16 (4096 - mask * 16) (drop (mask * 16) MARKED) 
 
 pub row_long : (mask : ℕ) → mask < 256 → length (row_of mask) ≡ 16
 row_long mask h = ap length (row_of_table mask h)
-    ∙ omega (
-      arith,
-      length-take 16 (drop (mask * 16) MARKED),
-      length-drop (mask * 16) MARKED,
-      marked_count,
-    )
+    ∙ omega (arith, lengths, marked_count)
 
 pub row_is : (mask : ℕ) → mask < 256 → IsRow mask (row_of mask)
 row_is mask is_byte =
@@ -264,15 +260,9 @@ module _ (units row : List ℕ) (mask : ℕ) (long : length units ≡ 8) (fit : 
   marked_units is_byte =
       let few = ones-le 8 mask is_byte in
       same_number_lists _ _
-      (omega (
-        arith,
-        length-take (ones mask) stored,
-        length-map (marked_places mask 0 8)
-            (λ k. get_or units k 0),
-        is_row.count,
-      ))
+      (omega (arith, lengths, length-map (marked_places mask 0 8) (λ k. get_or units k 0), is_row.count))
       (λ k h.
-      let below_count : k < ones mask = omega (arith, length-take (ones mask) stored) in
+      let below_count : k < ones mask = omega (arith, lengths) in
       get_or-take (ones mask) stored k 0 below_count ∙ unit_at k below_count is_byte
       ∙ sym (get_or-map (λ k. get_or units k 0) (marked_places mask 0 8) k 0 0
       (omega (arith, is_row.count))))

@@ -1,20 +1,34 @@
 -- Where text is written over other text, all is well-formed once the rest of a character is made
 -- 00.
-use Rattle.std.proofs.Common.{◌≡◌, ℕ, zero, suc, ◌+◌, ◌-◌, ◌/◌, ◌%◌, ◌<◌, ◌≤◌, ◌&&◌, Bool, true, false, nat_le, nat_lt}
+use Rattle.std.proofs.Common.{◌≡◌, ℕ, zero, suc, ◌+◌, ◌-◌, ◌/◌, ◌<◌, ◌≤◌, ◌&&◌, Bool, true, false, nat_le, nat_lt}
 use Rattle.std.proofs.Common.{if◌then◌else◌, List, [], ◌∷◌, ◌++◌, length, take, drop, get_or, refl, ap, ◌∙◌, sym, subst}
-use Rattle.std.proofs.Common.{arith, append_assoc, drop-cons, drop-drop, ◌⊎◌, inl, inr}
+use Rattle.std.proofs.Common.{arith, append_assoc, drop-cons, drop-drop, inl, inr}
 use Rattle.std.proofs.lemmas.Bool.{and_parts, cases_lt}
 use Rattle.std.proofs.lemmas.Bool.Decides.{nat_tests}
-use Rattle.std.proofs.lemmas.List.{take-append-drop, drop-append-le}
+use Rattle.std.proofs.lemmas.List.{take-append-drop, drop-append-le, length-take-le, take-take, take_more_set, take-set}
+use Rattle.std.proofs.lemmas.List.{drop-set-lt}
 use Rattle.std.proofs.lemmas.Str.{IsUtf8-append, IsUtf8-encode, encode_ascii}
-use Rattle.std.proofs.Math.ListN.{set, length-set, drop_of_length-le}
-use Rattle.std.proofs.Math.Seq.{drop-append-add}
-use Rattle.std.specs.Char.{encode_utf8, IsScalar, InScalarRange}
+use Rattle.std.proofs.Math.ListN.{set, length-set}
+use Rattle.std.proofs.Math.Seq.{drop-append-add, drop-append_seam}
+use Rattle.std.specs.Char.{encode_utf8}
 use Rattle.std.specs.Str.{IsUtf8, all_scalars, encode_utf8_all}
 use Rattle.enc_units.specs.Output.{AreScalars, units_of_text}
-use Rattle.enc_units.proofs.GatherLemmas.{utf8_two, utf8_three, utf8_four}
-use Rattle.enc_units.proofs.Utf8CharsLemmas.{their_units}
 use Rattle.enc_units.specs.Rest.{without_continuations}
+use Rattle.enc_units.proofs.Utf8CharsLemmas.{their_units}
+use Rattle.enc_units.proofs.Utf8FormLemmas.{Form, One, Two, Three, Four, form_of}
+
+-- bytes that follow another in a character
+abbrev AreContinuations : List ℕ → Type 0
+AreContinuations [] = Unit {0}
+AreContinuations (b ∷ bs) = ((0x80 ≤ b) × (b < 0xC0)) × AreContinuations bs
+
+dropped : (n : ℕ) (bs : List ℕ) → AreContinuations bs → AreContinuations (drop n bs)
+dropped zero bs continue = continue
+dropped (suc n) [] continue = tt
+dropped (suc n) (b ∷ bs) continue = dropped n bs continue.1
+
+abbrev is_continuation : ℕ → Bool
+is_continuation b = nat_le 0x80 b && nat_lt b 0xC0
 
 cond_no : {A : Type 0} (b : Bool) (x y : A) → b ≡ false → (if b then x else y) ≡ y
 cond_no true x y e = cc
@@ -24,140 +38,85 @@ cond_yes : {A : Type 0} (b : Bool) (x y : A) → b ≡ true → (if b then x els
 cond_yes true x y e = refl
 cond_yes false x y e = cc
 
-low : (b : ℕ) → b < 0x80 → (nat_le 0x80 b && nat_lt b 0xC0) ≡ false
-low b h = grind (arith, nat_tests)
-
-high : (b : ℕ) → 0xC0 ≤ b → (nat_le 0x80 b && nat_lt b 0xC0) ≡ false
-high b h = grind (arith, nat_tests)
-
-between : (b : ℕ) → 0x80 ≤ b → b < 0xC0 → (nat_le 0x80 b && nat_lt b 0xC0) ≡ true
-between b h k = grind (arith, nat_tests)
-
-nul_first : (z : List ℕ) → IsUtf8 z → IsUtf8 (0 ∷ z)
-nul_first z u =
-    subst (λ x. IsUtf8 (x ++ z)) (encode_ascii 0 (omega arith))
-    (IsUtf8-append (encode_utf8 0) z (IsUtf8-encode 0 refl) u)
-
--- a byte that follows another in a character
-abbrev IsContinuation : ℕ → Type 0
-IsContinuation b = (0x80 ≤ b) × (b < 0xC0)
-
--- such a byte becomes 00
-cleared : (b : ℕ) (z : List ℕ) → IsContinuation b → IsUtf8 (without_continuations z)
-    → IsUtf8 (without_continuations (b ∷ z))
-cleared b z continues utf8 =
-    subst IsUtf8 (sym (cond_yes _ _ _ (between b continues.0 continues.1)))
-    (nul_first (without_continuations z) utf8)
-
-range_of : (c : ℕ) → IsScalar c → InScalarRange c
-range_of c h = grind (arith, nat_tests)
-
-bound_of : (c : ℕ) → InScalarRange c → c < 0x110000
-bound_of c (inl h) = omega arith
-bound_of c (inr h) = omega (arith, h.1)
-
--- How a character is written: one byte, or a first one and one to three that follow it.
-data Form (c : ℕ) : Type 0 where
-  One : c < 0x80 → encode_utf8 c ≡ c ∷ [] → Form c
-  Two : (a b : ℕ) → 0xC0 ≤ a → IsContinuation b → encode_utf8 c ≡ a ∷ b ∷ [] → Form c
-  Three : (a b d : ℕ) → 0xC0 ≤ a → IsContinuation b → IsContinuation d
-      → encode_utf8 c ≡ a ∷ b ∷ d ∷ [] → Form c
-  Four : (a b d e : ℕ) → 0xC0 ≤ a → IsContinuation b → IsContinuation d → IsContinuation e
-      → encode_utf8 c ≡ a ∷ b ∷ d ∷ e ∷ [] → Form c
-
-form_of : (c : ℕ) → IsScalar c → Form c
-form_of c s = elim (cases_lt c 0x80) [
-  | inl is_ascii ↦ One is_ascii (encode_ascii c is_ascii)
-  | inr h ↦ elim (cases_lt c 0x800) [
-    | inl k ↦ Two (192 + c / 64) (128 + c % 64) (omega arith) (omega arith, omega arith)
-        (utf8_two c h k)
-    | inr k ↦ elim (cases_lt c 0x10000) [
-      | inl l ↦
-          Three (224 + c / 4096) (128 + c / 64 % 64) (128 + c % 64) (omega arith)
-          (omega arith, omega arith)
-          (omega arith, omega arith) (utf8_three c k l)
-      | inr l ↦
-          Four (240 + c / 262144) (128 + c / 4096 % 64) (128 + c / 64 % 64) (128 + c % 64)
-          (omega arith)
-          (omega arith, omega arith) (omega arith, omega arith) (omega arith, omega arith)
-          (utf8_four c l)
-    ]
-  ]
-]
+-- such bytes become 00
+all_cleared : (bs z : List ℕ) → AreContinuations bs → IsUtf8 (without_continuations z)
+    → IsUtf8 (without_continuations (bs ++ z))
+all_cleared [] z continue utf8 = utf8
+all_cleared (b ∷ bs) z continue utf8 =
+    let from = continue.0.0 in
+    let below = continue.0.1 in
+    let test : is_continuation b ≡ true = grind (arith, nat_tests, from, below) in
+    let rest = without_continuations (bs ++ z) in
+    subst IsUtf8 (sym (cond_yes _ _ _ test))
+    (subst (λ x. IsUtf8 (x ++ rest)) (encode_ascii 0 (omega arith))
+    (IsUtf8-append (encode_utf8 0) rest (IsUtf8-encode 0 refl) (all_cleared bs z continue.1 utf8)))
 
 -- what begins with a character stays
 stays_by : (c : ℕ) (z : List ℕ) → Form c
     → without_continuations (encode_utf8 c ++ z) ≡ encode_utf8 c ++ z
-stays_by c z (One h e) =
-    subst (λ x. without_continuations (x ++ z) ≡ x ++ z) (sym e) (cond_no _ _ _ (low c h))
-stays_by c z (Two a b h _ e) =
-    subst (λ x. without_continuations (x ++ z) ≡ x ++ z) (sym e) (cond_no _ _ _ (high a h))
-stays_by c z (Three a b d h _ _ e) =
-    subst (λ x. without_continuations (x ++ z) ≡ x ++ z) (sym e) (cond_no _ _ _ (high a h))
-stays_by c z (Four a b d f h _ _ _ e) =
-    subst (λ x. without_continuations (x ++ z) ≡ x ++ z) (sym e) (cond_no _ _ _ (high a h))
+stays_by c z (One low code) =
+    let test : is_continuation c ≡ false = grind (arith, nat_tests, low) in
+    subst (λ x. without_continuations (x ++ z) ≡ x ++ z) (sym code) (cond_no _ _ _ test)
+stays_by c z (Two from below code) =
+    let test : is_continuation (192 + c / 64) ≡ false = grind (arith, nat_tests) in
+    subst (λ x. without_continuations (x ++ z) ≡ x ++ z) (sym code) (cond_no _ _ _ test)
+stays_by c z (Three from below code) =
+    let test : is_continuation (224 + c / 4096) ≡ false = grind (arith, nat_tests) in
+    subst (λ x. without_continuations (x ++ z) ≡ x ++ z) (sym code) (cond_no _ _ _ test)
+stays_by c z (Four from code) =
+    let test : is_continuation (240 + c / 262144) ≡ false = grind (arith, nat_tests) in
+    subst (λ x. without_continuations (x ++ z) ≡ x ++ z) (sym code) (cond_no _ _ _ test)
 
-stays : (cs : List ℕ) → all_scalars cs ≡ true
-    → without_continuations (encode_utf8_all cs) ≡ encode_utf8_all cs
-stays [] s = refl
-stays (c ∷ cs) s =
-    let scalar_parts = and_parts _ _ s in stays_by c (encode_utf8_all cs) (form_of c scalar_parts.0)
+stays : (text : List ℕ) → all_scalars text ≡ true
+    → without_continuations (encode_utf8_all text) ≡ encode_utf8_all text
+stays [] scalars = refl
+stays (c ∷ text) scalars = stays_by c (encode_utf8_all text) (form_of c)
+
+-- the bytes of a character after the first
+tail_by : (c : ℕ) → Form c → AreContinuations (drop 1 (encode_utf8 c))
+tail_by c (One low code) = subst (λ x. AreContinuations (drop 1 x)) (sym code) tt
+tail_by c (Two from below code) =
+    subst (λ x. AreContinuations (drop 1 x)) (sym code) ((omega arith, omega arith), tt)
+tail_by c (Three from below code) =
+    subst (λ x. AreContinuations (drop 1 x)) (sym code)
+    ((omega arith, omega arith), ((omega arith, omega arith), tt))
+tail_by c (Four from code) =
+    subst (λ x. AreContinuations (drop 1 x)) (sym code)
+    ((omega arith, omega arith), ((omega arith, omega arith), ((omega arith, omega arith), tt)))
 
 -- the rest of a character after its first bytes, and other text
-rest_by : (c n : ℕ) (z : List ℕ) → Form c → n < length (encode_utf8 c) → IsUtf8 (encode_utf8 c ++ z)
-    → IsUtf8 (without_continuations z)
+rest_by : (c n : ℕ) (z : List ℕ) → IsUtf8 (encode_utf8 c ++ z) → IsUtf8 (without_continuations z)
     → IsUtf8 (without_continuations (drop n (encode_utf8 c) ++ z))
-rest_by c zero z f h u rest_is_utf8 = subst IsUtf8 (sym (stays_by c z f)) u
-rest_by c (suc n) z (One k e) h u rest_is_utf8 = absurd (omega (arith, ap length e))
-rest_by c (suc zero) z (Two a b _ second e) h u rest_is_utf8 =
-    subst (λ x. IsUtf8 (without_continuations (drop 1 x ++ z))) (sym e)
-    (cleared b z second rest_is_utf8)
-rest_by c (suc (suc n)) z (Two a b _ second e) h u rest_is_utf8 =
-    absurd (omega (arith, ap length e))
-rest_by c (suc zero) z (Three a b d _ second third e) h u rest_is_utf8 =
-    subst (λ x. IsUtf8 (without_continuations (drop 1 x ++ z))) (sym e)
-    (cleared b (d ∷ z) second (cleared d z third rest_is_utf8))
-rest_by c (suc (suc zero)) z (Three a b d _ second third e) h u rest_is_utf8 =
-    subst (λ x. IsUtf8 (without_continuations (drop 2 x ++ z))) (sym e)
-    (cleared d z third rest_is_utf8)
-rest_by c (suc (suc (suc n))) z (Three a b d _ second third e) h u rest_is_utf8 =
-    absurd (omega (arith, ap length e))
-rest_by c (suc zero) z (Four a b d f _ second third fourth e) h u rest_is_utf8 =
-    subst (λ x. IsUtf8 (without_continuations (drop 1 x ++ z))) (sym e)
-    (cleared b (d ∷ f ∷ z) second (cleared d (f ∷ z) third (cleared f z fourth rest_is_utf8)))
-rest_by c (suc (suc zero)) z (Four a b d f _ second third fourth e) h u rest_is_utf8 =
-    subst (λ x. IsUtf8 (without_continuations (drop 2 x ++ z))) (sym e)
-    (cleared d (f ∷ z) third (cleared f z fourth rest_is_utf8))
-rest_by c (suc (suc (suc zero))) z (Four a b d f _ second third fourth e) h u rest_is_utf8 =
-    subst (λ x. IsUtf8 (without_continuations (drop 3 x ++ z))) (sym e)
-    (cleared f z fourth rest_is_utf8)
-rest_by c (suc (suc (suc (suc n)))) z (Four a b d f _ second third fourth e) h u rest_is_utf8 =
-    absurd (omega (arith, ap length e))
+rest_by c zero z utf8 rest_utf8 = subst IsUtf8 (sym (stays_by c z (form_of c))) utf8
+rest_by c (suc n) z utf8 rest_utf8 =
+    let place : 1 + n ≡ suc n = omega arith in
+    let tail = drop-drop n 1 (encode_utf8 c) ∙ ap (λ k. drop k (encode_utf8 c)) place in
+    subst (λ x. IsUtf8 (without_continuations (x ++ z))) tail
+    (all_cleared _ z (dropped n (drop 1 (encode_utf8 c)) (tail_by c (form_of c))) rest_utf8)
 
 drop_nil : (n : ℕ) → ◌≡◌ {A = List ℕ} (drop n []) []
 drop_nil zero = refl
 drop_nil (suc n) = refl
 
-rest_of : (cs : List ℕ) (n : ℕ) → all_scalars cs ≡ true
-    → IsUtf8 (without_continuations (drop n (encode_utf8_all cs)))
-rest_of [] n are_scalars =
+rest_of : (text : List ℕ) (n : ℕ) → all_scalars text ≡ true
+    → IsUtf8 (without_continuations (drop n (encode_utf8_all text)))
+rest_of [] n scalars =
     subst (λ x. IsUtf8 (without_continuations x)) (sym (drop_nil n)) ([], (refl, refl))
-rest_of (c ∷ cs) n are_scalars =
-    let scalar_parts = and_parts _ _ are_scalars in
-    let rest_bytes = encode_utf8_all cs in
+rest_of (c ∷ text) n scalars =
+    let parts = and_parts _ _ scalars in
+    let rest = encode_utf8_all text in
     elim (cases_lt n (length (encode_utf8 c))) [
-      | inl h ↦
+      | inl within ↦
           subst (λ x. IsUtf8 (without_continuations x))
-          (sym (drop-append-le n (encode_utf8 c) rest_bytes (omega arith)))
-          (rest_by c n rest_bytes (form_of c scalar_parts.0) h (c ∷ cs, (are_scalars, refl))
-          (subst IsUtf8 (sym (stays cs scalar_parts.1)) (cs, (scalar_parts.1, refl))))
-      | inr h ↦
+          (sym (drop-append-le n (encode_utf8 c) rest (omega arith)))
+          (rest_by c n rest (c ∷ text, (scalars, refl))
+          (subst IsUtf8 (sym (stays text parts.1)) (text, (parts.1, refl))))
+      | inr beyond ↦
           let further = n - length (encode_utf8 c) in
           let count : n ≡ length (encode_utf8 c) + further = omega arith in
           subst (λ x. IsUtf8 (without_continuations x))
-          (sym (ap (λ k. drop k (encode_utf8 c ++ rest_bytes)) count
-          ∙ drop-append-add (encode_utf8 c) rest_bytes further))
-          (rest_of cs further scalar_parts.1)
+          (sym (ap (λ k. drop k (encode_utf8 c ++ rest)) count
+          ∙ drop-append-add (encode_utf8 c) rest further)) (rest_of text further parts.1)
     ]
 
 -- the text that is written is well-formed with the bytes after it, once the rest of a character is
@@ -165,157 +124,64 @@ rest_of (c ∷ cs) n are_scalars =
 pub is_text : (bytes old : List ℕ) (n : ℕ) (text : List ℕ) → IsUtf8 old → AreScalars text
     → take n bytes ≡ units_of_text encode_utf8 text
     → drop n bytes ≡ without_continuations (drop n old) → IsUtf8 bytes
-is_text bytes old n text utf8 s e f =
+is_text bytes old n text utf8 scalars front rest =
     subst IsUtf8 (take-append-drop n bytes)
-    (IsUtf8-append (take n bytes) (drop n bytes) (text, (s, sym (their_units text) ∙ sym e))
-    (subst IsUtf8 (sym f) (subst (λ x. IsUtf8 (without_continuations (drop n x))) utf8.1.1
+    (IsUtf8-append (take n bytes) (drop n bytes) (text, (scalars, sym (their_units text) ∙ sym front))
+    (subst IsUtf8 (sym rest) (subst (λ x. IsUtf8 (without_continuations (drop n x))) utf8.1.1
     (rest_of utf8.0 n utf8.1.0))))
 
 -- the loop over the rest: of the bytes after the first `at`, those before `end` are done
-
 pub record Cleared (at end : ℕ) (old new : List ℕ) : Type 0 where
   pub from : at ≤ end
-  pub within : end ≤ length old
+  pub within : end ≤ length new
   pub len : length new ≡ length old
   pub front : take at new ≡ take at old
-  pub done : take (end - at) (drop at new) ++ without_continuations (drop end old)
-      ≡ without_continuations (drop at old)
-  pub rest : drop end new ≡ drop end old
-
-pub begin : (at : ℕ) (old : List ℕ) → at ≤ length old → Cleared at at old old
-begin at old h = record {
-  from = omega arith;
-  within = h;
-  len = refl;
-  front = refl;
-  done = ap (λ n. take n (drop at old) ++ without_continuations (drop at old))
-      (let none_done : at - at ≡ 0 = omega arith in none_done);
-  rest = refl;
-}
-
-next_front : (at end : ℕ) (new : List ℕ) (x : ℕ) → at ≤ end → end < length new
-    → take at (set new end x) ≡ take at new
-next_front zero end new x h k = refl
-next_front (suc at) zero new x h k = absurd (omega arith)
-next_front (suc at) (suc end) [] x h k = absurd (omega arith)
-next_front (suc at) (suc end) (b ∷ new) x h k =
-    ap (λ z. b ∷ z) (next_front at end new x (omega arith) (omega arith))
-
-next_rest : (end : ℕ) (new : List ℕ) (x : ℕ) → end < length new
-    → drop (suc end) (set new end x) ≡ drop (suc end) new
-next_rest zero [] x k = absurd (omega arith)
-next_rest zero (b ∷ new) x k = refl
-next_rest (suc end) [] x k = absurd (omega arith)
-next_rest (suc end) (b ∷ new) x k = next_rest end new x (omega arith)
-
-next_zero : (end : ℕ) (new : List ℕ) (x : ℕ) → end < length new
-    → take (suc end) (set new end x) ≡ take end new ++ x ∷ []
-next_zero zero [] x k = absurd (omega arith)
-next_zero zero (b ∷ new) x k = refl
-next_zero (suc end) [] x k = absurd (omega arith)
-next_zero (suc end) (b ∷ new) x k = ap (λ z. b ∷ z) (next_zero end new x (omega arith))
-
-less_none : (n : ℕ) → n - 0 ≡ n
-less_none n = omega arith
-
-less_both : (m n : ℕ) → suc m - suc n ≡ m - n
-less_both m n = omega arith
-
-next_done : (at end : ℕ) (new : List ℕ) (x : ℕ) → at ≤ end → end < length new
-    → take (suc end - at) (drop at (set new end x)) ≡ take (end - at) (drop at new) ++ x ∷ []
-next_done zero end new x h k =
-    ap (λ m. take m (set new end x)) (less_none (suc end)) ∙ next_zero end new x k
-    ∙ ap (λ m. take m new ++ x ∷ []) (sym (less_none end))
-next_done (suc at) zero new x h k = absurd (omega arith)
-next_done (suc at) (suc end) [] x h k = absurd (omega arith)
-next_done (suc at) (suc end) (b ∷ new) x h k =
-    ap (λ m. take m (drop at (set new end x))) (less_both (suc end) at)
-    ∙ next_done at end new x (omega arith) (omega arith)
-    ∙ ap (λ m. take m (drop at new) ++ x ∷ []) (sym (less_both end at))
-
-same_byte : (end : ℕ) (old new : List ℕ) → length new ≡ length old → end < length old
-    → drop end new ≡ drop end old → get_or new end 0 ≡ get_or old end 0
-same_byte end old new l h e =
-    first_same (sym (drop-cons new end 0 (omega arith)) ∙ e ∙ drop-cons old end 0 h)
-  where
-    first_same : {a b : ℕ} {x y : List ℕ} → a ∷ x ≡ b ∷ y → a ≡ b
-    first_same f = cc
-
-same_rest : (end : ℕ) (old new : List ℕ) → length new ≡ length old → end < length old
-    → drop end new ≡ drop end old → drop (suc end) new ≡ drop (suc end) old
-same_rest end old new l h e =
-    rest_same (sym (drop-cons new end 0 (omega arith)) ∙ e ∙ drop-cons old end 0 h)
-  where
-    rest_same : {a b : ℕ} {x y : List ℕ} → a ∷ x ≡ b ∷ y → x ≡ y
-    rest_same f = cc
-
-one_more : (at end : ℕ) (old new : List ℕ) → Cleared at end old new → end < length new
-    → 0x80 ≤ get_or new end 0 → get_or new end 0 < 0xC0 → Cleared at (suc end) old (set new end 0)
-one_more at end old new is_cleared has_next k l =
-    let same = same_byte end old new is_cleared.len (omega (arith, is_cleared.len))
-    is_cleared.rest in
-    let test = between (get_or old end 0) (omega arith) (omega arith) in
-    record {
-      from = omega (arith, is_cleared.from);
-      within = omega (arith, is_cleared.len);
-      len = length-set new end 0 ∙ is_cleared.len;
-      front = next_front at end new 0 is_cleared.from has_next ∙ is_cleared.front;
-      done =
-          ap (λ x. x ++ without_continuations (drop (suc end) old))
-          (next_done at end new 0 is_cleared.from has_next)
-          ∙ append_assoc (take (end - at) (drop at new)) (0 ∷ [])
-          (without_continuations (drop (suc end) old))
-          ∙ ap (λ x. take (end - at) (drop at new) ++ x)
-          (sym (ap without_continuations (drop-cons old end 0 (omega (arith, is_cleared.len)))
-          ∙ cond_yes _ _ _ test)) ∙ is_cleared.done;
-      rest = next_rest end new 0 has_next
-          ∙ same_rest end old new is_cleared.len (omega (arith, is_cleared.len))
-          is_cleared.rest;
-    }
+  pub whole : take end new ++ without_continuations (drop end new)
+      ≡ take at old ++ without_continuations (drop at old)
 
 pub goes_on : {at end : ℕ} {old new : List ℕ} → Cleared at end old new → end < length new
-    → 0x80 ≤ get_or new end 0
-    → get_or new end 0 < 0xC0 → Cleared at (end + 1) old (set new end 0)
-goes_on {at} {end} {old} {new} c h k l =
-    subst (λ n. Cleared at n old (set new end 0))
-    (let next_end : suc end ≡ end + 1 = omega arith in next_end) (one_more at end old new c h k l)
+    → 0x80 ≤ get_or new end 0 → get_or new end 0 < 0xC0 → Cleared at (end + 1) old (set new end 0)
+goes_on {at} {end} {old} {new} cleared inside from below =
+    let next : suc end ≡ end + 1 = omega arith in
+    let test : is_continuation (get_or new end 0) ≡ true = grind (arith, nat_tests, from, below) in
+    let zeroed = ap without_continuations (drop-cons new end 0 inside) ∙ cond_yes _ _ _ test
+    ∙ ap (λ k. 0 ∷ without_continuations (drop k new)) next in
+    record {
+      from = omega (arith, cleared.from);
+      within = omega (arith, length-set new end 0);
+      len = length-set new end 0 ∙ cleared.len;
+      front = sym (take-take at end (set new end 0) cleared.from)
+          ∙ ap (take at) (take-set new end 0) ∙ take-take at end new cleared.from ∙ cleared.front;
+      whole =
+          ap (λ z. z ++ without_continuations (drop (end + 1) (set new end 0)))
+          (take_more_set new end 0 inside)
+          ∙ ap (λ z. (take end new ++ 0 ∷ []) ++ without_continuations z)
+          (drop-set-lt (end + 1) new end 0 (omega arith))
+          ∙ append_assoc (take end new) (0 ∷ []) (without_continuations (drop (end + 1) new))
+          ∙ ap (λ z. take end new ++ z) (sym zeroed) ∙ cleared.whole;
+    }
 
 -- where no byte of a rest is next, it is done
 pub ends : {at end : ℕ} {old new : List ℕ} → Cleared at end old new
-    → without_continuations (drop end old) ≡ drop end old
+    → without_continuations (drop end new) ≡ drop end new
     → drop at new ≡ without_continuations (drop at old)
-ends {at} {end} {old} {new} is_cleared e =
-    let done_count = end - at in
-    let end_is : end ≡ at + done_count = omega (arith, is_cleared.from) in
-    sym (take-append-drop done_count (drop at new))
-    ∙ ap (λ x. take done_count (drop at new) ++ x)
-    (drop-drop done_count at new ∙ ap (λ k. drop k new) (sym end_is) ∙ is_cleared.rest
-    ∙ sym e) ∙ is_cleared.done
+ends {at} {end} {old} {new} cleared done =
+    let rest = without_continuations (drop at old) in
+    let long = length-take-le at old (omega (arith, cleared.from, cleared.within, cleared.len)) in
+    ap (drop at) (sym (take-append-drop end new) ∙ ap (λ z. take end new ++ z) (sym done)
+    ∙ cleared.whole) ∙ ap (λ k. drop k (take at old ++ rest)) (sym long)
+    ∙ drop-append_seam (take at old) rest
 
-pub none_left : (end : ℕ) (old : List ℕ) → length old ≤ end
-    → without_continuations (drop end old) ≡ drop end old
-none_left end old at_end = ap without_continuations (drop_of_length-le old at_end)
-    ∙ sym (drop_of_length-le old at_end)
+pub low_next : (end : ℕ) (new : List ℕ) → end < length new → get_or new end 0 < 0x80
+    → without_continuations (drop end new) ≡ drop end new
+low_next end new inside low =
+    let test : is_continuation (get_or new end 0) ≡ false = grind (arith, nat_tests, low) in
+    ap without_continuations (drop-cons new end 0 inside) ∙ cond_no _ _ _ test
+    ∙ sym (drop-cons new end 0 inside)
 
-pub none_next : {at end : ℕ} {old new : List ℕ} → Cleared at end old new → end < length new
-    → (get_or new end 0 < 0x80) ⊎ (0xC0 ≤ get_or new end 0)
-    → without_continuations (drop end old) ≡ drop end old
-none_next {end = end} {old = old} {new = new} is_cleared h n =
-    let same = same_byte end old new is_cleared.len (omega (arith, is_cleared.len))
-    is_cleared.rest in
-    ap without_continuations (drop-cons old end 0 (omega (arith, is_cleared.len)))
-    ∙ cond_no _ _ _ (no_rest n)
-    ∙ sym (drop-cons old end 0 (omega (arith, is_cleared.len)))
-  where
-    no_rest : (get_or new end 0 < 0x80) ⊎ (0xC0 ≤ get_or new end 0)
-        → (nat_le 0x80 (get_or old end 0) && nat_lt (get_or old end 0) 0xC0) ≡ false
-    no_rest (inl l) =
-        low (get_or old end 0) (omega (
-          arith,
-          same_byte end old new is_cleared.len (omega (arith, is_cleared.len)) is_cleared.rest,
-        ))
-    no_rest (inr l) =
-        high (get_or old end 0) (omega (
-          arith,
-          same_byte end old new is_cleared.len (omega (arith, is_cleared.len)) is_cleared.rest,
-        ))
+pub high_next : (end : ℕ) (new : List ℕ) → end < length new → 0xC0 ≤ get_or new end 0
+    → without_continuations (drop end new) ≡ drop end new
+high_next end new inside high =
+    let test : is_continuation (get_or new end 0) ≡ false = grind (arith, nat_tests, high) in
+    ap without_continuations (drop-cons new end 0 inside) ∙ cond_no _ _ _ test
+    ∙ sym (drop-cons new end 0 inside)

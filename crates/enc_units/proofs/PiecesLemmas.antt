@@ -1,7 +1,7 @@
 -- Pieces that follow one another, read and put out.
-use Rattle.std.proofs.Common.{◌≡◌, ℕ, suc, ◌+◌, ◌<◌, ◌≤◌, true, List, [], ◌∷◌, ◌++◌, length, take, drop, refl, ap, ◌∙◌}
-use Rattle.std.proofs.Common.{sym, subst, arith, append_assoc, append-nil, length-append, length-drop, take-add, nat_le}
-use Rattle.std.proofs.Common.{length-take, Bool}
+use Rattle.std.proofs.Common.{◌≡◌, ℕ, ◌+◌, ◌<◌, ◌≤◌, true, List, [], ◌∷◌, ◌++◌, length, take, drop, refl, ap, ◌∙◌}
+use Rattle.std.proofs.Common.{sym, subst, arith, append_assoc, append-nil, take-add, nat_le}
+use Rattle.std.proofs.Common.{Bool}
 use Rattle.std.proofs.lemmas.Bool.Decides.{nat_tests}
 use Rattle.std.proofs.lemmas.List.{take-take}
 use Rattle.std.proofs.lemmas.List.Elements.{All-take}
@@ -9,22 +9,13 @@ use Rattle.std.specs.Char.{IsScalar}
 use Rattle.enc_units.specs.Output.{Output, with_appended, units_of_text}
 use Rattle.enc_units.specs.Validity.{AreAscii}
 use Rattle.enc_units.specs.AsciiRun.{PutsAscii}
-use Rattle.enc_units.specs.Mappings.{AreWrittenAsThemselves, IsWrittenAsItself}
+use Rattle.enc_units.specs.Mappings.{AreWrittenAsThemselves, IsWrittenAsItself, KeepsAscii}
 use Rattle.enc_units.specs.Pieces.{Piece, piece_bytes, piece_chars, EachMeansChar, ReadsPieces, PutsPieces}
+use Rattle.enc_units.proofs.PieceListLemmas.{piece_bytes-append, piece_chars-append, EachMeansChar-append}
+use Rattle.enc_units.proofs.PieceListLemmas.{alone, units_alone, pieces_of, bytes_of, chars_of, they_mean}
+use Rattle.enc_units.proofs.LengthLemmas.{lengths}
 use Rattle.enc_units.proofs.OutputLemmas.{with_appended-nil, with_appended-with_appended, room_left}
 use Rattle.enc_units.proofs.ScalarLemmas.{one_scalar, scalars-append, ascii_scalars}
-
-piece_bytes-append : (ps qs : List Piece)
-    → piece_bytes (ps ++ qs) ≡ piece_bytes ps ++ piece_bytes qs
-piece_bytes-append [] qs = refl
-piece_bytes-append (p ∷ ps) qs =
-    ap (λ z. p.bytes ++ z) (piece_bytes-append ps qs)
-    ∙ sym (append_assoc p.bytes (piece_bytes ps) (piece_bytes qs))
-
-piece_chars-append : (ps qs : List Piece)
-    → piece_chars (ps ++ qs) ≡ piece_chars ps ++ piece_chars qs
-piece_chars-append [] qs = refl
-piece_chars-append (p ∷ ps) qs = ap (λ z. p.char ∷ z) (piece_chars-append ps qs)
 
 pub units-append : (units_of : ℕ → List ℕ) (cs ds : List ℕ)
     → units_of_text units_of (cs ++ ds) ≡ units_of_text units_of cs ++ units_of_text units_of ds
@@ -33,127 +24,107 @@ units-append units_of (c ∷ cs) ds =
     ap (λ t. units_of c ++ t) (units-append units_of cs ds)
     ∙ sym (append_assoc (units_of c) (units_of_text units_of cs) (units_of_text units_of ds))
 
-EachMeansChar-append : (Means : List ℕ → ℕ → Type 0) (ps qs : List Piece) → EachMeansChar Means ps
-    → EachMeansChar Means qs → EachMeansChar Means (ps ++ qs)
-EachMeansChar-append Means [] qs first_mean others_mean = others_mean
-EachMeansChar-append Means (p ∷ ps) qs first_mean others_mean =
-    (first_mean.0, EachMeansChar-append Means ps qs first_mean.1 others_mean)
+-- pieces that are read
 
--- no piece is read
-pub reads_none : (Means : List ℕ → ℕ → Type 0) (src : List ℕ) → ReadsPieces Means src 0 []
-reads_none Means src = record {
-  pieces = [];
-  within = omega arith;
-  bytes = refl;
-  chars = refl;
-  mean = tt;
-  none = λ _. refl;
-}
+module _ {Means : List ℕ → ℕ → Type 0} where
+  pub reads_none : (src : List ℕ) → ReadsPieces Means src 0 []
+  reads_none src = record {
+    pieces = [];
+    within = omega arith;
+    bytes = refl;
+    chars = refl;
+    mean = tt;
+    none = λ _. refl;
+  }
 
--- more pieces are read after them
-pub reads_then : (Means : List ℕ → ℕ → Type 0) (src : List ℕ) (a n : ℕ) (s t : List ℕ)
-    → ReadsPieces Means src a s → ReadsPieces Means (drop a src) n t
-    → ReadsPieces Means src (a + n) (s ++ t)
-reads_then Means src a n s t first then_more = record {
-  pieces = first.pieces ++ then_more.pieces;
-  within = omega (arith, first.within, then_more.within, length-drop a src);
-  bytes = piece_bytes-append first.pieces then_more.pieces
-      ∙ ap (λ z. z ++ piece_bytes then_more.pieces) first.bytes
-      ∙ ap (λ z. take a src ++ z) then_more.bytes ∙ sym (take-add a n src);
-  chars = piece_chars-append first.pieces then_more.pieces
-      ∙ ap (λ z. z ++ piece_chars then_more.pieces) first.chars
-      ∙ ap (λ z. s ++ z) then_more.chars;
-  mean = EachMeansChar-append Means first.pieces then_more.pieces first.mean then_more.mean;
-  none = λ z. ap (λ ps. ps ++ then_more.pieces) (first.none (omega arith))
-      ∙ then_more.none (omega arith);
-}
+  -- more pieces after them
+  pub reads_then : {src : List ℕ} {a n : ℕ} {s t : List ℕ} → ReadsPieces Means src a s
+      → ReadsPieces Means (drop a src) n t → ReadsPieces Means src (a + n) (s ++ t)
+  reads_then {src} {a} {n} {s} {t} first then_more = record {
+    pieces = first.pieces ++ then_more.pieces;
+    within = omega (arith, first.within, then_more.within, lengths);
+    bytes = piece_bytes-append first.pieces then_more.pieces
+        ∙ ap (λ z. z ++ piece_bytes then_more.pieces) first.bytes
+        ∙ ap (λ z. take a src ++ z) then_more.bytes ∙ sym (take-add a n src);
+    chars = piece_chars-append first.pieces then_more.pieces
+        ∙ ap (λ z. z ++ piece_chars then_more.pieces) first.chars
+        ∙ ap (λ z. s ++ z) then_more.chars;
+    mean = EachMeansChar-append Means first.pieces then_more.pieces first.mean then_more.mean;
+    none = λ z. ap (λ ps. ps ++ then_more.pieces) (first.none (omega arith))
+        ∙ then_more.none (omega arith);
+  }
 
--- one piece is read
-pub reads_one : (Means : List ℕ → ℕ → Type 0) (src : List ℕ) (n c : ℕ) → 0 < n → n ≤ length src
-    → Means (take n src) c → ReadsPieces Means src n (c ∷ [])
-reads_one Means src n c h w m = record {
-  pieces = record { bytes = take n src; char = c } ∷ [];
-  within = w;
-  bytes = append-nil (take n src);
-  chars = refl;
-  mean = (m, tt);
-  none = λ z. absurd (omega arith);
-}
+  -- one piece
+  pub reads_one : {src : List ℕ} {n : ℕ} (c : ℕ) → 0 < n → n ≤ length src → Means (take n src) c
+      → ReadsPieces Means src n (c ∷ [])
+  reads_one {src} {n} c some within means = record {
+    pieces = record { bytes = take n src; char = c } ∷ [];
+    within = within;
+    bytes = append-nil (take n src);
+    chars = refl;
+    mean = (means, tt);
+    none = λ z. absurd (omega arith);
+  }
 
-abbrev alone : List ℕ → List Piece
-alone [] = []
-alone (b ∷ bs) = record { bytes = b ∷ []; char = b } ∷ alone bs
+  -- bytes that are their own characters
+  pub reads_own : {src : List ℕ} {n : ℕ} → n ≤ length src
+      → AreWrittenAsThemselves Means (take n src) → ReadsPieces Means src n (take n src)
+  reads_own {src} {n} within own = record {
+    pieces = pieces_of alone (take n src);
+    within = within;
+    bytes = bytes_of alone (take n src) ∙ units_alone (take n src);
+    chars = chars_of alone (take n src);
+    mean = they_mean alone Means (take n src) (λ k d inside. (own k d inside).1);
+    none = λ z. ap (λ k. pieces_of alone (take k src)) z;
+  }
 
-alone_bytes : (bs : List ℕ) → piece_bytes (alone bs) ≡ bs
-alone_bytes [] = refl
-alone_bytes (b ∷ bs) = ap (λ x. b ∷ x) (alone_bytes bs)
-
-alone_chars : (bs : List ℕ) → piece_chars (alone bs) ≡ bs
-alone_chars [] = refl
-alone_chars (b ∷ bs) = ap (λ x. b ∷ x) (alone_chars bs)
-
-alone_mean : (Means : List ℕ → ℕ → Type 0) (bs : List ℕ) → AreWrittenAsThemselves Means bs
-    → EachMeansChar Means (alone bs)
-alone_mean Means [] own = tt
-alone_mean Means (b ∷ bs) own = (
-  (own 0 0 (omega arith)).1,
-  alone_mean Means bs (λ k d l. own (suc k) d (omega arith)),
-)
+  -- pieces of the first m bytes are pieces of all
+  pub reads_wider : (m : ℕ) {src : List ℕ} {n : ℕ} {text : List ℕ}
+      → ReadsPieces Means (take m src) n text → ReadsPieces Means src n text
+  reads_wider m {src} {n} reads = record {
+    pieces = reads.pieces;
+    within = omega (arith, reads.within, lengths);
+    bytes = reads.bytes ∙ take-take n m src (omega (arith, reads.within, lengths));
+    chars = reads.chars;
+    mean = reads.mean;
+    none = reads.none;
+  }
 
 -- ASCII bytes, where each has that number as its character
-pub own_ascii : (Means : List ℕ → ℕ → Type 0) (bs : List ℕ)
-    → ((b : ℕ) → b < 0x80 → Means (b ∷ []) b) → AreAscii bs → AreWrittenAsThemselves Means bs
-own_ascii Means bs h are_ascii k d l =
-    let is_ascii = are_ascii k d l in
-    (is_ascii, h _ is_ascii)
+pub own_ascii : (Means : List ℕ → ℕ → Type 0) (bs : List ℕ) → KeepsAscii Means → AreAscii bs
+    → AreWrittenAsThemselves Means bs
+own_ascii Means bs keeps are_ascii k d inside =
+    (are_ascii k d inside, keeps _ (are_ascii k d inside))
 
-pub reads_own : (Means : List ℕ → ℕ → Type 0) (src : List ℕ) (n : ℕ) → n ≤ length src
-    → AreWrittenAsThemselves Means (take n src) → ReadsPieces Means src n (take n src)
-reads_own Means src n w own = record {
-  pieces = alone (take n src);
-  within = w;
-  bytes = alone_bytes (take n src);
-  chars = alone_chars (take n src);
-  mean = alone_mean Means (take n src) own;
-  none = λ z. ap (λ k. alone (take k src)) z;
-}
+-- pieces that are put out
 
--- ASCII bytes
-pub reads_ascii : (Means : List ℕ → ℕ → Type 0) (src : List ℕ) (n : ℕ)
-    → ((b : ℕ) → b < 0x80 → Means (b ∷ []) b) → n ≤ length src → AreAscii (take n src)
-    → ReadsPieces Means src n (take n src)
-reads_ascii Means src n h w a = reads_own Means src n w (own_ascii Means (take n src) h a)
+module _ {units_of : ℕ → List ℕ} {Means : List ℕ → ℕ → Type 0} where
+  pub start : {o : Output} {src : List ℕ} → PutsPieces units_of Means o o src 0
+  start {o} {src} = record {
+    text = [];
+    scalars = refl;
+    reads = reads_none src;
+    fits = omega arith;
+    written = sym (with_appended-nil o);
+  }
 
--- nothing is put out
-pub start : {units_of : ℕ → List ℕ} {Means : List ℕ → ℕ → Type 0} {o : Output} {src : List ℕ}
-    → PutsPieces units_of Means o o src 0
-start {Means = Means} {o = o} {src = src} = record {
-  text = [];
-  scalars = refl;
-  reads = reads_none Means src;
-  fits = omega arith;
-  written = sym (with_appended-nil o);
-}
-
--- more pieces are put out after them
-module _ {units_of : ℕ → List ℕ} {Means : List ℕ → ℕ → Type 0} {before mid after : Output}
-    {src : List ℕ} {a n : ℕ}
-    (first : PutsPieces units_of Means before mid src a)
-    (then_more : PutsPieces units_of Means mid after (drop a src)
-    n) where
-  pub then : PutsPieces units_of Means before after src (a + n)
-  then =
+  -- more pieces after them
+  pub then : {before mid after : Output} {src : List ℕ} {a n : ℕ}
+      → PutsPieces units_of Means before mid src a
+      → PutsPieces units_of Means mid after (drop a src) n
+      → PutsPieces units_of Means before after src (a + n)
+  then {before} {mid} first then_more =
       let first_units = units_of_text units_of first.text in
       let more_units = units_of_text units_of then_more.text in
       let both = units-append units_of first.text then_more.text in
       record {
         text = first.text ++ then_more.text;
         scalars = scalars-append first.text then_more.text first.scalars then_more.scalars;
-        reads = reads_then Means src a n first.text then_more.text first.reads then_more.reads;
+        reads = reads_then first.reads then_more.reads;
         fits = omega (
           arith,
           ap length both,
-          length-append first_units more_units,
+          lengths,
           first.fits,
           then_more.fits,
           room_left before mid first_units first.written,
@@ -163,117 +134,80 @@ module _ {units_of : ℕ → List ℕ} {Means : List ℕ → ℕ → Type 0} {be
             ∙ ap (with_appended before) (sym both);
       }
 
--- ASCII bytes
-pub ascii_pieces : {units_of : ℕ → List ℕ} {Means : List ℕ → ℕ → Type 0} {before after : Output}
-    {src : List ℕ} {n : ℕ}
-    → ((b : ℕ) → b < 0x80 → Means (b ∷ []) b) → PutsAscii units_of before after src n
-    → PutsPieces units_of Means before after src n
-ascii_pieces {Means = Means} {src = src} {n = n} h puts = record {
-  text = take n src;
-  scalars = ascii_scalars (take n src) puts.ascii;
-  reads = reads_ascii Means src n h puts.within puts.ascii;
-  fits = puts.fits;
-  written = puts.written;
-}
-
--- one piece
-pub one_piece : {units_of : ℕ → List ℕ} {Means : List ℕ → ℕ → Type 0} {before after : Output}
-    {src : List ℕ} {n : ℕ}
-    (c : ℕ)
-    → 0 < n → n ≤ length src → IsScalar c → Means (take n src) c
-    → nat_le (length (units_of c)) before.room ≡ true → after ≡ with_appended before (units_of c)
-    → PutsPieces units_of Means before after src n
-one_piece {units_of = units_of} {Means = Means} {before = before} {src = src} {n = n} c h w i m f
-    e =
-    let units = append-nil (units_of c) in
-    record {
-      text = c ∷ [];
-      scalars = one_scalar c i;
-      reads = reads_one Means src n c h w m;
-      fits =
-          let fits_room : length (units_of c) ≤ before.room = grind (arith, nat_tests) in
-          omega (arith, fits_room, ap length units);
-      written = e ∙ ap (with_appended before) (sym units);
-    }
-
--- the same, where the rest is a list of its own
-module _ {units_of : ℕ → List ℕ} {Means : List ℕ → ℕ → Type 0} {before mid after : Output}
-    {src rest : List ℕ}
-    {a n : ℕ} where
-  pub then_rest : rest ≡ drop a src → PutsPieces units_of Means before mid src a
-      → PutsPieces units_of Means mid after rest n
+  -- the same, where the rest is a list of its own
+  pub then_rest : {before mid after : Output} {src rest : List ℕ} {a n : ℕ} → rest ≡ drop a src
+      → PutsPieces units_of Means before mid src a → PutsPieces units_of Means mid after rest n
       → PutsPieces units_of Means before after src (a + n)
-  then_rest e p q = then p (subst (λ z. PutsPieces units_of Means mid after z n) e q)
+  then_rest {mid = mid} {after = after} {n = n} rest_is first then_more =
+      then first (subst (λ z. PutsPieces units_of Means mid after z n) rest_is then_more)
 
--- the same, where the output is known to be as it was
-pub same_then : {units_of : ℕ → List ℕ} {Means : List ℕ → ℕ → Type 0} {before mid after : Output}
-    {src : List ℕ} {n : ℕ}
-    → after ≡ mid → PutsPieces units_of Means before mid src n
-    → PutsPieces units_of Means before after src n
-same_then {units_of = units_of} {Means = Means} {before = before} {src = src} {n = n} e p = subst
-    (λ (o : Output). PutsPieces units_of Means before o src n) (sym e) p
+  -- ASCII bytes
+  pub ascii_pieces : {before after : Output} {src : List ℕ} {n : ℕ} → KeepsAscii Means
+      → PutsAscii units_of before after src n → PutsPieces units_of Means before after src n
+  ascii_pieces {src = src} {n = n} keeps puts = record {
+    text = take n src;
+    scalars = ascii_scalars (take n src) puts.ascii;
+    reads = reads_own puts.within (own_ascii Means (take n src) keeps puts.ascii);
+    fits = puts.fits;
+    written = puts.written;
+  }
 
-pub reads_wider : (Means : List ℕ → ℕ → Type 0) (src : List ℕ) (m n : ℕ) (text : List ℕ)
-    → ReadsPieces Means (take m src) n text → ReadsPieces Means src n text
-reads_wider Means src m n text reads = record {
-  pieces = reads.pieces;
-  within = omega (arith, reads.within, length-take m src);
-  bytes = reads.bytes ∙ take-take n m src (omega (arith, reads.within, length-take m src));
-  chars = reads.chars;
-  mean = reads.mean;
-  none = reads.none;
-}
+  -- one piece
+  pub one_piece : {before after : Output} {src : List ℕ} {n : ℕ} (c : ℕ) → 0 < n → n ≤ length src
+      → IsScalar c → Means (take n src) c → nat_le (length (units_of c)) before.room ≡ true
+      → after ≡ with_appended before (units_of c) → PutsPieces units_of Means before after src n
+  one_piece {before = before} c some within scalar means test appended =
+      let units = append-nil (units_of c) in
+      let fits : length (units_of c) ≤ before.room = grind (arith, nat_tests) in
+      record {
+        text = c ∷ [];
+        scalars = one_scalar c scalar;
+        reads = reads_one c some within means;
+        fits = omega (arith, fits, ap length units);
+        written = appended ∙ ap (with_appended before) (sym units);
+      }
 
--- pieces of the first m bytes are pieces of all
-pub puts_wider : {units_of : ℕ → List ℕ} {Means : List ℕ → ℕ → Type 0} {before after : Output}
-    {src : List ℕ} (m : ℕ)
-    {n : ℕ} {front : List ℕ}
-    → front ≡ take m src
-    → PutsPieces units_of Means before after front n → PutsPieces units_of Means before after src n
-puts_wider {Means = Means} {src = src} m {n} e puts = record {
-  text = puts.text;
-  scalars = puts.scalars;
-  reads = reads_wider Means src m n puts.text
-      (subst (λ z. ReadsPieces Means z n puts.text) e puts.reads);
-  fits = puts.fits;
-  written = puts.written;
-}
-
--- bytes among the first m, which are the ASCII characters with their numbers
-pub own_pieces : {units_of : ℕ → List ℕ} {Means : List ℕ → ℕ → Type 0} {before after : Output}
-    {src : List ℕ} (m : ℕ) {n : ℕ}
-    → AreWrittenAsThemselves Means (take m src) → PutsAscii units_of before after (take m src) n
-    → PutsPieces units_of Means before after src n
-own_pieces {Means = Means} {src = src} m {n} own puts =
-    let front = take m src in
-    puts_wider m refl record {
-      text = take n front;
-      scalars = ascii_scalars (take n front) puts.ascii;
-      reads = reads_own Means front n puts.within (All-take (IsWrittenAsItself Means) n front own);
-      fits = puts.fits;
-      written = puts.written;
-    }
-
--- a piece that was found is put out after them
-module _ {units_of : ℕ → List ℕ} {Means : List ℕ → ℕ → Type 0} {before mid after : Output}
-    {src : List ℕ} {a n : ℕ} where
-  pub then_one : {appended : Bool} (c : ℕ) → PutsPieces units_of Means before mid src a
-      → 0 < n → n ≤ length (drop a src) → Means (take n (drop a src)) c → IsScalar c
+  -- a piece that was found, after them
+  pub then_one : {before mid after : Output} {src : List ℕ} {a n : ℕ} {appended : Bool} (c : ℕ)
+      → PutsPieces units_of Means before mid src a → 0 < n → n ≤ length (drop a src)
+      → Means (take n (drop a src)) c → IsScalar c
       → appended ≡ nat_le (length (units_of c)) mid.room → appended ≡ true
       → after ≡ with_appended mid (units_of c)
       → PutsPieces units_of Means before after src (a + n)
-  then_one c p some within means scalar test was_appended e =
-      then p (one_piece c some within scalar means (sym test ∙ was_appended) e)
+  then_one c first some within means scalar test was_appended written =
+      then first (one_piece c some within scalar means (sym test ∙ was_appended) written)
 
--- the same by an equal meaning
-pub puts_same : {units_of : ℕ → List ℕ} {T : Type 0} (means : T → List ℕ → ℕ → Type 0) {a b : T}
-    {before after : Output}
-    {src : List ℕ} {n : ℕ}
-    → a ≡ b
-    → PutsPieces units_of (means a) before after src n
-    → PutsPieces units_of (means b) before after src n
-puts_same {units_of} means {before = before} {after = after} {src = src} {n = n} e p =
-    subst (λ t. PutsPieces units_of (means t) before after src n) e p
+  -- the same, where the output is known to be as it was
+  pub same_then : {before mid after : Output} {src : List ℕ} {n : ℕ} → after ≡ mid
+      → PutsPieces units_of Means before mid src n → PutsPieces units_of Means before after src n
+  same_then {before = before} {src = src} {n = n} same puts =
+      subst (λ (o : Output). PutsPieces units_of Means before o src n) (sym same) puts
+
+  -- pieces of the first m bytes are pieces of all
+  pub puts_wider : {before after : Output} {src : List ℕ} (m : ℕ) {n : ℕ} {front : List ℕ}
+      → front ≡ take m src → PutsPieces units_of Means before after front n
+      → PutsPieces units_of Means before after src n
+  puts_wider {src = src} m {n} front_is puts = record {
+    text = puts.text;
+    scalars = puts.scalars;
+    reads = reads_wider m (subst (λ z. ReadsPieces Means z n puts.text) front_is puts.reads);
+    fits = puts.fits;
+    written = puts.written;
+  }
+
+  -- bytes among the first m, which are the ASCII characters with their numbers
+  pub own_pieces : {before after : Output} {src : List ℕ} (m : ℕ) {n : ℕ}
+      → AreWrittenAsThemselves Means (take m src) → PutsAscii units_of before after (take m src) n
+      → PutsPieces units_of Means before after src n
+  own_pieces {src = src} m {n} own puts =
+      let front = take m src in
+      puts_wider m refl (record {
+        text = take n front;
+        scalars = ascii_scalars (take n front) puts.ascii;
+        reads = reads_own puts.within (All-take (IsWrittenAsItself Means) n front own);
+        fits = puts.fits;
+        written = puts.written;
+      })
 
 -- what the bytes mean by one reading, they mean by another
 

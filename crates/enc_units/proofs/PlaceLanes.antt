@@ -1,37 +1,14 @@
 -- The places of sixteen bytes, in lanes.
 use Rattle.std.proofs.Common.{◌≡◌, ℕ, ◌+◌, ◌-◌, ◌*◌, ◌%◌, ◌^◌, ◌<◌, ◌≤◌, ◌==◌, Bool, true, false, cond}
-use Rattle.std.proofs.Common.{leb, List, map, length, get_or, ap, ◌∙◌, sym, arith, inl, inr}
+use Rattle.std.proofs.Common.{leb, List, map, length, get_or, ap, ◌∙◌, arith, inl, inr}
 use Rattle.std.proofs.lemmas.Bool.{cases_lt}
 use Rattle.std.proofs.lemmas.Bool.Decides.{nat_tests}
-use Rattle.std.proofs.lemmas.Simd.{map-map, pick_l_whole}
 use Rattle.std.proofs.Math.Nat.{mul-le-mul_right}
-use Rattle.std.specs.List.{range_with_len}
-use lib.Lanes.{mask_l, top, sel_l}
+use lib.Lanes.{mask_l, top}
 use Rattle.enc_units.specs.Places.{has_bit, number_in}
-use Rattle.enc_units.proofs.Utf8Lanes.{IsFlags, at_least, flag_bit, top_flag}
-use Rattle.enc_units.proofs.Utf8UnitLanes.{IsLanes, lane_at, widened, splat_lanes, by_op, sum_lanes}
-use Rattle.enc_units.proofs.Utf8UnitLanes.{product_lanes, at_least_lanes, chosen_lanes, choices}
-
-abbrev lane_numbers : List ℕ
-lane_numbers = range_with_len 0 16
-
-pub own_lanes : (xs : List ℕ) → length xs ≡ 16 → IsLanes xs (λ k. get_or xs k 0)
-own_lanes xs long = record { is = sym (pick_l_whole 0 xs 16 long) }
-
--- lanes of bytes that a comparison chooses
-pub chosen_bytes : (t : ℕ → Bool) {f g : ℕ → ℕ} {m xs ys : List ℕ}
-    → IsLanes m (λ k. cond (t k) 255 0) → IsLanes xs f
-    → IsLanes ys g
-    → IsLanes (sel_l (map (top 7) m) xs ys) (λ k. cond (t k) (f k) (g k))
-chosen_bytes t {f} {g} {m} {xs} {ys} p q r =
-    let tops : map (top 7) m ≡ map t lane_numbers =
-    ap (map (top 7)) p.is ∙ map-map (top 7) (λ j. cond (t j) 255 0) lane_numbers
-    ∙ ap (λ (h : ℕ → Bool). map h lane_numbers) (λ i j. top_flag (t j) i) in
-    record {
-      is = ap (λ l. sel_l l xs ys) tops ∙ ap (λ x. sel_l (map t lane_numbers) x ys) q.is
-          ∙ ap (λ y. sel_l (map t lane_numbers) (map f lane_numbers) y) r.is
-          ∙ choices t f g lane_numbers;
-    }
+use Rattle.enc_units.proofs.Utf8Lanes.{IsFlags, at_least, flag_bit}
+use Rattle.enc_units.proofs.Utf8UnitLanes.{IsLanes, own_lanes, lane_at, widened, splat_lanes, by_op, sum_lanes}
+use Rattle.enc_units.proofs.Utf8UnitLanes.{product_lanes, at_least_lanes, chosen_lanes, chosen_bytes}
 
 -- the number of a byte in a range
 
@@ -67,7 +44,7 @@ module _ (first last number : ℕ) (bs os : List ℕ) (lb : length bs ≡ 16) (l
   numbers = (
     _,
     chosen_bytes _
-        (by_op offsets.1 (splat_lanes (last - first)) (λ a b. cond (leb a b) 255 0))
+        (by_op offsets.1 (splat_lanes (last - first)) (λ a b. cond (leb a b) 255 0)).is
         (by_op offsets.1 (splat_lanes number) (λ a b. (a + b) % 256)) (own_lanes os lo),
   )
 

@@ -1,27 +1,24 @@
 -- Runs of characters that are read from UTF-16.
-use Rattle.std.proofs.Common.{◌≡◌, ℕ, zero, suc, ◌+◌, ◌%◌, ◌<◌, ◌≤◌, false, List, [], ◌∷◌, ◌++◌, length, map}
+use Rattle.std.proofs.Common.{◌≡◌, ℕ, zero, suc, ◌+◌, ◌%◌, ◌<◌, ◌≤◌, false, List, [], ◌∷◌, length, map}
 use Rattle.std.proofs.Common.{get_or, take, drop, refl, ap, ◌∙◌, sym, subst, arith, nat_le, nat_lt, ◌&&◌}
-use Rattle.std.proofs.Common.{take-append-drop, set, replicate, ltb, lt-ltb, le-ltb, cond, min, length-drop}
-use Rattle.std.proofs.Common.{length-take, inl, inr}
+use Rattle.std.proofs.Common.{take-append-drop, set, replicate, ltb, lt-ltb, le-ltb, cond, min}
+use Rattle.std.proofs.Common.{inl, inr}
 use Rattle.std.proofs.lemmas.Bool.{cases_lt, cond-true, cond-false}
 use Rattle.std.proofs.lemmas.Bool.Decides.{nat_tests}
-use Rattle.std.proofs.lemmas.List.{length-map, length-take-le, take-take, get_or-drop, get_or-take, get_or-map}
+use Rattle.std.proofs.lemmas.List.{length-map, length-take-le, take-take, get_or-drop, get_or-take}
 use lib.Lanes.{sel_l}
 use Rattle.std.specs.Char.Utf16.{utf16_lossy_chars}
-use Rattle.enc_units.specs.Mappings.{AreWrittenAsThemselves}
+use Rattle.enc_units.specs.Mappings.{AreAnyUnits, WritesFront, WritesThemselves}
 use Rattle.enc_units.specs.Surrogates.{lossy_unit_char}
 use Rattle.enc_units.specs.Validity.{AreAscii}
 use Rattle.enc_units.proofs.AsciiLemmas.{one_ascii}
 use Rattle.enc_units.proofs.CharsLemmas.{lossy_lone}
 use Rattle.enc_units.proofs.LaneLemmas.{all_fewer}
-use Rattle.enc_units.proofs.MappingLemmas.{put_one}
+use Rattle.enc_units.proofs.PutLemmas.{put_one}
 use Rattle.enc_units.proofs.ScalarLemmas.{ascii_scalars}
 use Rattle.enc_units.proofs.Utf16TextLemmas.{lossy_scalars}
-use Rattle.enc_units.proofs.WriteLoopLemmas.{HasFront, Written, one_further}
-
--- no condition: surrogates without their partners are read as U+FFFD
-abbrev pub Any : List ℕ → Type 0
-Any us = Unit {0}
+use Rattle.enc_units.proofs.LengthLemmas.{lengths}
+use Rattle.enc_units.proofs.WriteLoopLemmas.{writes_own, writes_one, writes_then}
 
 low_unit : (u : ℕ) → u < 0x800 → lossy_unit_char u ≡ u
 low_unit u h = let low : (nat_le 0xD800 u && nat_lt u 0xE000) ≡ false = grind (arith, nat_tests) in
@@ -57,20 +54,14 @@ pub low_lanes_long : (us lanes : List ℕ) → lanes ≡ map (λ u. u % 0x80) (t
 low_lanes_long us lanes e h = ap length e ∙ length-map (take 16 us) (λ u. u % 0x80)
     ∙ length-take-le 16 us h
 
--- the first n code units are characters by themselves
-pub own_front : (Means : List ℕ → ℕ → Type 0) (n : ℕ) (us : List ℕ) → n ≤ length us
-    → AreWrittenAsThemselves Means (take n us)
-    → HasFront utf16_lossy_chars Any us (take n us)
-own_front Means n us h a =
-    let long : length (take n us) ≡ n = length-take-le n us h in
-    record {
-      within = omega (arith, long);
-      ok = tt;
-      chars = ap utf16_lossy_chars (sym (take-append-drop n us))
-          ∙ lossy_scalars (take n us) (drop n us)
-          (ascii_scalars (take n us) (λ k d l. (a k d l).0))
-          ∙ ap (λ k. take n us ++ utf16_lossy_chars (drop k us)) (sym long);
-    }
+-- code units that are characters by themselves are written
+pub own_written : {Means : List ℕ → ℕ → Type 0} {units before after : List ℕ} {at n : ℕ}
+    → WritesThemselves Means units before after at n
+    → WritesFront utf16_lossy_chars AreAnyUnits Means units before after at n n
+own_written {units = units} {n = n} own =
+    writes_own own tt (ap utf16_lossy_chars (sym (take-append-drop n units))
+    ∙ lossy_scalars (take n units) (drop n units)
+    (ascii_scalars (take n units) (λ k d inside. (own.ascii k d inside).0)))
 
 -- a first code unit that is ASCII is the first character
 pub first_ascii : (us : List ℕ) → 1 ≤ length us → get_or us 0 0 < 0x80
@@ -91,22 +82,18 @@ own_unit (u ∷ us) some low =
 
 -- its byte is written
 pub unit_further : {Means : List ℕ → ℕ → Type 0} {src first dst : List ℕ} {at count : ℕ} (byte : ℕ)
-    → Written utf16_lossy_chars Any Means src first at dst count (at + count)
+    → WritesFront utf16_lossy_chars AreAnyUnits Means src first dst at count count
     → count < length src → get_or src count 0 < 0x800 → Means (byte ∷ []) (get_or src count 0)
     → at + count < length dst
-    → Written utf16_lossy_chars Any Means src first at (set dst (at + count) byte) (count + 1)
-    (at + (count + 1))
-unit_further {Means} {src} {first} {dst} {at} {count} byte written within low means room =
+    → WritesFront utf16_lossy_chars AreAnyUnits Means src first (set dst (at + count) byte) at
+    (count + 1) (count + 1)
+unit_further {src = src} {dst = dst} {at = at} {count = count} byte writes within low means room =
     let rest = drop count src in
     let here : get_or rest 0 0 ≡ get_or src count 0 =
     get_or-drop count src 0 0 ∙ ap (λ k. get_or src k 0) (omega arith) in
-    let some : 1 ≤ length rest = omega (arith, length-drop count src) in
-    subst (λ k. Written utf16_lossy_chars Any Means src first at (set dst (at + count) byte)
-    (count + 1) k) (omega arith)
-    (one_further written (byte ∷ []) 1 some tt
-    (own_unit rest some (omega (arith, here))
-    ∙ ap (λ x. x ∷ utf16_lossy_chars (drop 1 rest)) here) means refl (omega arith)
-    (put_one (at + count) dst (byte ∷ []) 1 refl (omega arith) room))
+    writes_then writes (writes_one means (omega (arith, lengths)) tt
+    (own_unit rest (omega (arith, lengths)) (omega (arith, here))
+    ∙ ap (λ x. x ∷ utf16_lossy_chars (drop 1 rest)) here) (put_one (at + count) byte dst room))
 
 -- sixteen units that are ASCII are their own lower bytes
 pub sixteen_low : (us lanes : List ℕ) (n : ℕ) → n ≤ 16 → 16 ≤ n → AreAscii (take n (take 16 us))
@@ -132,25 +119,22 @@ selected (suc n) m (u ∷ us) e =
     ap (λ x. x ∷ sel_l (map (λ u. ltb u m) us) us (replicate n m)) least
     ∙ ap (λ x. min u m ∷ x) (selected n m us (omega arith))
 
-clamped_at : (us places : List ℕ) (count : ℕ) → places ≡ map (λ u. min u 0x7FF) (take 16 us)
-    → 16 ≤ length us → count < 16 → get_or places count 0 ≡ min (get_or us count 0) 0x7FF
-clamped_at us places count are long few =
-    ap (λ ps. get_or ps count 0) are
-    ∙ get_or-map (λ u. min u 0x7FF) (take 16 us) count 0 0 (omega (arith, length-take 16 us))
-    ∙ ap (λ u. min u 0x7FF) (get_or-take 16 us count 0 few)
+pub clamped_at : (us : List ℕ) (k : ℕ)
+    → get_or (map (λ u. min u 0x7FF) us) k 0 ≡ min (get_or us k 0) 0x7FF
+clamped_at [] k = refl
+clamped_at (u ∷ us) zero = refl
+clamped_at (u ∷ us) (suc k) = clamped_at us k
 
-pub clamped_low : (us places : List ℕ) (count : ℕ) → places ≡ map (λ u. min u 0x7FF) (take 16 us)
-    → 16 ≤ length us → count < 16 → get_or places count 0 < 0x800
-clamped_low us places count are long few = omega (arith, clamped_at us places count are long few)
+-- a clamped unit with a byte is the unit itself, where U+07FF has none
+pub unclamped : (unit place byte : ℕ) → place ≡ min unit 0x7FF → 0 < byte
+    → (place ≡ 0x7FF → byte ≡ 0) → (unit < 0x800) × (place ≡ unit)
+unclamped unit place byte is some last = elim (cases_lt unit 0x7FF) [
+  | inl low ↦ (omega (arith, low), omega (arith, is, low))
+  | inr high ↦ absurd (omega (arith, some, last (omega (arith, is, high))))
+]
 
--- a clamped unit that has a byte is the unit itself, where 0x7FF has none
-pub unclamped : (us places : List ℕ) (count byte : ℕ)
-    → places ≡ map (λ u. min u 0x7FF) (take 16 us) → 16 ≤ length us → count < 16
-    → (get_or places count 0 ≡ 0x7FF → byte ≡ 0) → (byte ≡ 0 → ⊥)
-    → (get_or us count 0 < 0x800) × (get_or places count 0 ≡ get_or us count 0)
-unclamped us places count byte are long few last some =
-    let place = clamped_at us places count are long few in
-    elim (cases_lt (get_or us count 0) 0x7FF) [
-      | inl low ↦ (omega (arith, low), omega (arith, place, low))
-      | inr high ↦ absurd (some (last (omega (arith, place, high))))
-    ]
+-- of sixteen units that were loaded
+pub place_is : (us places : List ℕ) (k : ℕ) → places ≡ map (λ u. min u 0x7FF) (take 16 us) → k < 16
+    → get_or places k 0 ≡ min (get_or us k 0) 0x7FF
+place_is us places k are below = ap (λ ps. get_or ps k 0) are ∙ clamped_at (take 16 us) k
+    ∙ ap (λ u. min u 0x7FF) (get_or-take 16 us k 0 below)

@@ -7,12 +7,14 @@ use Rattle.std.proofs.lemmas.Bool.Decides.{nat_tests}
 use Rattle.std.proofs.lemmas.List.{take-take}
 use Rattle.std.specs.Char.{IsScalar, encode_utf8}
 use Rattle.std.specs.Char.Utf16.{utf16_lossy_chars}
-use Rattle.enc_units.specs.Mappings.{AreWrittenAsUtf8, WritesMapped}
+use Rattle.enc_units.proofs.LengthLemmas.{lengths}
+use Rattle.enc_units.specs.Mappings.{AreAnyUnits, AreWrittenAsUtf8, WritesFront}
 use Rattle.enc_units.specs.Output.{AreScalars, units_of_text}
 use Rattle.enc_units.specs.Surrogates.{lossy_unit_char, IsSurrogatePair, IsFirstUtf16Char}
 use Rattle.enc_units.specs.Utf16Text.{AreUtf8OfUnits}
 use Rattle.enc_units.proofs.CharsLemmas.{lossy_lone}
 use Rattle.enc_units.proofs.MappingLemmas.{maps_utf8}
+use Rattle.enc_units.proofs.PutLemmas.{Put}
 use Rattle.enc_units.proofs.PiecesLemmas.{units-append}
 use Rattle.enc_units.proofs.ScalarLemmas.{one_scalar, scalars-append}
 
@@ -37,19 +39,10 @@ lossy_scalars (u ∷ us) rest are_scalars =
 
 -- characters that are read, and their UTF-8
 
-pub text_none : (us : List ℕ) → AreUtf8OfUnits us 0 []
-text_none us = record {
-  within = omega arith;
-  text = [];
-  scalars = refl;
-  reads = refl;
-  written = refl;
-}
-
 pub text_then : {us front more : List ℕ} {a n : ℕ} → AreUtf8OfUnits us a front
     → AreUtf8OfUnits (drop a us) n more → AreUtf8OfUnits us (a + n) (front ++ more)
 text_then {us} {front} {more} {a} {n} first others = record {
-  within = omega (arith, first.within, others.within, length-drop a us);
+  within = omega (arith, lengths, first.within, others.within);
   text = first.text ++ others.text;
   scalars = scalars-append first.text others.text first.scalars others.scalars;
   reads = first.reads ∙ ap (λ z. first.text ++ z) others.reads
@@ -98,13 +91,15 @@ pub text_then_units : (n : ℕ) {us units before after : List ℕ} {a : ℕ}
     → AreScalars (take n units)
     → after ≡ before ++ units_of_text encode_utf8 (take n units) → AreUtf8OfUnits us (a + n) after
 text_then_units n {us} {a = a} first few long are_units are_scalars stored =
-    text_stored first (text_units n few (omega (arith, length-drop a us)) are_units are_scalars)
+    text_stored first (text_units n few (omega (arith, lengths)) are_units are_scalars)
     stored
 
 -- they are written to a slice
-pub maps_text : {Means : List ℕ → ℕ → Type 0} {us bytes before after : List ℕ} {at n k : ℕ}
-    → AreWrittenAsUtf8 Means → AreUtf8OfUnits us n bytes → k ≡ length bytes
-    → at + k ≤ length before → after ≡ take at before ++ (bytes ++ drop (at + k) before)
-    → WritesMapped Means (utf16_lossy_chars us) (utf16_lossy_chars (drop n us)) before after at k
-maps_text {Means} utf8 text count fits onto =
-    maps_utf8 Means utf8 text.text text.scalars text.reads text.written count fits onto
+pub writes_text : {Means : List ℕ → ℕ → Type 0} {us bytes before after : List ℕ} {at n k : ℕ}
+    → AreWrittenAsUtf8 Means → AreUtf8OfUnits us n bytes → Put at k before bytes after
+    → WritesFront utf16_lossy_chars AreAnyUnits Means us before after at n k
+writes_text utf8 text put = record {
+  within = text.within;
+  rest = tt;
+  writes = maps_utf8 utf8 text.text text.scalars text.reads text.written put;
+}

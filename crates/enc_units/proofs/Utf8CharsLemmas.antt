@@ -1,41 +1,24 @@
 -- The characters of well-formed UTF-8.
-use Rattle.std.proofs.Common.{◌≡◌, ℕ, ◌<◌, ◌≤◌, true, List, [], ◌∷◌, ◌++◌, length, take, refl, ap, ◌∙◌, sym, arith}
+use Rattle.std.proofs.Common.{◌≡◌, ℕ, ◌<◌, ◌≤◌, List, [], ◌∷◌, ◌++◌, length, take, refl, ap, ◌∙◌, sym, arith}
 use Rattle.std.proofs.Common.{length-append, length-take}
-use Rattle.std.proofs.lemmas.Bool.{and_parts}
 use Rattle.std.proofs.Math.Utf8.{low_scalar}
 use Rattle.std.proofs.lemmas.Str.{length-encode, len_utf8_bounds, encode_ascii}
 use Rattle.std.specs.Char.{encode_utf8}
-use Rattle.std.specs.Str.{all_scalars, encode_utf8_all}
+use Rattle.std.specs.Str.{encode_utf8_all}
+use Rattle.enc_units.proofs.LengthLemmas.{lengths}
 use Rattle.enc_units.specs.Output.{Output, with_appended, units_of_text}
 use Rattle.enc_units.specs.Validity.{IsWellFormedUtf8}
-use Rattle.enc_units.specs.Pieces.{Piece, piece_bytes, piece_chars, EachMeansChar, IsUtf8Char, ReadsPieces, PutsPieces}
-
-abbrev pieces_of : List ℕ → List Piece
-pieces_of [] = []
-pieces_of (c ∷ cs) = record { bytes = encode_utf8 c; char = c } ∷ pieces_of cs
-
-their_bytes : (cs : List ℕ) → piece_bytes (pieces_of cs) ≡ encode_utf8_all cs
-their_bytes [] = refl
-their_bytes (c ∷ cs) = ap (λ x. encode_utf8 c ++ x) (their_bytes cs)
-
-their_chars : (cs : List ℕ) → piece_chars (pieces_of cs) ≡ cs
-their_chars [] = refl
-their_chars (c ∷ cs) = ap (λ x. c ∷ x) (their_chars cs)
+use Rattle.enc_units.specs.Pieces.{IsUtf8Char, ReadsPieces, PutsPieces}
+use Rattle.enc_units.proofs.PieceListLemmas.{AreScalars-all, pieces_of, bytes_of, chars_of, they_mean}
 
 pub their_units : (cs : List ℕ) → units_of_text encode_utf8 cs ≡ encode_utf8_all cs
 their_units [] = refl
 their_units (c ∷ cs) = ap (λ x. encode_utf8 c ++ x) (their_units cs)
 
-they_mean : (cs : List ℕ) → all_scalars cs ≡ true → EachMeansChar IsUtf8Char (pieces_of cs)
-they_mean [] e = tt
-they_mean (c ∷ cs) e = let scalar_parts = and_parts _ _ e in
-    ((scalar_parts.0, refl), they_mean cs scalar_parts.1)
-
-none_of : (cs : List ℕ) → length (encode_utf8_all cs) ≡ 0 → pieces_of cs ≡ []
+none_of : (cs : List ℕ) → length (encode_utf8_all cs) ≡ 0 → pieces_of encode_utf8 cs ≡ []
 none_of [] e = refl
 none_of (c ∷ cs) e =
-    absurd (omega
-    (arith, length-append (encode_utf8 c) (encode_utf8_all cs), length-encode c, len_utf8_bounds c))
+    absurd (omega (arith, lengths, length-encode c, len_utf8_bounds c))
 
 -- an ASCII byte is its own character
 pub ascii_char : (b : ℕ) → b < 0x80 → IsUtf8Char (b ∷ []) b
@@ -45,12 +28,13 @@ ascii_char b h = (low_scalar b (omega arith), sym (encode_ascii b h))
 pub reads_utf8 : (src : List ℕ) (n : ℕ) → n ≤ length src → (utf8 : IsWellFormedUtf8 (take n src))
     → ReadsPieces IsUtf8Char src n utf8.0
 reads_utf8 src n l utf8 = record {
-  pieces = pieces_of utf8.0;
+  pieces = pieces_of encode_utf8 utf8.0;
   within = l;
-  bytes = their_bytes utf8.0 ∙ utf8.1.1;
-  chars = their_chars utf8.0;
-  mean = they_mean utf8.0 utf8.1.0;
-  none = λ z. none_of utf8.0 (omega (arith, ap length utf8.1.1, length-take n src));
+  bytes = bytes_of encode_utf8 utf8.0 ∙ their_units utf8.0 ∙ utf8.1.1;
+  chars = chars_of encode_utf8 utf8.0;
+  mean = they_mean encode_utf8 IsUtf8Char utf8.0
+      (λ k d inside. (AreScalars-all utf8.0 utf8.1.0 k d inside, refl));
+  none = λ z. none_of utf8.0 (omega (arith, lengths, ap length utf8.1.1));
 }
 
 -- and well-formed bytes are put out as they are
@@ -63,6 +47,6 @@ puts_utf8 before after src n l f utf8 e =
       text = utf8.0;
       scalars = utf8.1.0;
       reads = reads_utf8 src n l utf8;
-      fits = omega (arith, ap length units, length-take n src);
+      fits = omega (arith, lengths, ap length units);
       written = e ∙ ap (with_appended before) (sym units);
     }

@@ -1,25 +1,27 @@
 -- The faults of sixteen bytes with those before them, lane by lane.
-use Rattle.std.proofs.Common.{◌≡◌, ℕ, zero, suc, ◌+◌, ◌-◌, ◌*◌, ◌/◌, ◌%◌, ◌^◌, ◌<◌, ◌≤◌, ◌⊎◌, Bool, true, false, not}
-use Rattle.std.proofs.Common.{◌||◌, ◌&&◌, if◌then◌else◌, cond, eqb, leb, ltb, le-leb, leb-true, ltb-true, eqb-true}
+use Rattle.std.proofs.Common.{◌≡◌, ℕ, suc, ◌+◌, ◌-◌, ◌*◌, ◌/◌, ◌%◌, ◌^◌, ◌<◌, ◌≤◌, ◌⊎◌, Bool, true, false, not}
+use Rattle.std.proofs.Common.{◌&&◌, cond, eqb, leb, ltb, le-leb, eqb-true}
 use Rattle.std.proofs.Common.{eq-eqb, List, map, length, get_or, replicate, take, bit_and, bit_or, bit_xor, refl, ap}
 use Rattle.std.proofs.Common.{◌∙◌, sym, subst, arith, inl, inr, ◌∷◌, ◌++◌, drop, length-drop, length-append}
-use Rattle.std.proofs.lemmas.Bool.{and_parts, or_cases, cases_lt, not-false}
+use Rattle.std.proofs.lemmas.Bool.{and_parts, cases_lt, not-false}
 use Rattle.std.proofs.lemmas.Bool.Decides.{nat_tests}
-use Rattle.std.proofs.lemmas.List.{get_or-map, get_or-replicate, length-map, get_or-drop, get_or-take, take_all}
+use Rattle.std.proofs.lemmas.List.{get_or-replicate, get_or-drop, get_or-take, take_all}
 use Rattle.std.proofs.lemmas.Nat.{and_le_l, and_le_r}
 use Rattle.std.proofs.lemmas.Nat.Bits.{and_pow, bit_at_or}
-use Rattle.std.proofs.lemmas.Simd.{get_or-chunk, get_or-zip2, length-replicate, length-zip2, map-map}
+use Rattle.std.proofs.lemmas.Simd.{get_or-chunk, get_or-zip2, length-replicate, length-zip2}
 use Rattle.std.proofs.lemmas.Simd.{pick_l-range_with_len}
 use Rattle.std.specs.Int.Bits.{or_add_and, xor_assoc, xor_self, xor_zero_l, xor_zero_r}
 use Rattle.std.specs.List.{range_with_len}
-use lib.Lanes.{zip2, mask_l, top, chunk, sel_l, pick_l}
+use lib.Lanes.{zip2, mask_l, top, chunk, pick_l}
+use Rattle.enc_units.proofs.LengthLemmas.{lengths}
 use Rattle.enc_units.specs.declared.utf8_faults.TheConstants.{FIRST_UPPER, FIRST_LOWER, SECOND_UPPER}
 use Rattle.enc_units.specs.Utf8Run.{CanFollowBytes, CanFollowBytesAt, IsCharBoundaryAfter, ArePairFaults}
 use Rattle.enc_units.specs.Validity.{IsWellFormedUtf8}
+use Rattle.enc_units.proofs.TestLemmas.{every, every_passes}
 use Rattle.enc_units.proofs.Utf8RunLemmas.{blocks_utf8}
-use Rattle.enc_units.specs.Utf8Run.{allows_second, begins_or_is_second, is_continuation_byte, required_faults}
-use Rattle.enc_units.proofs.Utf8Lanes.{IsFlags, places, top_flag, lanes, below, unequal_to, none_set}
-use Rattle.enc_units.proofs.Utf8UnitLanes.{IsLanes, lane_at, splat_lanes, and_lanes, by_op, choices}
+use Rattle.enc_units.specs.Utf8Run.{begins_or_is_second, is_continuation_byte, required_faults}
+use Rattle.enc_units.proofs.Utf8Lanes.{below, unequal_to, none_set}
+use Rattle.enc_units.proofs.Utf8UnitLanes.{IsLanes, own_lanes, lane_at, splat_lanes, and_lanes, by_op, chosen_bytes}
 
 -- lanes of operations
 
@@ -34,20 +36,17 @@ pub lane_of_two : (f : ℕ → ℕ → ℕ) (xs ys : List ℕ) (k : ℕ) → len
     → k < 16 → get_or (zip2 f xs ys) k 0 ≡ f (get_or xs k 0) (get_or ys k 0)
 lane_of_two f xs ys k lx ly h = get_or-zip2 f xs ys k 0 0 0 (omega arith) (omega arith)
 
+-- of three lists
+pub lane_of_and : (xs ys zs : List ℕ) (k : ℕ) → length xs ≡ 16 → length ys ≡ 16
+    → length zs ≡ 16 → k < 16
+    → get_or (zip2 bit_and (zip2 bit_and xs ys) zs) k 0
+    ≡ bit_and (bit_and (get_or xs k 0) (get_or ys k 0)) (get_or zs k 0)
+lane_of_and xs ys zs k lx ly lz below =
+    let both : length (zip2 bit_and xs ys) ≡ 16 = length-zip2 bit_and xs ys (lx ∙ sym ly) ∙ lx in
+    lane_of_two bit_and (zip2 bit_and xs ys) zs k both lz below
+    ∙ ap (λ z. bit_and z (get_or zs k 0)) (lane_of_two bit_and xs ys k lx ly below)
+
 -- the tables, at all halves
-
-unfoldable every : ℕ → (ℕ → Bool) → Bool
-every zero p = true
-every (suc n) p = p n && every n p
-
-every_passes : (n : ℕ) (p : ℕ → Bool) → every n p ≡ true → (k : ℕ) → k < n → p k ≡ true
-unfolding every
-every_passes zero p all k h = absurd (omega arith)
-every_passes (suc n) p all k h = elim (cases_lt k n) [
-  | inl l ↦ every_passes n p (and_parts _ _ all).1 k l
-  | inr g ↦ let last : n ≡ k = omega arith in
-      subst (λ i. p i ≡ true) last (and_parts (p n) _ all).0
-]
 
 abbrev alike : Bool → Bool → Bool
 alike true b = b
@@ -80,45 +79,11 @@ tables_ok = refl
 
 -- the upper half of the second byte decides
 
-at_most_upper : (n b : ℕ) → n % 16 ≡ 0 → leb n (b / 16 * 16) ≡ leb n b
-at_most_upper n b whole = elim (cases_lt b n) [
-  | inl h ↦ grind (arith, nat_tests)
-  | inr h ↦ le-leb n (b / 16 * 16) (omega arith) ∙ sym (le-leb n b (omega arith))
-]
-
-upper_below : (n b : ℕ) → n % 16 ≡ 0 → ltb (b / 16 * 16) n ≡ ltb b n
-upper_below n b whole = elim (cases_lt b n) [
-  | inl h ↦ grind (arith, nat_tests)
-  | inr h ↦ grind (arith, nat_tests)
-]
-
-abbrev least : Bool → Bool → ℕ
-least s t = if s then 0xA0 else if t then 0x90 else 0x80
-
-abbrev above : Bool → Bool → ℕ
-above s t = if s then 0xA0 else if t then 0x90 else 0xC0
-
-least_whole : (s t : Bool) → least s t % 16 ≡ 0
-least_whole true t = refl
-least_whole false true = refl
-least_whole false false = refl
-
-above_whole : (s t : Bool) → above s t % 16 ≡ 0
-above_whole true t = refl
-above_whole false true = refl
-above_whole false false = refl
-
 begins_by_upper : (x b : ℕ) → begins_or_is_second x (b / 16 * 16) ≡ begins_or_is_second x b
-begins_by_upper x b =
-    rw (
-      upper_below 0x80 b refl,
-      at_most_upper 0xC0 b refl,
-      at_most_upper (least (eqb x 0xE0) (eqb x 0xF0)) b (least_whole (eqb x 0xE0) (eqb x 0xF0)),
-      upper_below (above (eqb x 0xED) (eqb x 0xF4)) b (above_whole (eqb x 0xED) (eqb x 0xF4)),
-    ) refl
+begins_by_upper x b = grind (arith, nat_tests)
 
 continue_by_upper : (x b : ℕ) → continue x (b / 16 * 16) ≡ continue x b
-continue_by_upper x b = rw (at_most_upper 0x80 b refl, upper_below 0xC0 b refl) refl
+continue_by_upper x b = grind (arith, nat_tests)
 
 pub pair_of : (x b : ℕ) → x < 0x100 → b < 0x100
     → ArePairFaults x b (looked_up (x / 16) (x % 16) (b / 16))
@@ -140,60 +105,13 @@ pair_of x b lx lb =
           ∙ continue_by_upper x b;
     }
 
-module _ (xs bs us ls vs : List ℕ) (lx : length us ≡ 16) (ll : length ls ≡ 16)
-    (lb : length vs ≡ 16)
-    (uppers : (k : ℕ) → k < 16 → get_or us k 0 ≡ get_or xs k 0 / 16)
-    (lowers : (k : ℕ) → k < 16 → get_or ls k 0 ≡ get_or xs k 0 % 16)
-    (seconds : (k : ℕ) → k < 16 → get_or vs k 0 ≡ get_or bs k 0 / 16)
-    (few_firsts : (k : ℕ) → k < 16 → get_or xs k 0 < 0x100)
-    (few_seconds : (k : ℕ) → k < 16 → get_or bs k 0 < 0x100) where
-  abbrev read : List ℕ → List ℕ → List ℕ
-  read table places = map (λ p. get_or table p 0) places
-
-  read_at : (table places : List ℕ) (k : ℕ) → length places ≡ 16 → k < 16
-      → get_or (read table places) k 0 ≡ get_or table (get_or places k 0) 0
-  read_at table places k long h = get_or-map (λ p. get_or table p 0) places k 0 0 (omega arith)
-
-  abbrev of_first : List ℕ
-  of_first = zip2 bit_and (read FIRST_UPPER us) (read FIRST_LOWER ls)
-
-  read_long : (table places : List ℕ) → length places ≡ 16 → length (read table places) ≡ 16
-  read_long table places long = length-map places (λ p. get_or table p 0) ∙ long
-
-  first_long : length of_first ≡ 16
-  first_long =
-      let one = read_long FIRST_UPPER us lx in
-      let other = read_long FIRST_LOWER ls ll in
-      length-zip2 bit_and (read FIRST_UPPER us) (read FIRST_LOWER ls) (one ∙ sym other) ∙ one
-
-  looked_up_lane : (k : ℕ) → k < 16
-      → ArePairFaults (get_or xs k 0) (get_or bs k 0)
-      (get_or (zip2 bit_and of_first (read SECOND_UPPER vs)) k 0)
-  looked_up_lane k h =
-      let one = read_at FIRST_UPPER us k lx h ∙ ap (λ p. get_or FIRST_UPPER p 0) (uppers k h) in
-      let other = read_at FIRST_LOWER ls k ll h ∙ ap (λ p. get_or FIRST_LOWER p 0) (lowers k h) in
-      let third = read_at SECOND_UPPER vs k lb h
-      ∙ ap (λ p. get_or SECOND_UPPER p 0) (seconds k h) in
-      let lane : get_or (zip2 bit_and of_first (read SECOND_UPPER vs)) k 0
-      ≡ looked_up (get_or xs k 0 / 16) (get_or xs k 0 % 16) (get_or bs k 0 / 16) =
-      lane_of_two bit_and of_first (read SECOND_UPPER vs) k first_long
-      (read_long SECOND_UPPER vs lb) h
-      ∙ ap (λ z. bit_and z (get_or (read SECOND_UPPER vs) k 0))
-      (lane_of_two bit_and (read FIRST_UPPER us) (read FIRST_LOWER ls) k
-      (read_long FIRST_UPPER us lx) (read_long FIRST_LOWER ls ll) h)
-      ∙ rw (one, other, third) refl in
-      subst (ArePairFaults (get_or xs k 0) (get_or bs k 0)) (sym lane)
-      (pair_of (get_or xs k 0) (get_or bs k 0) (few_firsts k h) (few_seconds k h))
-
-  pub pair_lane : (a b c : List ℕ) → a ≡ read FIRST_UPPER us → b ≡ read FIRST_LOWER ls
-      → c ≡ read SECOND_UPPER vs → (k : ℕ) → k < 16
-      → ArePairFaults (get_or xs k 0) (get_or bs k 0)
-      (get_or (zip2 bit_and (zip2 bit_and a b) c) k 0)
-  pair_lane a b c is_a is_b is_c k h =
-      let same : zip2 bit_and (zip2 bit_and a b) c ≡ zip2 bit_and of_first (read SECOND_UPPER vs) =
-      rw (is_a, is_b, is_c) refl in
-      subst (λ zs. ArePairFaults (get_or xs k 0) (get_or bs k 0) (get_or zs k 0)) (sym same)
-      (looked_up_lane k h)
+-- the faults of a pair, where each table is read at a half
+pub pair_faults_of : {x b upper lower second : ℕ} → x < 0x100 → b < 0x100
+    → upper ≡ get_or FIRST_UPPER (x / 16) 0 → lower ≡ get_or FIRST_LOWER (x % 16) 0
+    → second ≡ get_or SECOND_UPPER (b / 16) 0
+    → ArePairFaults x b (bit_and (bit_and upper lower) second)
+pair_faults_of {x} {b} first_fits second_fits upper_is lower_is second_is =
+    rw (upper_is, lower_is, second_is) (pair_of x b first_fits second_fits)
 
 -- the faults that a character of three or four bytes requires
 
@@ -209,24 +127,12 @@ excess_is a n la ln = elim (cases_lt a n) [
   | inr h ↦ grind (arith, nat_tests)
 ]
 
-pub selected : {t : ℕ → Bool} {f g : ℕ → ℕ} {m xs ys : List ℕ} → IsFlags m t → IsLanes xs f
-    → IsLanes ys g → IsLanes (sel_l (map (top 7) m) xs ys) (λ k. cond (t k) (f k) (g k))
-selected {t} {f} {g} {m} {xs} {ys} p q r =
-    let tops : map (top 7) m ≡ map t places =
-    ap (map (top 7)) p.is ∙ map-map (top 7) (λ j. cond (t j) 255 0) places
-    ∙ ap (λ (h : ℕ → Bool). map h places) (λ i j. top_flag (t j) i) in
-    record {
-      is = ap (λ l. sel_l l xs ys) tops ∙ ap (λ x. sel_l (map t places) x ys) q.is
-          ∙ ap (λ y. sel_l (map t places) (map f places) y) r.is ∙ choices t f g places;
-    }
-
 module _ (n : ℕ) (vs : List ℕ) (long : length vs ≡ 16) where
   abbrev excesses : (m : List ℕ) × IsLanes m (λ k. excess (get_or vs k 0) n)
-  excesses = (
-    _,
-    by_op (selected (below n vs long) (splat_lanes n) (record { is = lanes vs long }))
-        (splat_lanes n) less,
-  )
+  excesses =
+      let own = own_lanes vs long in
+      let most = chosen_bytes (λ k. ltb (get_or vs k 0) n) (below n vs long).is (splat_lanes n) own in
+      (_, by_op most (splat_lanes n) less)
 
 required_is : (z y : ℕ) → z < 0x100 → y < 0x100
     → bit_and (bit_or (excess y 0x60) (excess z 0x70)) 0x80 ≡ required_faults z y
@@ -268,116 +174,31 @@ equal_if_no_difference a b e =
     sym (xor_zero_r a) ∙ ap (bit_xor a) (sym e) ∙ sym (xor_assoc a a b)
     ∙ ap (λ z. bit_xor z b) (xor_self a) ∙ xor_zero_l b
 
-least_continues : (s t : Bool) (b : ℕ) → leb (least s t) b ≡ true → 0x80 ≤ b
-least_continues true t b e = omega (arith, leb-true 0xA0 b e)
-least_continues false true b e = omega (arith, leb-true 0x90 b e)
-least_continues false false b e = leb-true 0x80 b e
-
-above_continues : (s t : Bool) (b : ℕ) → ltb b (above s t) ≡ true → b < 0xC0
-above_continues true t b e = omega (arith, ltb-true b 0xA0 e)
-above_continues false true b e = omega (arith, ltb-true b 0x90 e)
-above_continues false false b e = ltb-true b 0xC0 e
-
 module _ {z y x b : ℕ} where
   within : (0xE0 ≤ y) ⊎ (0xF0 ≤ z) → continue x b ≡ true → CanFollowBytes z y x b
-  within long e =
-      let both = and_parts (is_continuation_byte x) (is_continuation_byte b) e in
-      let first = and_parts (leb 0x80 x) (ltb x 0xC0) both.0 in
-      let byte = and_parts (leb 0x80 b) (ltb b 0xC0) both.1 in
-      let not_lead = ltb-true x 0xC0 first.1 in
-      let continues : (0x80 ≤ b) × (b < 0xC0) = (leb-true 0x80 b byte.0, ltb-true b 0xC0 byte.1) in
-      record {
-        after_first = λ _. continues;
-        after_second = λ _. continues;
-        after_third = λ _. continues;
-        begins = λ p q r. elim long [ inl h ↦ absurd (omega arith) | inr h ↦ absurd (omega arith) ];
-        leads = λ h. absurd (omega arith);
-        after_0xe0 = λ h. absurd (omega arith);
-        after_0xed = λ h. absurd (omega arith);
-        after_0xf0 = λ h. absurd (omega arith);
-        after_0xf4 = λ h. absurd (omega arith);
-      }
-
-  at_start : y < 0xE0 → z < 0xF0 → x < 0xC0 → (b < 0x80) ⊎ (0xC0 ≤ b) → CanFollowBytes z y x b
-  at_start no_second no_third no_lead starts = record {
-    after_first = λ h. absurd (omega arith);
-    after_second = λ h. absurd (omega arith);
-    after_third = λ h. absurd (omega arith);
-    begins = λ _ _ _. starts;
-    leads = λ h. absurd (omega arith);
-    after_0xe0 = λ h. absurd (omega arith);
-    after_0xed = λ h. absurd (omega arith);
-    after_0xf0 = λ h. absurd (omega arith);
-    after_0xf4 = λ h. absurd (omega arith);
-  }
-
-  after_lead : y < 0xE0 → z < 0xF0 → 0xC2 ≤ x → x ≤ 0xF4 → allows_second x b ≡ true
-      → CanFollowBytes z y x b
-  after_lead no_second no_third from to allowed =
-      let parts = and_parts (leb (least (eqb x 0xE0) (eqb x 0xF0)) b)
-      (ltb b (above (eqb x 0xED) (eqb x 0xF4))) allowed in
-      let continues : (0x80 ≤ b) × (b < 0xC0) = (
-        least_continues (eqb x 0xE0) (eqb x 0xF0) b parts.0,
-        above_continues (eqb x 0xED) (eqb x 0xF4) b parts.1,
-      ) in
-      record {
-        after_first = λ _. continues;
-        after_second = λ h. absurd (omega arith);
-        after_third = λ h. absurd (omega arith);
-        begins = λ h _ _. absurd (omega arith);
-        leads = λ _. (from, to);
-        after_0xe0 = λ e. leb-true 0xA0 b
-            (subst (λ v. leb (least (eqb v 0xE0) (eqb v 0xF0)) b ≡ true) e parts.0);
-        after_0xed = λ e. ltb-true b 0xA0
-            (subst (λ v. ltb b (above (eqb v 0xED) (eqb v 0xF4)) ≡ true) e parts.1);
-        after_0xf0 = λ e. leb-true 0x90 b
-            (subst (λ v. leb (least (eqb v 0xE0) (eqb v 0xF0)) b ≡ true) e parts.0);
-        after_0xf4 = λ e. ltb-true b 0x90
-            (subst (λ v. ltb b (above (eqb v 0xED) (eqb v 0xF4)) ≡ true) e parts.1);
-      }
+  within long continues = grind (arith, nat_tests)
 
   between : y < 0xE0 → z < 0xF0 → begins_or_is_second x b ≡ true → CanFollowBytes z y x b
-  between no_second no_third e =
-      elim (or_cases (ltb x 0xC0 && (ltb b 0x80 || leb 0xC0 b))
-      ((leb 0xC2 x && leb x 0xF4) && allows_second x b) e) [
-        | inl starts ↦
-            let parts = and_parts (ltb x 0xC0) (ltb b 0x80 || leb 0xC0 b) starts in
-            at_start no_second no_third (ltb-true x 0xC0 parts.0)
-            (elim (or_cases (ltb b 0x80) (leb 0xC0 b) parts.1) [
-              | inl low ↦ inl (ltb-true b 0x80 low)
-              | inr lead ↦ inr (leb-true 0xC0 b lead)
-            ])
-        | inr second ↦
-            let parts = and_parts (leb 0xC2 x && leb x 0xF4) (allows_second x b) second in
-            let lead = and_parts (leb 0xC2 x) (leb x 0xF4) parts.0 in
-            after_lead no_second no_third (leb-true 0xC2 x lead.0) (leb-true x 0xF4 lead.1) parts.1
-      ]
-
-  without_fault : (pair : ℕ) → ArePairFaults x b pair → required_faults z y ≡ pair
-      → CanFollowBytes z y x b
-  without_fault pair faults same =
-      let short : (leb 0xE0 y || leb 0xF0 z) ≡ false → CanFollowBytes z y x b = λ none.
-      let zero : 0 ≡ pair = sym (ap (λ t. if t then 0x80 else 0) none) ∙ same in
-      between (grind (arith, nat_tests)) (grind (arith, nat_tests))
-      (sym faults.none ∙ eq-eqb pair 0 (sym zero)) in
-      let long : (leb 0xE0 y || leb 0xF0 z) ≡ true → CanFollowBytes z y x b = λ some.
-      let high : 0x80 ≡ pair = sym (ap (λ t. if t then 0x80 else 0) some) ∙ same in
-      within (elim (or_cases (leb 0xE0 y) (leb 0xF0 z) some) [
-        | inl h ↦ inl (leb-true 0xE0 y h)
-        | inr h ↦ inr (leb-true 0xF0 z h)
-      ]) (sym faults.continue ∙ eq-eqb pair 0x80 (sym high)) in
-      by_test (leb 0xE0 y || leb 0xF0 z) refl long short
-    where
-      by_test : (t : Bool) → (leb 0xE0 y || leb 0xF0 z) ≡ t
-          → ((leb 0xE0 y || leb 0xF0 z) ≡ true → CanFollowBytes z y x b)
-          → ((leb 0xE0 y || leb 0xF0 z) ≡ false → CanFollowBytes z y x b) → CanFollowBytes z y x b
-      by_test true e long short = long e
-      by_test false e long short = short e
+  between no_second no_third begins = grind (arith, nat_tests)
 
   pub can_follow : (required pair : ℕ) → required ≡ required_faults z y → ArePairFaults x b pair
       → bit_xor required pair ≡ 0 → CanFollowBytes z y x b
-  can_follow required pair is faults e =
-      without_fault pair faults (sym is ∙ equal_if_no_difference required pair e)
+  can_follow required pair is faults none =
+      let same : required_faults z y ≡ pair =
+      sym is ∙ equal_if_no_difference required pair none in
+      elim (cases_lt y 0xE0) [
+        | inr long ↦
+            let wants : pair ≡ 0x80 = grind (arith, nat_tests, same, long) in
+            within (inl long) (sym faults.continue ∙ eq-eqb pair 0x80 wants)
+        | inl short ↦ elim (cases_lt z 0xF0) [
+          | inr wide ↦
+              let wants : pair ≡ 0x80 = grind (arith, nat_tests, same, wide) in
+              within (inr wide) (sym faults.continue ∙ eq-eqb pair 0x80 wants)
+          | inl narrow ↦
+              let wants : pair ≡ 0 = grind (arith, nat_tests, same, short, narrow) in
+              between short narrow (sym faults.none ∙ eq-eqb pair 0 wants)
+        ]
+      ]
 
 -- the bytes of a load
 
@@ -441,7 +262,7 @@ pub shifted : (n : ℕ) (bytes : List ℕ) → n ≤ 16 → length bytes ≡ 16 
 shifted n bytes few long k h =
     let both : List ℕ = replicate 16 0 ++ bytes in
     let both_long : length both ≡ 32 =
-    omega (arith, long, length-append {A = ℕ} (replicate 16 0) bytes) in
+    omega (arith, lengths, long) in
     ap (λ l. get_or l k 0) (pick_l-range_with_len 0 both n 16 (omega arith))
     ∙ get_or-chunk n 16 both k 0 h ∙ sym (get_or-drop n both k 0)
 
@@ -459,7 +280,7 @@ pub follow_after : (src : List ℕ) (n m : ℕ)
     → ((k : ℕ) → k < m → CanFollowBytesAt (take (length src - n) (drop n src)) k)
     → (k : ℕ) → n ≤ k → k < n + m → CanFollowBytesAt src k
 follow_after src n m all k from to =
-    let rest_long : length (drop n src) ≤ length src - n = omega (arith, length-drop n src) in
+    let rest_long : length (drop n src) ≤ length src - n = omega (arith, lengths) in
     let rest = take_all (length src - n) (drop n src) rest_long in
     let here : (i j : ℕ) → n + i ≡ j → get_or (drop n src) i 0 ≡ get_or src j 0 =
     λ i j e. get_or-drop n src i 0 ∙ ap (λ m. get_or src m 0) e in

@@ -3,6 +3,7 @@ use Rattle.std.proofs.Common.{◌≡◌, ℕ, ◌+◌, ◌-◌, ◌≤◌, List,
 use Rattle.std.proofs.Common.{length-drop, length-take, take-add}
 use Rattle.std.proofs.lemmas.List.{drop-take, take-take}
 use Rattle.std.proofs.lemmas.Str.{IsUtf8-append, IsUtf8-drop, IsCharBoundary-from_take}
+use Rattle.enc_units.proofs.LengthLemmas.{lengths}
 use Rattle.enc_units.specs.Validity.{IsLongestPrefix, IsWellFormedUtf8, AreAscii}
 use Rattle.enc_units.proofs.AsciiPrefixLemmas.{text_utf8}
 use Rattle.enc_units.proofs.ScalarLemmas.{ascii_scalars}
@@ -17,7 +18,7 @@ module _ (bytes : List ℕ) (front k : ℕ) (within : front ≤ length bytes)
   rest_utf8 m longer fits has =
       let all = take m bytes in
       let parts : m ≡ front + (m - front) = omega arith in
-      let in_all : front ≤ length all = omega (arith, longer, fits, length-take m bytes) in
+      let in_all : front ≤ length all = omega (arith, lengths, longer, fits) in
       let begins : IsWellFormedUtf8 (take front all) =
       subst IsWellFormedUtf8 (sym (take-take front m bytes longer)) utf8 in
       subst IsWellFormedUtf8
@@ -27,12 +28,12 @@ module _ (bytes : List ℕ) (front k : ℕ) (within : front ≤ length bytes)
   pub longest_after : IsLongestPrefix IsWellFormedUtf8 bytes (front + k)
   longest_after = record {
     within = let rest_within = rest.within in
-        omega (arith, within, rest_within, length-drop front bytes);
+        omega (arith, lengths, within, rest_within);
     has = subst IsWellFormedUtf8 (sym (take-add front k bytes))
         (IsUtf8-append (take front bytes) (take k (drop front bytes)) utf8 rest.has);
     longest = λ m more fits has.
         rest.longest (m - front) (omega (arith, more))
-        (omega (arith, fits, length-drop front bytes))
+        (omega (arith, lengths, fits))
         (rest_utf8 m (omega (arith, more)) fits has);
   }
 

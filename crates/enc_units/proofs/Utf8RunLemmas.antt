@@ -6,6 +6,7 @@ use Rattle.std.proofs.lemmas.List.{take_all}
 use Rattle.std.proofs.lemmas.Simd.{get_or-chunk}
 use Rattle.std.proofs.lemmas.Str.{IsUtf8-nil, IsUtf8-append}
 use Rattle.std.proofs.str.Valid.{of_one, of_two, of_three, of_four}
+use Rattle.enc_units.proofs.LengthLemmas.{lengths}
 use Rattle.enc_units.specs.Validity.{IsWellFormedUtf8, AreAscii}
 use Rattle.enc_units.specs.Utf8Run.{CanFollowBytes, CanFollowBytesAt, IsCharBoundaryAfter}
 
@@ -20,36 +21,45 @@ AllFollow z y x (b ∷ bs) = CanFollowBytes z y x b × AllFollow y x b bs
 unless : (a n : ℕ) {P : Type 0} → (a ≡ n → P) → (a ≡ n → ⊥) ⊎ P
 unless a n f = elim (cases_eq a n) [ inl e ↦ inr (f e) | inr e ↦ inl e ]
 
--- the bytes of one character
+-- the character in front
 
-pub one : (a : ℕ) → a < 0x80 → IsWellFormedUtf8 (a ∷ [])
-one a h = of_one (a ∷ []) 0 (omega arith) h
+pub one_front : (src : List ℕ) → 0 < length src → get_or src 0 0 < 0x80
+    → IsWellFormedUtf8 (take 1 src)
+one_front src some low = of_one src 0 (omega arith) low
 
-pub two : (a b : ℕ) → (0xC2 ≤ a) × (a < 0xE0) → (0x80 ≤ b) × (b < 0xC0)
-    → IsWellFormedUtf8 (a ∷ b ∷ [])
-two a b h f = of_two (a ∷ b ∷ []) 0 (omega arith) h f
+pub two_front : (src : List ℕ) → 1 < length src → (0xC2 ≤ get_or src 0 0) × (get_or src 0 0 < 0xE0)
+    → (0x80 ≤ get_or src 1 0) × (get_or src 1 0 < 0xC0) → IsWellFormedUtf8 (take 2 src)
+two_front src some lead second = of_two src 0 (omega arith) lead second
 
-pub three : (a b c : ℕ) → (0xE0 ≤ a) × (a < 0xF0) → (0x80 ≤ b) × (b < 0xC0) → (a ≡ 0xE0 → 0xA0 ≤ b)
-    → (a ≡ 0xED → b < 0xA0) → (0x80 ≤ c) × (c < 0xC0)
-    → IsWellFormedUtf8 (a ∷ b ∷ c ∷ [])
-three a b c h f e below_surrogates g =
-    let least = unless a 0xE0 e in
-    let most = unless a 0xED below_surrogates in
-    of_three (a ∷ b ∷ c ∷ []) 0 (omega arith) h f g (omega arith) (elim (cases_lt a 0xED) [
-      | inl s ↦ inl (omega arith)
-      | inr s ↦ elim (cases_lt 0xED a) [
-        | inl t ↦ inr (omega arith)
-        | inr t ↦ inl (omega (arith, below_surrogates (omega arith)))
+pub three_front : (src : List ℕ) → 2 < length src
+    → (0xE0 ≤ get_or src 0 0) × (get_or src 0 0 < 0xF0)
+    → (0x80 ≤ get_or src 1 0) × (get_or src 1 0 < 0xC0)
+    → (get_or src 0 0 ≡ 0xE0 → 0xA0 ≤ get_or src 1 0)
+    → (get_or src 0 0 ≡ 0xED → get_or src 1 0 < 0xA0)
+    → (0x80 ≤ get_or src 2 0) × (get_or src 2 0 < 0xC0)
+    → IsWellFormedUtf8 (take 3 src)
+three_front src some lead second no_short no_surrogate third =
+    let least = unless (get_or src 0 0) 0xE0 no_short in
+    let most = unless (get_or src 0 0) 0xED no_surrogate in
+    of_three src 0 (omega arith) lead second third (omega arith)
+    (elim (cases_lt (get_or src 0 0) 0xED) [
+      | inl below ↦ inl (omega arith)
+      | inr from ↦ elim (cases_lt 0xED (get_or src 0 0)) [
+        | inl above ↦ inr (omega arith)
+        | inr equal ↦ inl (omega (arith, no_surrogate (omega arith)))
       ]
     ])
 
-pub four : (a b c d : ℕ) → (0xF0 ≤ a) × (a ≤ 0xF4) → (0x80 ≤ b) × (b < 0xC0) → (a ≡ 0xF0 → 0x90 ≤ b)
-    → (a ≡ 0xF4 → b < 0x90) → (0x80 ≤ c) × (c < 0xC0)
-    → (0x80 ≤ d) × (d < 0xC0) → IsWellFormedUtf8 (a ∷ b ∷ c ∷ d ∷ [])
-four a b c d h f e g j k =
-    let least = unless a 0xF0 e in
-    let most = unless a 0xF4 g in
-    of_four (a ∷ b ∷ c ∷ d ∷ []) 0 (omega arith) h.0 f j k (omega arith)
+pub four_front : (src : List ℕ) → 3 < length src → (0xF0 ≤ get_or src 0 0) × (get_or src 0 0 ≤ 0xF4)
+    → (0x80 ≤ get_or src 1 0) × (get_or src 1 0 < 0xC0)
+    → (get_or src 0 0 ≡ 0xF0 → 0x90 ≤ get_or src 1 0)
+    → (get_or src 0 0 ≡ 0xF4 → get_or src 1 0 < 0x90)
+    → (0x80 ≤ get_or src 2 0) × (get_or src 2 0 < 0xC0)
+    → (0x80 ≤ get_or src 3 0) × (get_or src 3 0 < 0xC0) → IsWellFormedUtf8 (take 4 src)
+four_front src some lead second no_short no_beyond third fourth =
+    let least = unless (get_or src 0 0) 0xF0 no_short in
+    let most = unless (get_or src 0 0) 0xF4 no_beyond in
+    of_four src 0 (omega arith) lead.0 second third fourth (omega arith)
 
 -- the bytes of several characters
 
@@ -62,7 +72,7 @@ module _ (n : ℕ) (rest : (z y x : ℕ) (bs : List ℕ) → length bs ≤ n →
   fourth y z a b c [] l leads_four f second_follows e rest_follow = absurd (omega arith)
   fourth y z a b c (d ∷ bs) l leads_four f second_follows e rest_follow =
       IsUtf8-append (a ∷ b ∷ c ∷ d ∷ []) bs
-      (four a b c d leads_four f second_follows.after_0xf0 second_follows.after_0xf4 e
+      (four_front (a ∷ b ∷ c ∷ d ∷ []) (omega arith) leads_four f second_follows.after_0xf0 second_follows.after_0xf4 e
       (rest_follow.0.after_third leads_four.0))
       (rest b c d bs (omega arith) (omega (arith, rest_follow.0.after_third leads_four.0))
       rest_follow.1)
@@ -75,7 +85,7 @@ module _ (n : ℕ) (rest : (z y x : ℕ) (bs : List ℕ) → length bs ≤ n →
       let continues_too = rest_follow.0.after_second leads_three.0 in
       elim (cases_lt a 0xF0) [
         | inl u ↦ IsUtf8-append (a ∷ b ∷ c ∷ []) bs
-            (three a b c (leads_three.0, u) continues second_follows.after_0xe0
+            (three_front (a ∷ b ∷ c ∷ []) (omega arith) (leads_three.0, u) continues second_follows.after_0xe0
             second_follows.after_0xed
             continues_too) (rest a b c bs (omega arith) (omega arith) rest_follow.1)
         | inr u ↦ fourth y z a b c bs (omega arith) (u, leads_three.1) continues second_follows
@@ -90,7 +100,7 @@ module _ (n : ℕ) (rest : (z y x : ℕ) (bs : List ℕ) → length bs ≤ n →
       let continues = rest_follow.0.after_first is_lead in
       let leads = rest_follow.0.leads is_lead in
       elim (cases_lt a 0xE0) [
-        | inl u ↦ IsUtf8-append (a ∷ b ∷ []) bs (two a b (leads.0, u) continues)
+        | inl u ↦ IsUtf8-append (a ∷ b ∷ []) bs (two_front (a ∷ b ∷ []) (omega arith) (leads.0, u) continues)
             (rest z a b bs (omega arith) (omega arith) rest_follow.1)
         | inr u ↦ third y z a b bs (omega arith) (u, leads.1) continues rest_follow.0 rest_follow.1
       ]
@@ -100,7 +110,7 @@ module _ (n : ℕ) (rest : (z y x : ℕ) (bs : List ℕ) → length bs ≤ n →
   first z y x [] l is_between rest_follow = IsUtf8-nil
   first z y x (a ∷ bs) l is_between rest_follow =
       elim (rest_follow.0.begins is_between.2 is_between.1 is_between.0) [
-        | inl u ↦ IsUtf8-append (a ∷ []) bs (one a u)
+        | inl u ↦ IsUtf8-append (a ∷ []) bs (one_front (a ∷ []) (omega arith) u)
             (rest y x a bs (omega arith) (omega arith) rest_follow.1)
         | inr u ↦ second y x a bs (omega arith) is_between.2 u rest_follow.1
       ]
@@ -134,47 +144,10 @@ blocks_utf8 n (z ∷ y ∷ x ∷ bs) l b h e =
     all_utf8 (length (take n bs)) z y x (take n bs) (omega arith) b
     (all_follow n z y x bs (omega arith) h e)
 
--- the character in front
-
-pub one_front : (src : List ℕ) → 0 < length src → get_or src 0 0 < 0x80
-    → IsWellFormedUtf8 (take 1 src)
-one_front [] l h = absurd (omega arith)
-one_front (a ∷ bs) l h = one a h
-
-pub two_front : (src : List ℕ) → 1 < length src → (0xC2 ≤ get_or src 0 0) × (get_or src 0 0 < 0xE0)
-    → (0x80 ≤ get_or src 1 0) × (get_or src 1 0 < 0xC0) → IsWellFormedUtf8 (take 2 src)
-two_front [] l h f = absurd (omega arith)
-two_front (a ∷ []) l h f = absurd (omega arith)
-two_front (a ∷ b ∷ bs) l h f = two a b h f
-
-pub three_front : (src : List ℕ) → 2 < length src
-    → (0xE0 ≤ get_or src 0 0) × (get_or src 0 0 < 0xF0)
-    → (0x80 ≤ get_or src 1 0) × (get_or src 1 0 < 0xC0)
-    → (get_or src 0 0 ≡ 0xE0 → 0xA0 ≤ get_or src 1 0)
-    → (get_or src 0 0 ≡ 0xED → get_or src 1 0 < 0xA0)
-    → (0x80 ≤ get_or src 2 0) × (get_or src 2 0 < 0xC0)
-    → IsWellFormedUtf8 (take 3 src)
-three_front [] l h f e d g = absurd (omega arith)
-three_front (a ∷ []) l h f e d g = absurd (omega arith)
-three_front (a ∷ b ∷ []) l h f e d g = absurd (omega arith)
-three_front (a ∷ b ∷ c ∷ bs) l h f e d g = three a b c h f e d g
-
-pub four_front : (src : List ℕ) → 3 < length src → (0xF0 ≤ get_or src 0 0) × (get_or src 0 0 ≤ 0xF4)
-    → (0x80 ≤ get_or src 1 0) × (get_or src 1 0 < 0xC0)
-    → (get_or src 0 0 ≡ 0xF0 → 0x90 ≤ get_or src 1 0)
-    → (get_or src 0 0 ≡ 0xF4 → get_or src 1 0 < 0x90)
-    → (0x80 ≤ get_or src 2 0) × (get_or src 2 0 < 0xC0)
-    → (0x80 ≤ get_or src 3 0) × (get_or src 3 0 < 0xC0) → IsWellFormedUtf8 (take 4 src)
-four_front [] l h f e d g j = absurd (omega arith)
-four_front (a ∷ []) l h f e d g j = absurd (omega arith)
-four_front (a ∷ b ∷ []) l h f e d g j = absurd (omega arith)
-four_front (a ∷ b ∷ c ∷ []) l h f e d g j = absurd (omega arith)
-four_front (a ∷ b ∷ c ∷ d' ∷ bs) l h f e d g j = four a b c d' h f e d g j
-
 -- n bytes more are well-formed
 
 rest_is : (src : List ℕ) (at : ℕ) → take (length src - at) (drop at src) ≡ drop at src
-rest_is src at = take_all (length src - at) (drop at src) (omega (arith, length-drop at src))
+rest_is src at = take_all (length src - at) (drop at src) (omega (arith, lengths))
 
 pub longer : (src : List ℕ) (at n : ℕ) → IsWellFormedUtf8 (take at src)
     → IsWellFormedUtf8 (take n (take (length src - at) (drop at src)))
@@ -202,8 +175,7 @@ module _ (src : List ℕ) (at n : ℕ) (l : at + 3 + n ≤ length src) (b : IsCh
       let place : at + 3 + (m - (at + 3)) ≡ m = omega arith in
       subst (λ v. v < 0x80)
       (get_or-chunk (at + 3) n src (m - (at + 3)) 0 (omega arith) ∙ ap (λ k. get_or src k 0) place)
-      (a (m - (at + 3)) 0 (omega
-      (arith, length-take n (drop (at + 3) src), length-drop (at + 3) src)))
+      (a (m - (at + 3)) 0 (omega (arith, lengths)))
 
   between : (d : ℕ) → d < n → IsCharBoundaryAfter src (at + d)
   between zero h =
@@ -220,14 +192,4 @@ module _ (src : List ℕ) (at n : ℕ) (l : at + 3 + n ≤ length src) (b : IsCh
       let boundary : IsCharBoundaryAfter src k =
       subst (IsCharBoundaryAfter src) same_place (between (k - at) (omega arith)) in
       let next_is_ascii = low (suc (suc (suc k))) (omega arith) (omega arith) in
-      record {
-        after_first = λ w. absurd (omega arith);
-        after_second = λ w. absurd (omega arith);
-        after_third = λ w. absurd (omega arith);
-        begins = λ _ _ _. inl next_is_ascii;
-        leads = λ w. absurd (omega arith);
-        after_0xe0 = λ w. absurd (omega arith);
-        after_0xed = λ w. absurd (omega arith);
-        after_0xf0 = λ w. absurd (omega arith);
-        after_0xf4 = λ w. absurd (omega arith);
-      }
+      grind arith

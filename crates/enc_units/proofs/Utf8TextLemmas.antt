@@ -1,19 +1,18 @@
 -- The code units that the bytes of a text in UTF-8 give are its UTF-16.
-use Rattle.std.proofs.Common.{◌≡◌, ℕ, zero, suc, ◌+◌, ◌-◌, ◌/◌, ◌%◌, ◌<◌, ◌≤◌, true, false, List, [], ◌∷◌, ◌++◌, inl}
-use Rattle.std.proofs.Common.{inr}
+use Rattle.std.proofs.Common.{◌≡◌, ℕ, zero, suc, ◌+◌, ◌-◌, ◌/◌, ◌%◌, ◌<◌, ◌≤◌, true, false, List, [], ◌∷◌, ◌++◌}
 use Rattle.std.proofs.Common.{length, get_or, take, drop, refl, ap, ◌∙◌, sym, subst, arith, drop-cons, length-take}
-use Rattle.std.proofs.lemmas.Bool.{and_parts, cases_lt}
+use Rattle.std.proofs.lemmas.Bool.{and_parts}
 use Rattle.std.proofs.lemmas.Bool.Decides.{nat_tests}
-use Rattle.std.proofs.lemmas.Str.{encode_ascii}
 use Rattle.std.specs.Char.{IsScalar, encode_utf8}
 use Rattle.std.specs.Char.Escape.{encode_utf16}
+use Rattle.enc_units.proofs.LengthLemmas.{lengths}
 use Rattle.enc_units.specs.Output.{AreScalars, units_of_text}
 use Rattle.enc_units.specs.Validity.{IsWellFormedUtf8}
 use Rattle.enc_units.specs.Gathering.{GathersChars}
 use Rattle.enc_units.specs.Pieces.{IsUtf8Char}
 use Rattle.enc_units.specs.Utf8Units.{gives_unit, code_unit_of_byte, byte_two_before, unit_at, units_from}
-use Rattle.enc_units.proofs.GatherLemmas.{utf8_two, utf8_three, utf8_four}
-use Rattle.enc_units.proofs.UnitsLemmas.{one_unit, two_units, scalar_range}
+use Rattle.enc_units.proofs.Utf8FormLemmas.{Form, One, Two, Three, Four, form_of, scalar_below}
+use Rattle.enc_units.proofs.UnitsLemmas.{one_unit, two_units}
 use Rattle.enc_units.proofs.Utf8CharsLemmas.{their_units, reads_utf8}
 use Rattle.enc_units.proofs.Utf8UnitsLemmas.{if_one, low_unit}
 
@@ -60,9 +59,6 @@ of_second z w c g l h =
     (grind (arith, nat_tests))
     (grind (arith, nat_tests))
 
-scalar_below : (c : ℕ) → IsScalar c → c < 0x11_0000
-scalar_below c i = elim (scalar_range c i) [ inl h ↦ omega arith | inr h ↦ omega (arith, h.1) ]
-
 -- bytes that stand at a place
 
 abbrev pub Stand : List ℕ → ℕ → List ℕ → Type 0
@@ -94,95 +90,80 @@ module _ (src : List ℕ) (c : ℕ) (t : List ℕ) (rest : Gives src t) (at : �
       → units_from src at (length (utf8 ++ bytes)) ≡ utf16 ++ units_of_text encode_utf16 t
 
   one_byte : c < 0x80 → Goal (c ∷ []) (c ∷ [])
-  one_byte h s =
-      let first : unit_at src at ≡ c ∷ [] = rw s.0 (low_unit (byte_two_before src at) c _ _ h) in
-      ap (λ z. z ++ units_from src (suc at) (length bytes)) first
-      ∙ ap (λ z. c ∷ z) (rest (suc at) no_fourth (omega (arith, s.0)) s.1)
+  one_byte low s =
+      let first : unit_at src at ≡ c ∷ [] = rw s.0 (low_unit (byte_two_before src at) c _ _ low) in
+      rw (first, rest (suc at) no_fourth (omega (arith, s.0)) s.1) refl
 
   two_bytes : 0x80 ≤ c → c < 0x800 → Goal ((192 + c / 64) ∷ (128 + c % 64) ∷ []) (c ∷ [])
-  two_bytes l h s =
+  two_bytes from below s =
       let first : unit_at src at ≡ c ∷ [] =
-      rw (s.0, s.1.0) (of_two (byte_two_before src at) _ c l h) in
+      rw (s.0, s.1.0) (of_two (byte_two_before src at) _ c from below) in
       let second : unit_at src (suc at) ≡ [] =
       gives_none (byte_two_before src (suc at)) (get_or src (suc at) 0) _ no_fourth
       (omega (arith, s.1.0)) in
-      ap (λ z. z ++ (unit_at src (suc at) ++ units_from src (suc (suc at)) (length bytes))) first
-      ∙ ap (λ z. c ∷ (z ++ units_from src (suc (suc at)) (length bytes))) second
-      ∙ ap (λ z. c ∷ z) (rest (suc (suc at)) (omega (arith, s.0)) (omega (arith, s.1.0)) s.1.1)
+      rw (first, second, rest (suc (suc at)) (omega (arith, s.0)) (omega (arith, s.1.0)) s.1.1) refl
 
   three_bytes : 0x800 ≤ c → c < 0x1_0000
       → Goal ((224 + c / 4096) ∷ (128 + c / 64 % 64) ∷ (128 + c % 64) ∷ []) (c ∷ [])
-  three_bytes l h s =
+  three_bytes from below s =
       let first : unit_at src at ≡ c ∷ [] =
-      rw (s.0, s.1.0, s.1.1.0) (of_three (byte_two_before src at) c l h) in
+      rw (s.0, s.1.0, s.1.1.0) (of_three (byte_two_before src at) c from below) in
       let second : unit_at src (suc at) ≡ [] =
       gives_none (byte_two_before src (suc at)) (get_or src (suc at) 0) _ no_fourth
       (omega (arith, s.1.0)) in
       let third : unit_at src (suc (suc at)) ≡ [] =
       gives_none (get_or src at 0) (get_or src (suc (suc at)) 0) _ (omega (arith, s.0))
       (omega (arith, s.1.1.0)) in
-      ap (λ z. z ++ (unit_at src (suc at)
-      ++ (unit_at src (suc (suc at)) ++ units_from src (suc (suc (suc at))) (length bytes)))) first
-      ∙ ap
-      (λ z. c ∷ (z ++ (unit_at src (suc (suc at))
-      ++ units_from src (suc (suc (suc at))) (length bytes)))) second
-      ∙ ap (λ z. c ∷ (z ++ units_from src (suc (suc (suc at))) (length bytes))) third
-      ∙ ap (λ z. c ∷ z) (rest (suc (suc (suc at))) (omega (arith, s.1.0)) (omega (arith, s.1.1.0))
-      s.1.1.1)
+      rw (
+        first,
+        second,
+        third,
+        rest (suc (suc (suc at))) (omega (arith, s.1.0))
+            (omega (arith, s.1.1.0)) s.1.1.1,
+      ) refl
 
   four_bytes : 0x1_0000 ≤ c → c < 0x11_0000
       → Goal ((240 + c / 262144) ∷ (128 + c / 4096 % 64) ∷ (128 + c / 64 % 64) ∷ (128 + c % 64)
       ∷ [])
       ((0xD800 + (c - 0x1_0000) / 0x400) ∷ (0xDC00 + (c - 0x1_0000) % 0x400) ∷ [])
   four_bytes beyond_basic below_most s =
-      let high = 0xD800 + (c - 0x1_0000) / 0x400 in
-      let low = 0xDC00 + (c - 0x1_0000) % 0x400 in
       let last = suc (suc (suc at)) in
-      let first : unit_at src at ≡ high ∷ [] =
+      let first : unit_at src at ≡ (0xD800 + (c - 0x1_0000) / 0x400) ∷ [] =
       rw (s.0, s.1.0, s.1.1.0) (of_four (byte_two_before src at) c beyond_basic below_most) in
       let second : unit_at src (suc at) ≡ [] =
       gives_none (byte_two_before src (suc at)) (get_or src (suc at) 0) _ no_fourth
       (omega (arith, s.1.0)) in
-      let third : unit_at src (suc (suc at)) ≡ low ∷ [] =
+      let third : unit_at src (suc (suc at)) ≡ (0xDC00 + (c - 0x1_0000) % 0x400) ∷ [] =
       rw (s.1.1.0, s.1.1.1.0)
       (of_second (get_or src at 0) _ c (omega (arith, s.0)) beyond_basic below_most) in
       let fourth : unit_at src last ≡ [] =
       gives_none (get_or src (suc at) 0) (get_or src last 0) _ (omega (arith, s.1.0))
       (omega (arith, s.1.1.1.0)) in
-      ap (λ z. z ++ (unit_at src (suc at)
-      ++ (unit_at src (suc (suc at))
-      ++ (unit_at src last ++ units_from src (suc last) (length bytes))))) first
-      ∙ ap (λ z. high ∷ (z ++ (unit_at src (suc (suc at))
-      ++ (unit_at src last ++ units_from src (suc last) (length bytes))))) second
-      ∙ ap (λ z. high ∷ (z ++ (unit_at src last ++ units_from src (suc last) (length bytes)))) third
-      ∙ ap (λ z. high ∷ low ∷ (z ++ units_from src (suc last) (length bytes))) fourth
-      ∙ ap (λ z. high ∷ low ∷ z)
-      (rest (suc last) (omega (arith, s.1.1.0)) (omega (arith, s.1.1.1.0)) s.1.1.1.1)
+      rw (
+        first,
+        second,
+        third,
+        fourth,
+        rest (suc last) (omega (arith, s.1.1.0))
+            (omega (arith, s.1.1.1.0)) s.1.1.1.1,
+      ) refl
 
   along : {u v u' v' : List ℕ} → u ≡ u' → v ≡ v' → Goal u' v' → Goal u v
   along {u} {v} {u'} {v'} p q g = subst (λ z. Goal z v) (sym p) (subst (Goal u') (sym q) g)
 
-  one_more : IsScalar c → Goal (encode_utf8 c) (encode_utf16 c)
-  one_more i = elim (cases_lt c 0x80) [
-    | inl one_byte_char ↦ along (encode_ascii c one_byte_char) (one_unit c (omega arith))
-        (one_byte one_byte_char)
-    | inr two_or_more ↦ elim (cases_lt c 0x800) [
-      | inl two_byte_char ↦ along (utf8_two c two_or_more two_byte_char) (one_unit c (omega arith))
-          (two_bytes two_or_more two_byte_char)
-      | inr three_or_more ↦ elim (cases_lt c 0x1_0000) [
-        | inl three_byte_char ↦
-            along (utf8_three c three_or_more three_byte_char) (one_unit c three_byte_char)
-            (three_bytes three_or_more three_byte_char)
-        | inr four_byte_char ↦ along (utf8_four c four_byte_char) (two_units c four_byte_char)
-            (four_bytes four_byte_char (scalar_below c i))
-      ]
-    ]
-  ]
+  one_more : IsScalar c → Form c → Goal (encode_utf8 c) (encode_utf16 c)
+  one_more scalar (One low code) = along code (one_unit c (omega arith)) (one_byte low)
+  one_more scalar (Two from below code) =
+      along code (one_unit c (omega arith)) (two_bytes from below)
+  one_more scalar (Three from below code) = along code (one_unit c below) (three_bytes from below)
+  one_more scalar (Four from code) =
+      along code (two_units c from) (four_bytes from (scalar_below c scalar))
 
 pub units_of_utf8 : (src t : List ℕ) → AreScalars t → Gives src t
 units_of_utf8 src [] a at y x s = refl
-units_of_utf8 src (c ∷ t) a at y x s = let scalar_parts =
-    and_parts _ _ a in one_more src c t (units_of_utf8 src t scalar_parts.1) at y x scalar_parts.0 s
+units_of_utf8 src (c ∷ t) a at y x s =
+    let parts = and_parts _ _ a in
+    one_more src c t (units_of_utf8 src t parts.1) at y x parts.0 (form_of c) s
 
 -- well-formed bytes in front are gathered as their code units
 pub gathers_units : (src : List ℕ) (n : ℕ) (after : List ℕ) → n ≤ length src
@@ -192,7 +173,7 @@ pub gathers_units : (src : List ℕ) (n : ℕ) (after : List ℕ) → n ≤ leng
 gathers_units src n after l utf8 e =
     let bytes : units_of_text encode_utf8 utf8.0 ≡ take n src = their_units utf8.0 ∙ utf8.1.1 in
     let long : length (units_of_text encode_utf8 utf8.0) ≡ n =
-    omega (arith, ap length bytes, length-take n src) in
+    omega (arith, lengths, ap length bytes) in
     record {
       text = utf8.0;
       scalars = utf8.1.0;

@@ -13,7 +13,7 @@ use Rattle.std.specs.List.{range_with_len}
 use lib.Lanes.{zip2, mask_l, top, sel_l, Each1}
 use mir.Val.{Fits}
 use Rattle.enc_units.specs.Utf8Units.{gives_unit, code_unit_of_byte}
-use Rattle.enc_units.proofs.Utf8Lanes.{IsFlags, at_least, below, either, none_set, flag_bit}
+use Rattle.enc_units.proofs.Utf8Lanes.{IsFlags, at_least, below, either, none_set, flag_bit, top_flag}
 
 abbrev places : List ℕ
 places = range_with_len 0 16
@@ -43,6 +43,9 @@ widened bs long = record {
   is = ap (map (λ b. b)) (sym (pick_l_whole 0 bs 16 long))
       ∙ map-map (λ (b : ℕ). b) (λ k. get_or bs k 0) places;
 }
+
+pub own_lanes : (xs : List ℕ) → length xs ≡ 16 → IsLanes xs (λ k. get_or xs k 0)
+own_lanes xs long = record { is = sym (pick_l_whole 0 xs 16 long) }
 
 pub splat_lanes : (n : ℕ) → IsLanes (replicate 16 n) (λ _. n)
 splat_lanes n = record { is = splat_is_map places 16 n refl }
@@ -77,48 +80,60 @@ pub choices : (t : ℕ → Bool) (f g : ℕ → ℕ) (ks : List ℕ)
 choices t f g [] = refl
 choices t f g (k ∷ ks) = ap (λ z. cond (t k) (f k) (g k) ∷ z) (choices t f g ks)
 
+-- lanes that a comparison of lanes of some width chooses
+module _ (n : ℕ) (flag : Bool → ℕ) (tops : (t : Bool) → top n (flag t) ≡ t) where
+  chosen_by : (t : ℕ → Bool) {f g : ℕ → ℕ} {m xs ys : List ℕ} → m ≡ map (λ k. flag (t k)) places
+      → IsLanes xs f → IsLanes ys g
+      → IsLanes (sel_l (map (top n) m) xs ys) (λ k. cond (t k) (f k) (g k))
+  chosen_by t {f} {g} {m} {xs} {ys} flags first second =
+      let tests : map (top n) m ≡ map t places =
+      ap (map (top n)) flags ∙ map-map (top n) (λ j. flag (t j)) places
+      ∙ ap (λ (h : ℕ → Bool). map h places) (λ i j. tops (t j) i) in
+      record {
+        is = ap (λ l. sel_l l xs ys) tests ∙ ap (λ z. sel_l (map t places) z ys) first.is
+            ∙ ap (λ z. sel_l (map t places) (map f places) z) second.is ∙ choices t f g places;
+      }
+
 pub chosen_lanes : (t : ℕ → Bool) {f g : ℕ → ℕ} {m xs ys : List ℕ}
-    → IsLanes m (λ k. wide_flag (t k)) → IsLanes xs f
-    → IsLanes ys g
+    → IsLanes m (λ k. wide_flag (t k)) → IsLanes xs f → IsLanes ys g
     → IsLanes (sel_l (map (top 15) m) xs ys) (λ k. cond (t k) (f k) (g k))
-chosen_lanes t {f} {g} {m} {xs} {ys} p q r =
-    let tops : map (top 15) m ≡ map t places =
-    ap (map (top 15)) p.is ∙ map-map (top 15) (λ j. wide_flag (t j)) places
-    ∙ ap (λ (h : ℕ → Bool). map h places) (λ i j. wide_top (t j) i) in
-    record {
-      is = ap (λ l. sel_l l xs ys) tops ∙ ap (λ x. sel_l (map t places) x ys) q.is
-          ∙ ap (λ y. sel_l (map t places) (map f places) y) r.is ∙ choices t f g places;
-    }
+chosen_lanes t flags = chosen_by 15 wide_flag wide_top t flags.is
+
+pub chosen_bytes : (t : ℕ → Bool) {f g : ℕ → ℕ} {m xs ys : List ℕ}
+    → m ≡ map (λ k. cond (t k) 255 0) places → IsLanes xs f → IsLanes ys g
+    → IsLanes (sel_l (map (top 7) m) xs ys) (λ k. cond (t k) (f k) (g k))
+chosen_bytes t flags = chosen_by 7 (λ t. cond t 255 0) top_flag t flags
 
 -- the code units of characters of at most three bytes
 
-abbrev pair : ℕ → ℕ → ℕ
+abbrev pub pair : ℕ → ℕ → ℕ
 pair a b = ((a * 0x40) % 0x1_0000 + b) % 0x1_0000
 
 abbrev three : ℕ → ℕ → ℕ → ℕ
 three a b c = (((pair a b * 0x40) % 0x1_0000 + c) % 0x1_0000 + 0xDF80) % 0x1_0000
 
-abbrev two : ℕ → ℕ → ℕ
+abbrev pub two : ℕ → ℕ → ℕ
 two a b = (pair a b + 0xCF80) % 0x1_0000
 
 abbrev narrow : ℕ → ℕ → ℕ → ℕ
 narrow a b c = cond (ltb a 0x80) a (cond (leb 0xE0 a) (three a b c) (two a b))
 
-module _ (xs ys zs : List ℕ) (la : length xs ≡ 16) (lb : length ys ≡ 16) (lc : length zs ≡ 16) where
-  abbrev firsts : IsLanes (map (λ b. b) xs) (λ k. get_or xs k 0)
+module _ (xs ys : List ℕ) (la : length xs ≡ 16) (lb : length ys ≡ 16) where
+  abbrev pub firsts : IsLanes (map (λ b. b) xs) (λ k. get_or xs k 0)
   firsts = widened xs la
 
-  abbrev pairs : (m : List ℕ) × IsLanes m (λ k. pair (get_or xs k 0) (get_or ys k 0))
+  abbrev pub pairs : (m : List ℕ) × IsLanes m (λ k. pair (get_or xs k 0) (get_or ys k 0))
   pairs = (_, sum_lanes (product_lanes firsts (splat_lanes 0x40)) (widened ys lb))
 
-  abbrev twos : (m : List ℕ) × IsLanes m (λ k. two (get_or xs k 0) (get_or ys k 0))
+  abbrev pub twos : (m : List ℕ) × IsLanes m (λ k. two (get_or xs k 0) (get_or ys k 0))
   twos = (_, sum_lanes pairs.1 (splat_lanes 0xCF80))
 
+module _ (xs ys zs : List ℕ) (la : length xs ≡ 16) (lb : length ys ≡ 16) (lc : length zs ≡ 16) where
   abbrev threes : (m : List ℕ)
       × IsLanes m (λ k. three (get_or xs k 0) (get_or ys k 0) (get_or zs k 0))
   threes = (
     _,
-    sum_lanes (sum_lanes (product_lanes pairs.1 (splat_lanes 0x40)) (widened zs lc))
+    sum_lanes (sum_lanes (product_lanes (pairs xs ys la lb).1 (splat_lanes 0x40)) (widened zs lc))
         (splat_lanes 0xDF80),
   )
 
@@ -126,8 +141,9 @@ module _ (xs ys zs : List ℕ) (la : length xs ≡ 16) (lb : length ys ≡ 16) (
       × IsLanes m (λ k. narrow (get_or xs k 0) (get_or ys k 0) (get_or zs k 0))
   narrows = (
     _,
-    chosen_lanes _ (below_lanes firsts (splat_lanes 0x80)) firsts
-        (chosen_lanes _ (at_least_lanes (splat_lanes 0xE0) firsts) threes.1 twos.1),
+    let first = firsts xs ys la lb in
+        chosen_lanes _ (below_lanes first (splat_lanes 0x80)) first
+        (chosen_lanes _ (at_least_lanes (splat_lanes 0xE0) first) threes.1 (twos xs ys la lb).1),
   )
 
   pub narrow_at : (k : ℕ) → k < 16
@@ -155,7 +171,7 @@ module _ (xs ys zs : List ℕ) (la : length xs ≡ 16) (lb : length ys ≡ 16) (
   abbrev lows : (m : List ℕ) × IsLanes m (λ k. low (get_or xs k 0) (get_or ys k 0))
   lows = (
     _,
-    sum_lanes (and_lanes (sum_lanes (pairs xs ys zs la lb lc).1 (splat_lanes 0xFF80))
+    sum_lanes (and_lanes (sum_lanes (pairs xs ys la lb).1 (splat_lanes 0xFF80))
         (splat_lanes 0x3FF))
         (splat_lanes 0xDC00),
   )
@@ -165,7 +181,7 @@ module _ (xs ys zs : List ℕ) (la : length xs ≡ 16) (lb : length ys ≡ 16) (
   fours = (
     _,
     sum_lanes
-        (sum_lanes (product_lanes (pairs xs ys zs la lb lc).1 (splat_lanes 4))
+        (sum_lanes (product_lanes (pairs xs ys la lb).1 (splat_lanes 4))
         (shifted_lanes (widened zs lc) (splat_lanes 4)))
         (splat_lanes 0xE5B8),
   )
@@ -173,11 +189,11 @@ module _ (xs ys zs : List ℕ) (la : length xs ≡ 16) (lb : length ys ≡ 16) (
   abbrev all : (m : List ℕ)
       × IsLanes m (λ k. any_unit (get_or xs k 0) (get_or ys k 0) (get_or zs k 0))
   all =
-      let first = firsts xs ys zs la lb lc in (
+      let first = firsts xs ys la lb in (
         _,
         chosen_lanes _ (at_least_lanes (splat_lanes 0xF0) first) fours.1
             (chosen_lanes _ (at_least_lanes (splat_lanes 0xE0) first) (threes xs ys zs la lb lc).1
-            (chosen_lanes _ (at_least_lanes (splat_lanes 0xC0) first) (twos xs ys zs la lb lc).1
+            (chosen_lanes _ (at_least_lanes (splat_lanes 0xC0) first) (twos xs ys la lb).1
             (chosen_lanes _ (below_lanes first (splat_lanes 0x80)) first lows.1))),
       )
 

@@ -39,6 +39,18 @@ pub record WritesMapped (Means : List ℕ → ℕ → Type 0) (src rest before a
   pub fits : at + n ≤ length before
   pub onto : after ≡ take at before ++ (piece_bytes pieces ++ drop (at + n) before)
 
+-- The first n code units are characters, whose m bytes are written to a slice, from `at` on. `Rest`
+-- says what code units are left.
+pub record WritesFront (chars_in : List ℕ → List ℕ) (Rest : List ℕ → Type 0)
+    (Means : List ℕ → ℕ → Type 0) (text before after : List ℕ) (at n m : ℕ) : Type 0 where
+  pub within : n ≤ length text
+  pub rest : Rest (drop n text)
+  pub writes : WritesMapped Means (chars_in text) (chars_in (drop n text)) before after at m
+
+-- any code units of UTF-16: a surrogate without its partner is read as U+FFFD
+abbrev pub AreAnyUnits : List ℕ → Type 0
+AreAnyUnits units = Unit {0}
+
 -- UTF-8 begins with the character c, of n bytes
 pub record IsFirstUtf8Char (bytes : List ℕ) (c n : ℕ) : Type 0 where
   pub within : n ≤ length bytes

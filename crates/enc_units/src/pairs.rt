@@ -26,7 +26,8 @@ pub(crate) fn ends_of(leads: u64) -> [u8; 4]
 }
 
 /// Stores four characters, or those before one that is not known, after the first `at` code units
-/// of a buffer. The first has place number `from`, and its bit is the lowest of `leads`.
+/// of a buffer. They are looked up at the first of `places`, and the bit of the first is the lowest
+/// of `leads`.
 ///
 /// Returns how many bytes the characters have, the end of their code units, and whether they are
 /// four.
@@ -35,18 +36,17 @@ fn store_four<B: BufferUnit, P: Pieces>(
     pieces: P,
     buffer: &mut [B],
     at: usize,
-    places: &[u16; 16],
-    from: usize,
+    places: &[u16],
     leads: u64,
 ) -> (usize, usize, bool)
-    requires from { from ≤ 8 }
-    requires places { EachIsPlace (P.stands_for pieces) places.now }
+    requires long { 8 ≤ length places.now }
+    requires places { EachIsPlace (P.stands_for pieces) 8 places.now }
     requires room { at + 16 ≤ length (B.units buffer.old) }
     ensures read { result.0 ≤ 8 }
     ensures bound { result.1 ≤ at + 16 }
     ensures len { length (B.units buffer.new) ≡ length (B.units buffer.old) }
     ensures gathers { (src : List ℕ) → 8 ≤ length src
-        → ArePlaces (P.stands_for pieces) 8 (drop from places.now) leads src (drop 1 src)
+        → ArePlaces (P.stands_for pieces) 8 places.now leads src (drop 1 src)
         → GathersChars B.units_of (P.means pieces) src result.0
         (take at (B.units buffer.old)) (take result.1 (B.units buffer.new)) }
 {
@@ -56,7 +56,7 @@ fn store_four<B: BufferUnit, P: Pieces>(
     let mut count = 0;
     while count < 4 {
         let next = ends[count] as usize;
-        let Some(stored) = B::store_place(buffer, end, pieces, places[from + read]) else {
+        let Some(stored) = B::store_place(buffer, end, pieces, places[read]) else {
             return (read, end, false);
         };
         end = stored;
@@ -75,7 +75,7 @@ fn store_eight<B: BufferUnit, P: Pieces>(
     places: &[u16; 16],
     leads: u64,
 ) -> (usize, usize)
-    requires places { EachIsPlace (P.stands_for pieces) places.now }
+    requires places { EachIsPlace (P.stands_for pieces) 16 places.now }
     requires room { at + 32 ≤ length (B.units buffer.old) }
     ensures read { result.0 ≤ 16 }
     ensures bound { result.1 ≤ at + 32 }
@@ -85,11 +85,12 @@ fn store_eight<B: BufferUnit, P: Pieces>(
         → GathersChars B.units_of (P.means pieces) src result.0
         (take at (B.units buffer.old)) (take result.1 (B.units buffer.new)) }
 {
-    let (first, end, is_whole) = store_four(pieces, buffer, at, places, 0, leads);
+    let (first, end, is_whole) = store_four(pieces, buffer, at, places, leads);
     if !is_whole {
         return (first, end);
     }
-    let (second, end, _) = store_four(pieces, buffer, end, places, first, leads >> first as u64);
+    let (_, rest) = places.split_at(first);
+    let (second, end, _) = store_four(pieces, buffer, end, rest, leads >> first as u64);
     (first + second, end)
 }
 

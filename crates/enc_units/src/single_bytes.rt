@@ -75,8 +75,8 @@ fn are_dense(lanes: u8x64) -> bool {
     lanes.simd_ge(u8x64::splat(0x80)).to_bitmask().count_ones() > 8
 }
 
-/// Stores `ascii` ASCII bytes of `src` from `from` on, and the UTF-8 of the byte after them, after
-/// the first `at` bytes of a buffer.
+/// Stores the first `ascii` bytes of `src`, which are ASCII, and the UTF-8 of the byte after them,
+/// after the first `at` bytes of a buffer.
 ///
 /// Returns the number of bytes read, the end of their UTF-8, and whether the byte after the ASCII
 /// is a character.
@@ -86,59 +86,57 @@ fn store_hop<P: Pieces>(
     buffer: &mut [u8],
     at: usize,
     src: &[u8],
-    from: usize,
     ascii: usize,
 ) -> (usize, usize, bool)
-    requires from { from + 64 ≤ length src.now }
+    requires long { 64 ≤ length src.now }
     requires room { at + 68 ≤ length buffer.old }
     requires ascii { ascii < 64 }
-    requires are_ascii { AreAscii (take ascii (drop from src.now)) }
+    requires are_ascii { AreAscii (take ascii src.now) }
     requires means { (b : ℕ) → b < 0x80 → P.means pieces (b ∷ []) b }
     ensures read { result.0 ≤ ascii + 1 }
     ensures some { IsTrue result.2 → 0 < result.0 }
     ensures bound { result.1 ≤ at + result.0 + 3 }
     ensures len { length buffer.new ≡ length buffer.old }
-    ensures gathers { GathersChars encode_utf8 (P.means pieces) (drop from src.now) result.0
+    ensures gathers { GathersChars encode_utf8 (P.means pieces) src.now result.0
         (take at buffer.old) (take result.1 buffer.new) }
 {
-    u8x64::from_slice(&src[from..]).copy_to_slice(&mut buffer[at..]);
-    let word = pieces.word(false, src[from + ascii], 0);
+    u8x64::from_slice(src).copy_to_slice(&mut buffer[at..]);
+    let word = pieces.word(false, src[ascii], 0);
     if word == 0 {
         return (ascii, at + ascii, false);
     }
     (ascii + 1, store_word(buffer, at + ascii, word), true)
 }
 
-/// Stores the UTF-8 of the 64 bytes of `src` from `from` on, which `lanes` holds. It stops after
-/// the second byte that is not ASCII, or at one that is no character. Returns the same as
-/// `store_hop`.
+/// Stores the UTF-8 of the first 64 bytes of `src`, which `lanes` holds. It stops after the second
+/// byte that is not ASCII, or at one that is no character. Returns the same as `store_hop`.
 #[inline(always)]
 fn store_hops<P: Pieces>(
     pieces: P,
     buffer: &mut [u8],
     at: usize,
     src: &[u8],
-    from: usize,
     lanes: u8x64,
 ) -> (usize, usize, bool)
-    requires from { from + 128 ≤ length src.now }
+    requires long { 128 ≤ length src.now }
     requires room { at + 144 ≤ length buffer.old }
-    requires lanes { lanes ≡ take 64 (drop from src.now) }
+    requires lanes { lanes ≡ take 64 src.now }
     requires means { (b : ℕ) → b < 0x80 → P.means pieces (b ∷ []) b }
     ensures read { result.0 ≤ 64 }
     ensures some { IsTrue result.2 → 0 < result.0 }
     ensures bound { result.1 ≤ at + 80 }
     ensures len { length buffer.new ≡ length buffer.old }
-    ensures gathers { GathersChars encode_utf8 (P.means pieces) (drop from src.now) result.0
+    ensures gathers { GathersChars encode_utf8 (P.means pieces) src.now result.0
         (take at buffer.old) (take result.1 buffer.new) }
 {
     let ascii = ascii_from(lanes, 0, 62);
-    let (first, end, is_whole) = store_hop(pieces, buffer, at, src, from, ascii);
+    let (first, end, is_whole) = store_hop(pieces, buffer, at, src, ascii);
     if !is_whole {
         return (first, end, false);
     }
     let ascii = ascii_from(lanes, first, 63 - first);
-    let (second, end, is_whole) = store_hop(pieces, buffer, end, src, from + first, ascii);
+    let (_, rest) = src.split_at(first);
+    let (second, end, is_whole) = store_hop(pieces, buffer, end, rest, ascii);
     (first + second, end, is_whole)
 }
 
@@ -164,12 +162,13 @@ fn store_turn<P: Pieces>(
     ensures gathers { GathersChars encode_utf8 (P.means pieces) (drop from src.now) result.0
         (take at buffer.old) (take result.1 buffer.new) }
 {
-    let lanes = u8x64::from_slice(&src[from..]);
+    let (_, rest) = src.split_at(from);
+    let lanes = u8x64::from_slice(rest);
     if !pieces.has_ascii() || are_dense(lanes) {
         let (read, end) = store_bytes(pieces, buffer, at, src, from);
         return (read, end, read == STEP);
     }
-    store_hops(pieces, buffer, at, src, from, lanes)
+    store_hops(pieces, buffer, at, rest, lanes)
 }
 
 /// Stores the code units of sixteen bytes of `src` from `from` on, after the first `at` code units

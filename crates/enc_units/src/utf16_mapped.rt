@@ -3,7 +3,7 @@
 ghost use Rattle.std.specs.Prelude.{◌≡◌, ◌+◌, ◌%◌, ◌<◌, ◌≤◌, ◌++◌, map, length, take, drop};
 ghost use Rattle.std.specs.Prelude.{min, slice_index, IsTrue};
 ghost use Rattle.std.specs.Char.Utf16.{utf16_lossy_chars};
-ghost use Rattle.enc_units.specs.Mappings.{WritesMapped, WritesThemselves};
+ghost use Rattle.enc_units.specs.Mappings.{AreAnyUnits, WritesFront, WritesThemselves};
 ghost use Rattle.enc_units.specs.Validity.{AreAscii};
 
 use crate::mapped_bytes::{MOST_BYTES, put_bytes, put_lanes};
@@ -92,8 +92,8 @@ fn put_units<M: Mapping>(mapping: M, src: &[u16], dst: &mut [u8], at: usize) -> 
     requires sixteen { 16 ≤ length src.now }
     requires room { at + 16 ≤ length dst.old }
     ensures bound { result ≤ 16 }
-    ensures writes { WritesMapped (M.means mapping) (utf16_lossy_chars src.now)
-        (utf16_lossy_chars (drop result src.now)) dst.old dst.new at result }
+    ensures writes { WritesFront utf16_lossy_chars AreAnyUnits (M.means mapping) src.now dst.old
+        dst.new at result result }
 {
     let places = clamped(Simd::<u16, 16>::from_slice(src));
     let mut count = 0;
@@ -133,9 +133,8 @@ fn put_own<M: Mapping>(mapping: M, src: &[u16], dst: &mut [u8], at: usize) -> us
 fn put_beyond<M: Mapping>(mapping: M, src: &[u16], dst: &mut [u8], at: usize) -> (usize, usize)
     requires beyond { 0x80 ≤ slice_index src.now 0 }
     requires room { at + 4 ≤ length dst.old }
-    ensures within { result.0 ≤ length src.now }
-    ensures writes { WritesMapped (M.means mapping) (utf16_lossy_chars src.now)
-        (utf16_lossy_chars (drop result.0 src.now)) dst.old dst.new at result.1 }
+    ensures { WritesFront utf16_lossy_chars AreAnyUnits (M.means mapping) src.now dst.old dst.new at
+        result.0 result.1 }
 {
     let Some((c, width)) = first(src) else {
         return (0, 0);
@@ -154,9 +153,8 @@ fn put_beyond<M: Mapping>(mapping: M, src: &[u16], dst: &mut [u8], at: usize) ->
 fn put_char<M: Mapping>(mapping: M, src: &[u16], dst: &mut [u8], at: usize) -> (usize, usize)
     requires some { 1 ≤ length src.now }
     requires room { at + 4 ≤ length dst.old }
-    ensures within { result.0 ≤ length src.now }
-    ensures writes { WritesMapped (M.means mapping) (utf16_lossy_chars src.now)
-        (utf16_lossy_chars (drop result.0 src.now)) dst.old dst.new at result.1 }
+    ensures { WritesFront utf16_lossy_chars AreAnyUnits (M.means mapping) src.now dst.old dst.new at
+        result.0 result.1 }
 {
     if src[0] >= 0x80 {
         return put_beyond(mapping, src, dst, at);
@@ -197,10 +195,9 @@ fn put_looked_up<M: Mapping>(
 ) -> (usize, usize, bool)
     requires sixteen { 16 ≤ length src.now }
     requires room { at + 19 ≤ length dst.old }
-    ensures within { result.0 ≤ length src.now }
     ensures some { IsTrue result.2 → 0 < result.0 }
-    ensures writes { WritesMapped (M.means mapping) (utf16_lossy_chars src.now)
-        (utf16_lossy_chars (drop result.0 src.now)) dst.old dst.new at result.1 }
+    ensures writes { WritesFront utf16_lossy_chars AreAnyUnits (M.means mapping) src.now dst.old
+        dst.new at result.0 result.1 }
 {
     let len = put_units(mapping, src, dst, at);
     if len == 16 {
@@ -219,10 +216,9 @@ fn put_looked_up<M: Mapping>(
 fn put_turn<M: Mapping>(mapping: M, src: &[u16], dst: &mut [u8], at: usize) -> (usize, usize, bool)
     requires sixteen { 16 ≤ length src.now }
     requires room { at + 19 ≤ length dst.old }
-    ensures within { result.0 ≤ length src.now }
     ensures some { IsTrue result.2 → 0 < result.0 }
-    ensures writes { WritesMapped (M.means mapping) (utf16_lossy_chars src.now)
-        (utf16_lossy_chars (drop result.0 src.now)) dst.old dst.new at result.1 }
+    ensures writes { WritesFront utf16_lossy_chars AreAnyUnits (M.means mapping) src.now dst.old
+        dst.new at result.0 result.1 }
 {
     if mapping.has_unit_bytes() {
         return put_looked_up(mapping, src, dst, at);
@@ -250,9 +246,8 @@ pub(crate) fn write_utf16<M: Mapping>(
     from: usize,
 ) -> (usize, usize)
     requires { from ≤ length dst.old }
-    ensures within { result.0 ≤ length src.now }
-    ensures writes { WritesMapped (M.means mapping) (utf16_lossy_chars src.now)
-        (utf16_lossy_chars (drop result.0 src.now)) dst.old dst.new from result.1 }
+    ensures { WritesFront utf16_lossy_chars AreAnyUnits (M.means mapping) src.now dst.old dst.new from
+        result.0 result.1 }
 {
     let mut read = put_strides(mapping, src, dst, from);
     let mut at = from + read;

@@ -2,7 +2,7 @@
 
 ghost use Rattle.std.specs.Prelude.{◌≡◌, ◌+◌, ◌<◌, ◌≤◌, length, take, drop, IsTrue};
 ghost use Rattle.std.specs.Char.Utf16.{utf16_lossy_chars};
-ghost use Rattle.enc_units.specs.Mappings.{AreWrittenAsUtf8, WritesMapped};
+ghost use Rattle.enc_units.specs.Mappings.{AreAnyUnits, AreWrittenAsUtf8, WritesFront};
 ghost use Rattle.enc_units.specs.Utf16Text.{AreUtf8OfUnits};
 
 use crate::code_units::{STEP, store_scalars};
@@ -63,9 +63,8 @@ fn put_gathered<M: Mapping>(
 ) -> (usize, usize)
     requires utf8 { AreWrittenAsUtf8 (M.means mapping) }
     requires room { at ≤ length dst.old }
-    ensures within { result.0 ≤ length src.now }
-    ensures writes { WritesMapped (M.means mapping) (utf16_lossy_chars src.now)
-        (utf16_lossy_chars (drop result.0 src.now)) dst.old dst.new at result.1 }
+    ensures { WritesFront utf16_lossy_chars AreAnyUnits (M.means mapping) src.now dst.old dst.new at
+        result.0 result.1 }
 {
     let _mapping = mapping;
     let mut read = 0;
@@ -94,9 +93,8 @@ pub(crate) fn put_text<M: Mapping>(
     at: usize,
 ) -> (usize, usize)
     requires { at ≤ length dst.old }
-    ensures within { result.0 ≤ length src.now }
-    ensures writes { WritesMapped (M.means mapping) (utf16_lossy_chars src.now)
-        (utf16_lossy_chars (drop result.0 src.now)) dst.old dst.new at result.1 }
+    ensures { WritesFront utf16_lossy_chars AreAnyUnits (M.means mapping) src.now dst.old dst.new at
+        result.0 result.1 }
 {
     if !mapping.is_utf8() || src.len() < LEAST || dst.len() - at < LEAST {
         return (0, 0);

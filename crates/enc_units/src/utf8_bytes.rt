@@ -1,10 +1,10 @@
 //! Characters of one byte each, read from UTF-8 by lanes, with no branch on the length of their
 //! UTF-8.
 
-ghost use Rattle.std.specs.Prelude.{◌≡◌, ℕ, ◌+◌, ◌/◌, ◌%◌, ◌^◌, ◌<◌, ◌≤◌, ◌++◌, length, take, drop, chars};
+ghost use Rattle.std.specs.Prelude.{◌≡◌, ℕ, ◌+◌, ◌/◌, ◌%◌, ◌^◌, ◌<◌, ◌≤◌, List, ◌++◌, length, take, drop, chars};
 ghost use Rattle.std.specs.Prelude.{slice_index, IsTrue, IsUtf8};
-ghost use Rattle.enc_units.specs.Mappings.{KeepsAscii, WritesMapped};
-ghost use Rattle.enc_units.specs.Utf8Bytes.{short_unit, lead_bit, AreLanesOf, WritesUtf8};
+ghost use Rattle.enc_units.specs.Mappings.{KeepsAscii, WritesFront};
+ghost use Rattle.enc_units.specs.Utf8Bytes.{short_unit, lead_bit, AreLanesOf};
 
 use crate::ascii::are_all_ascii;
 use crate::mapping::Mapping;
@@ -62,7 +62,7 @@ fn leads_of(bytes: u8x16) -> u64
 #[inline(always)]
 fn lanes_at(src: &[u8], from: usize) -> Lanes
     requires { from + 17 ≤ length src.now }
-    ensures { AreLanesOf src.now from result.units result.leads }
+    ensures { AreLanesOf (drop from src.now) result.units result.leads }
 {
     let first = u8x16::from_slice(&src[from..]);
     let second = u8x16::from_slice(&src[from + 1..]);
@@ -75,32 +75,27 @@ fn lanes_at(src: &[u8], from: usize) -> Lanes
 /// Writes the bytes of four characters, which begin at a place in `lanes`, or of those before one
 /// that has no byte or more than two bytes of UTF-8.
 ///
-/// Returns the numbers of bytes read and written, and whether the characters are four. The
-/// condition: `lanes` has what sixteen bytes of `src` from `from` on begin.
+/// Returns the numbers of bytes read and written, and whether the characters are four.
 #[inline(always)]
 fn put_four<M: Mapping>(
     mapping: M,
     lanes: &Lanes,
     place: usize,
-    src: &[u8],
-    from: usize,
     dst: &mut [u8],
     at: usize,
 ) -> (usize, usize, bool)
-    requires lanes { AreLanesOf src.now from lanes.now.units lanes.now.leads }
+    requires units { (k : ℕ) → k < 16 → slice_index lanes.now.units k < 0x800 }
     requires place { place ≤ 8 }
-    requires text { from + 16 ≤ length src.now }
-    requires utf8 { IsUtf8 (drop (from + place) src.now) }
     requires room { at + 4 ≤ length dst.old }
     ensures read { result.0 ≤ 8 }
     ensures written { result.1 ≤ 4 }
     ensures some { IsTrue result.2 → 0 < result.0 }
     ensures len { length dst.new ≡ length dst.old }
-    ensures writes { WritesUtf8 (M.means mapping) src.now (from + place) dst.old dst.new at result.0
+    ensures writes { (text : List ℕ) → 16 ≤ length text
+        → AreLanesOf text lanes.now.units lanes.now.leads → IsUtf8 (drop place text)
+        → WritesFront chars IsUtf8 (M.means mapping) (drop place text) dst.old dst.new at result.0
         result.1 }
 {
-    let _text = src;
-    let _start = from;
     let ends = ends_of(lanes.leads >> place as u64);
     let mut read = 0;
     let mut count = 0;
@@ -132,15 +127,15 @@ fn put_eight<M: Mapping>(
     ensures written { result.1 ≤ 8 }
     ensures some { IsTrue result.2 → 0 < result.0 }
     ensures len { length dst.new ≡ length dst.old }
-    ensures writes { WritesUtf8 (M.means mapping) src.now from dst.old dst.new at result.0
-        result.1 }
+    ensures writes { WritesFront chars IsUtf8 (M.means mapping) (drop from src.now) dst.old
+        dst.new at result.0 result.1 }
 {
     let lanes = lanes_at(src, from);
-    let (first, count, is_whole) = put_four(mapping, &lanes, 0, src, from, dst, at);
+    let (first, count, is_whole) = put_four(mapping, &lanes, 0, dst, at);
     if !is_whole {
         return (first, count, false);
     }
-    let (second, more, is_whole) = put_four(mapping, &lanes, first, src, from, dst, at + count);
+    let (second, more, is_whole) = put_four(mapping, &lanes, first, dst, at + count);
     (first + second, count + more, is_whole)
 }
 
@@ -160,8 +155,8 @@ fn put_sixteen<M: Mapping>(
     ensures written { result.1 ≤ 16 }
     ensures some { IsTrue result.2 → 0 < result.0 }
     ensures len { length dst.new ≡ length dst.old }
-    ensures writes { WritesUtf8 (M.means mapping) src.now from dst.old dst.new at result.0
-        result.1 }
+    ensures writes { WritesFront chars IsUtf8 (M.means mapping) (drop from src.now) dst.old
+        dst.new at result.0 result.1 }
 {
     let (first, count, is_whole) = put_eight(mapping, src, from, dst, at);
     if !is_whole {
@@ -187,8 +182,8 @@ fn put_dense<M: Mapping>(
     ensures written { result.1 ≤ 32 }
     ensures some { IsTrue result.2 → 0 < result.0 }
     ensures len { length dst.new ≡ length dst.old }
-    ensures writes { WritesUtf8 (M.means mapping) src.now from dst.old dst.new at result.0
-        result.1 }
+    ensures writes { WritesFront chars IsUtf8 (M.means mapping) (drop from src.now) dst.old
+        dst.new at result.0 result.1 }
 {
     let (first, count, is_whole) = put_sixteen(mapping, src, from, dst, at);
     if !is_whole {
@@ -236,8 +231,8 @@ fn put_short<M: Mapping>(
     ensures read { result.0 ≤ 2 }
     ensures written { result.1 ≤ 1 }
     ensures len { length dst.new ≡ length dst.old }
-    ensures writes { WritesUtf8 (M.means mapping) src.now from dst.old dst.new at result.0
-        result.1 }
+    ensures writes { WritesFront chars IsUtf8 (M.means mapping) (drop from src.now) dst.old
+        dst.new at result.0 result.1 }
 {
     let unit = unit_at(src[from], src[from + 1]);
     if unit >= 0x800 {
@@ -263,8 +258,7 @@ fn put_wide_lanes(dst: &mut [u8], at: usize, lanes: u8x64, len: usize)
     is_front.select(lanes, after).copy_to_slice(&mut dst[at..]);
 }
 
-/// Writes the ASCII in front of 64 bytes, which `lanes` holds, and the byte of the character after
-/// it.
+/// Writes the ASCII in front of 64 bytes, and the byte of the character after it.
 ///
 /// Returns the numbers of bytes read and written, and whether that character has a byte.
 #[inline(always)]
@@ -274,10 +268,8 @@ fn put_hop<M: Mapping>(
     from: usize,
     dst: &mut [u8],
     at: usize,
-    lanes: u8x64,
 ) -> (usize, usize, bool)
     requires keeps { KeepsAscii (M.means mapping) }
-    requires lanes { lanes ≡ take 64 (drop from src.now) }
     requires text { from + 65 ≤ length src.now }
     requires utf8 { IsUtf8 (drop from src.now) }
     requires room { at + 64 ≤ length dst.old }
@@ -285,9 +277,10 @@ fn put_hop<M: Mapping>(
     ensures written { result.1 ≤ 64 }
     ensures some { IsTrue result.2 → 0 < result.0 }
     ensures len { length dst.new ≡ length dst.old }
-    ensures writes { WritesUtf8 (M.means mapping) src.now from dst.old dst.new at result.0
-        result.1 }
+    ensures writes { WritesFront chars IsUtf8 (M.means mapping) (drop from src.now) dst.old
+        dst.new at result.0 result.1 }
 {
+    let lanes = u8x64::from_slice(&src[from..]);
     let ascii = ascii_from(lanes, 0, 63);
     put_wide_lanes(dst, at, lanes, ascii);
     let (read, written) = put_short(mapping, src, from + ascii, dst, at + ascii);
@@ -320,8 +313,8 @@ fn put_turn<M: Mapping>(
     ensures written { result.1 ≤ 64 }
     ensures some { IsTrue result.2 → 0 < result.0 }
     ensures len { length dst.new ≡ length dst.old }
-    ensures writes { WritesUtf8 (M.means mapping) src.now from dst.old dst.new at result.0
-        result.1 }
+    ensures writes { WritesFront chars IsUtf8 (M.means mapping) (drop from src.now) dst.old
+        dst.new at result.0 result.1 }
 {
     let lanes = u8x64::from_slice(&src[from..]);
     if are_all_ascii(lanes) {
@@ -331,7 +324,7 @@ fn put_turn<M: Mapping>(
     if are_dense(lanes) {
         return put_dense(mapping, src, from, dst, at);
     }
-    put_hop(mapping, src, from, dst, at, lanes)
+    put_hop(mapping, src, from, dst, at)
 }
 
 /// Writes the bytes of the first characters in turns, while 65 bytes and room for 64 are left.
@@ -342,7 +335,8 @@ fn put_turns<M: Mapping>(mapping: M, src: &[u8], dst: &mut [u8], at: usize) -> (
     requires keeps { KeepsAscii (M.means mapping) }
     requires utf8 { IsUtf8 src.now }
     requires room { at ≤ length dst.old }
-    ensures { WritesUtf8 (M.means mapping) src.now 0 dst.old dst.new at result.0 result.1 }
+    ensures { WritesFront chars IsUtf8 (M.means mapping) src.now dst.old dst.new at result.0
+        result.1 }
 {
     let mut read = 0;
     let mut written = 0;
@@ -372,10 +366,8 @@ pub(crate) fn put_by_lanes<M: Mapping>(
 ) -> (usize, usize)
     requires utf8 { IsUtf8 src.now }
     requires room { at ≤ length dst.old }
-    ensures within { result.0 ≤ length src.now }
-    ensures utf8 { IsUtf8 (drop result.0 src.now) }
-    ensures writes { WritesMapped (M.means mapping) (chars src.now) (chars (drop result.0 src.now))
-        dst.old dst.new at result.1 }
+    ensures { WritesFront chars IsUtf8 (M.means mapping) src.now dst.old dst.new at result.0
+        result.1 }
 {
     if !mapping.has_unit_bytes() || done < SETTLED || src.len() <= LANES {
         return (0, 0);

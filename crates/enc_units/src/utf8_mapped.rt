@@ -1,7 +1,7 @@
 //! Runs of mapped characters, read from UTF-8.
 
 ghost use Rattle.std.specs.Prelude.{◌≡◌, ◌+◌, ◌<◌, ◌≤◌, length, drop, chars, IsUtf8, slice_index};
-ghost use Rattle.enc_units.specs.Mappings.{IsFirstUtf8Char, WritesMapped, WritesThemselves};
+ghost use Rattle.enc_units.specs.Mappings.{IsFirstUtf8Char, WritesFront, WritesThemselves};
 
 use crate::ascii::copy_strides;
 use crate::mapped_bytes::{MOST_BYTES, put_bytes, put_lanes};
@@ -93,10 +93,8 @@ fn put_beyond<M: Mapping>(mapping: M, src: &[u8], dst: &mut [u8], at: usize) -> 
     requires utf8 { IsUtf8 src.now }
     requires beyond { 0x80 ≤ slice_index src.now 0 }
     requires room { at + 4 ≤ length dst.old }
-    ensures within { result.0 ≤ length src.now }
-    ensures utf8 { IsUtf8 (drop result.0 src.now) }
-    ensures writes { WritesMapped (M.means mapping) (chars src.now) (chars (drop result.0 src.now))
-        dst.old dst.new at result.1 }
+    ensures { WritesFront chars IsUtf8 (M.means mapping) src.now dst.old dst.new at result.0
+        result.1 }
 {
     let found = found_at(src, 0);
     let Some(bytes) = mapping.bytes_in_run(found.c) else {
@@ -113,10 +111,8 @@ fn put_char<M: Mapping>(mapping: M, src: &[u8], dst: &mut [u8], at: usize) -> (u
     requires some { 1 ≤ length src.now }
     requires utf8 { IsUtf8 src.now }
     requires room { at + 4 ≤ length dst.old }
-    ensures within { result.0 ≤ length src.now }
-    ensures utf8 { IsUtf8 (drop result.0 src.now) }
-    ensures writes { WritesMapped (M.means mapping) (chars src.now) (chars (drop result.0 src.now))
-        dst.old dst.new at result.1 }
+    ensures { WritesFront chars IsUtf8 (M.means mapping) src.now dst.old dst.new at result.0
+        result.1 }
 {
     if src[0] >= 0x80 {
         return put_beyond(mapping, src, dst, at);
@@ -153,10 +149,8 @@ fn put_turn<M: Mapping>(mapping: M, src: &[u8], dst: &mut [u8], at: usize) -> (u
     requires sixteen { 16 ≤ length src.now }
     requires utf8 { IsUtf8 src.now }
     requires room { at + 16 ≤ length dst.old }
-    ensures within { result.0 ≤ length src.now }
-    ensures utf8 { IsUtf8 (drop result.0 src.now) }
-    ensures writes { WritesMapped (M.means mapping) (chars src.now) (chars (drop result.0 src.now))
-        dst.old dst.new at result.1 }
+    ensures { WritesFront chars IsUtf8 (M.means mapping) src.now dst.old dst.new at result.0
+        result.1 }
 {
     if src[0] >= 0x80 {
         return put_beyond(mapping, src, dst, at);
@@ -177,10 +171,8 @@ pub(crate) fn write_utf8<M: Mapping>(
 ) -> (usize, usize)
     requires utf8 { IsUtf8 src.now }
     requires within { from ≤ length dst.old }
-    ensures within { result.0 ≤ length src.now }
-    ensures utf8 { IsUtf8 (drop result.0 src.now) }
-    ensures writes { WritesMapped (M.means mapping) (chars src.now) (chars (drop result.0 src.now))
-        dst.old dst.new from result.1 }
+    ensures { WritesFront chars IsUtf8 (M.means mapping) src.now dst.old dst.new from result.0
+        result.1 }
 {
     let mut read = put_strides(mapping, src, dst, from);
     let mut at = from + read;

@@ -7,7 +7,7 @@ ghost use Rattle.std.specs.Char.Escape.{encode_utf16};
 ghost use Rattle.enc_units.specs.Gathering.{GathersChars};
 ghost use Rattle.enc_units.specs.Pieces.{IsUtf8Char};
 ghost use Rattle.enc_units.specs.Utf8Units.{gives_unit, code_unit_of_byte, byte_two_before};
-ghost use Rattle.enc_units.specs.Utf8Units.{unit_at, units_from, marked_code_units};
+ghost use Rattle.enc_units.specs.Utf8Units.{units_from, marked_code_units};
 ghost use Rattle.enc_units.specs.Validity.{IsWellFormedUtf8};
 
 use crate::marked::MARKED;
@@ -124,7 +124,9 @@ fn marks_of(before: u8x16, bytes: u8x16) -> u64
 #[inline(always)]
 pub(crate) fn pick(bytes: u8x16, places: u8x16) -> u8x16
     requires { (k : ℕ) → k < 16 → slice_index places k < 16 }
-    ensures { result ≡ map (λ place. slice_index bytes place) places }
+    ensures list { result ≡ map (λ place. slice_index bytes place) places }
+    ensures lanes { (k : ℕ) → k < 16 → slice_index result k
+        ≡ slice_index bytes (slice_index places k) }
 {
     bytes.swizzle_dyn(places)
 }
@@ -190,7 +192,7 @@ fn store_one(buffer: &mut [u16], end: usize, src: &[u8], at: usize) -> usize
     ensures bound { result ≤ end + 1 }
     ensures len { length buffer.new ≡ length buffer.old }
     ensures rest { drop (end + 1) buffer.new ≡ drop (end + 1) buffer.old }
-    ensures stored { take result buffer.new ≡ take end buffer.old ++ unit_at src.now at }
+    ensures stored { take result buffer.new ≡ take end buffer.old ++ units_from src.now at 1 }
 {
     if !gives(src, at) {
         return end;

@@ -1,5 +1,6 @@
 use Rattle.std.proofs.Common.{◌-◌, length, drop, subst, arith, length-drop}
 use Rattle.std.proofs.lemmas.List.{take_all}
+use Rattle.enc_units.proofs.LengthLemmas.{lengths}
 use Rattle.enc_units.specs.Validity.{AreAscii}
 use Rattle.enc_units.proofs.ascii.ends_as_ascii.Goals as goal
 
@@ -7,5 +8,5 @@ pub returns-then-bytes-ge16-clause-ascii : goal.returns-then-bytes-ge16-clause-a
 returns-then-bytes-ge16-clause-ascii c = λ t.
     let bytes = c.args.bytes.now in
     let first = length bytes - 16 in
-    subst AreAscii (take_all 16 (drop first bytes) (omega (arith, length-drop first bytes)))
+    subst AreAscii (take_all 16 (drop first bytes) (omega (arith, lengths)))
     (c.are_ascii.ensures t)

@@ -1,4 +1,5 @@
 use Rattle.std.proofs.Common.{◌≡◌, ◌++◌, ◌∙◌, ap, subst, arith, take, drop, length, length-take, length-drop}
+use Rattle.enc_units.proofs.LengthLemmas.{lengths}
 use Rattle.enc_units.specs.Validity.{AreAscii}
 use Rattle.std.proofs.lemmas.List.{take-take}
 use Rattle.enc_units.proofs.GatherLemmas.{stored_lanes}
@@ -13,7 +14,7 @@ returns-clause-stored c =
     let ascii_count = c.ascii_in.result in
     let rest = drop c.args.from c.args.src.now in
     let long : length (take 16 rest) ≡ 16 =
-    omega (arith, length-take 16 rest, length-drop c.args.from c.args.src.now) in
+    omega (arith, lengths) in
     stored_lanes c.args.at ascii_count c.args.buffer.now (take 16 rest) (omega arith)
     (omega (arith, c.ascii_in.ensures.bound))
     ∙ ap (λ z. take c.args.at c.args.buffer.now ++ z)

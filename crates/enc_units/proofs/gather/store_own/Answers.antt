@@ -1,5 +1,6 @@
 use Rattle.std.proofs.Common.{◌≡◌, ◌++◌, ◌∙◌, ap, subst, arith, take, drop, length, length-take, length-drop}
 use Rattle.std.proofs.lemmas.List.{take-take}
+use Rattle.enc_units.proofs.LengthLemmas.{lengths}
 use Rattle.enc_units.specs.Mappings.{AreWrittenAsThemselves}
 use Rattle.enc_units.proofs.GatherLemmas.{stored_lanes}
 use Rattle.enc_units.proofs.PiecesLemmas.{own_ascii}
@@ -22,6 +23,6 @@ returns-clause-stored g c =
     let bound = c.own_len.ensures.bound in
     let rest = drop c.args.from c.args.src.now in
     let long : length (take 16 rest) ≡ 16 =
-    omega (arith, length-take 16 rest, length-drop c.args.from c.args.src.now) in
+    omega (arith, lengths) in
     stored_lanes c.args.at own c.args.buffer.now (take 16 rest) (omega arith) (omega (arith, bound))
     ∙ ap (λ z. take c.args.at c.args.buffer.now ++ z) (take-take own 16 rest bound)

@@ -1,5 +1,5 @@
 use Rattle.std.proofs.Common.{sym, arith}
-use Rattle.enc_units.proofs.GatherLemmas.{utf8_three}
+use Rattle.enc_units.proofs.Utf8FormLemmas.{utf8_three}
 use Rattle.enc_units.proofs.gather.three_bytes.Goals as goal
 
 pub returns : goal.returns

@@ -1,5 +1,5 @@
 use Rattle.std.proofs.Common.{sym, arith}
-use Rattle.enc_units.proofs.GatherLemmas.{utf8_two}
+use Rattle.enc_units.proofs.Utf8FormLemmas.{utf8_two}
 use Rattle.enc_units.proofs.gather.two_bytes.Goals as goal
 
 pub returns : goal.returns

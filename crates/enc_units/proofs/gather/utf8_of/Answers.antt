@@ -1,5 +1,5 @@
 use Rattle.std.proofs.Common.{sym, arith}
-use Rattle.enc_units.proofs.GatherLemmas.{utf8_two, utf8_three, utf8_four}
+use Rattle.enc_units.proofs.Utf8FormLemmas.{utf8_two, utf8_three, utf8_four}
 use Rattle.enc_units.proofs.gather.utf8_of.Goals as goal
 
 pub returns-then-scalar-lt2048-clause-bytes : goal.returns-then-scalar-lt2048-clause-bytes

@@ -1,4 +1,5 @@
 use Rattle.std.proofs.Common.{◌∙◌, arith, drop, length-drop}
+use Rattle.enc_units.proofs.LengthLemmas.{lengths}
 use Rattle.enc_units.proofs.PairsLemmas.{places_of_rest}
 use Rattle.enc_units.proofs.GatherLemmas.{gathers_then, gathers_kept_ascii, gathers_one}
 use Rattle.enc_units.proofs.pairs.gather_pairs.Goals as goal
@@ -15,7 +16,7 @@ loop-written-preserved-then-are_ascii g c =
       stored.len ∙ invariant.2,
       gathers_then invariant.3
           (gathers_kept_ascii (c.has_ascii-has_ascii.ensures c.if-has_ascii.true)
-          (omega (arith, length-drop c.loop-written.read c.args.src.now))
+          (omega (arith, lengths))
           (c.are_ascii.ensures c.if-are_ascii.true)
           stored.stored),
     )
@@ -26,7 +27,7 @@ store_eight-more-requires-clause-places g c i l = (_, c.in-Some.ensures i l)
 pub returns-in_default-piece-clause-gathers : goal.returns-in_default-piece-clause-gathers
 returns-in_default-piece-clause-gathers g c = gathers_then c.loop-written.invariant.3
     (c.store_eight-more.ensures.gathers (drop c.loop-written.read c.args.src.now)
-    (omega (arith, length-drop c.loop-written.read c.args.src.now))
+    (omega (arith, lengths))
     (places_of_rest (g.P.Pieces.stands_for c.args.pieces) c.in-Some.found.places
     c.in-Some.found.leads c.args.src.now c.loop-written.read c.in-Some.ensures))
 
@@ -39,7 +40,7 @@ loop-written-preserved-then-more-gt0 g c =
       stored.len ∙ invariant.2,
       gathers_then invariant.3
           (stored.gathers (drop c.loop-written.read c.args.src.now)
-          (omega (arith, length-drop c.loop-written.read c.args.src.now))
+          (omega (arith, lengths))
           (places_of_rest (g.P.Pieces.stands_for c.args.pieces) c.in-Some.found.places
           c.in-Some.found.leads c.args.src.now c.loop-written.read c.in-Some.ensures)),
     )
@@ -55,7 +56,7 @@ loop-written-preserved g c =
       stored.len ∙ stored_pairs.len ∙ invariant.2,
       gathers_then (gathers_then invariant.3
           (stored_pairs.gathers (drop c.loop-written.read c.args.src.now)
-          (omega (arith, length-drop c.loop-written.read c.args.src.now))
+          (omega (arith, lengths))
           (places_of_rest (g.P.Pieces.stands_for c.args.pieces) c.in-Some.found.places
           c.in-Some.found.leads c.args.src.now c.loop-written.read c.in-Some.ensures)))
           (gathers_one _ found.some found.within stored.scalar found.means stored.stored),

@@ -1,6 +1,7 @@
-use Rattle.std.proofs.Common.{◌+◌, ◌%◌, ◌/◌, ◌^◌, get_or, ◌≡◌, ◌∙◌, refl, arith}
+use Rattle.std.proofs.Common.{◌∙◌, refl, arith}
+use Rattle.enc_units.proofs.EndsLemmas.{end_is, end_next}
 use Rattle.enc_units.proofs.GatherLemmas.{gathers_nothing}
-use Rattle.enc_units.proofs.PairsLemmas.{goes_up, end_goes, end_next, gathers_stored, place_of_next}
+use Rattle.enc_units.proofs.PairsLemmas.{gathers_stored}
 use Rattle.enc_units.proofs.pairs.store_four.Goals as goal
 
 pub loop-count-init : goal.loop-count-init
@@ -9,27 +10,21 @@ loop-count-init g c =
 
 pub store_place-requires-clause-place : goal.store_place-requires-clause-place
 store_place-requires-clause-place g c =
-    c.requires.places (c.args.from + c.loop-count.read) (omega (arith, c.loop-count.invariant.2))
+    c.requires.places c.loop-count.read (omega (arith, c.loop-count.invariant.2))
 
 pub loop-count-preserved : goal.loop-count-preserved
 loop-count-preserved g c =
     let invariant = c.loop-count.invariant in
     let read = c.loop-count.read in
     let stored = c.in-Some.ensures in
-    let next : get_or c.ends_of-ends.result c.loop-count.count 0
-    ≡ c.loop-count.read + 1 + c.args.leads / 2 ^ c.loop-count.read % 2 =
-    end_goes c.args.leads c.loop-count.count _ _ c.ends_of-ends.ensures c.loop-count-test.true
-    invariant.1 (omega (arith, invariant.2)) in
-    let up = goes_up (c.args.leads / 2 ^ read) next in (
+    let next = end_is c.args.leads c.loop-count.count read _ c.ends_of-ends.ensures
+    c.loop-count-test.true invariant.1 (omega (arith, invariant.2)) in (
       omega arith,
       end_next c.ends_of-ends.result c.loop-count.count,
-      omega (arith, invariant.2, up.1),
+      omega (arith, invariant.2, next),
       omega (arith, invariant.3, stored.bound),
       stored.len ∙ invariant.4,
-      λ src long are. gathers_stored _ src c.args.leads read _ next
+      λ src long are. gathers_stored src c.args.leads read _ next
           (omega (arith, invariant.2, long))
-          (stored.stored _
-          (place_of_next (g.P.Pieces.stands_for c.args.pieces) c.args.places.now c.args.leads src
-          c.args.from read (omega (arith, invariant.2)) are))
-          (invariant.5 src long are),
+          (stored.stored _ (are read (omega (arith, invariant.2)))) (invariant.5 src long are),
     )

@@ -1,5 +1,9 @@
 use Rattle.std.proofs.Common.{◌∙◌, arith}
 use Rattle.enc_units.proofs.GatherLemmas.{gathers_byte}
+use Rattle.std.proofs.Common.{subst, sym, ◌∷◌, []}
+use Rattle.std.proofs.lemmas.List.{get_or-drop}
+use Rattle.enc_units.specs.Pairs.{MeansWord}
+use Rattle.enc_units.proofs.LengthLemmas.{lengths}
 use Rattle.enc_units.proofs.single_bytes.store_bytes.Goals as goal
 
 pub loop-read-preserved : goal.loop-read-preserved
@@ -10,5 +14,8 @@ loop-read-preserved g c =
       omega arith,
       omega (arith, stored.end, invariant.1, is_word.bound),
       stored.len ∙ invariant.2,
-      gathers_byte c.args.src.now c.args.from (omega arith) is_word invariant.3 stored.stored,
+      gathers_byte (omega (arith, lengths)) (subst (λ b. MeansWord
+          (g.P.Pieces.means c.args.pieces) (b ∷ []) c.word-word.result)
+          (sym (get_or-drop c.args.from c.args.src.now c.loop-read.read 0)) is_word) invariant.3
+          stored.stored,
     )

@@ -7,7 +7,7 @@ use Rattle.enc_units.proofs.utf16_mapped.put_ascii.Goals as goal
 
 pub returns-then-len-lt16 : goal.returns-then-len-lt16
 returns-then-len-lt16 g c =
-    front_stored (g.M.Mapping.means c.args.mapping) c.args.at _ _
+    front_stored c.args.at _ _
     (own_lanes _ _ c.args.src.now _ (omega (arith, c.min-len.ensures))
     c.ascii_units.ensures.bound c.low_bytes-lanes.ensures c.ascii_units.ensures.ascii)
     (all_fewer (IsWrittenAsItself (g.M.Mapping.means c.args.mapping)) _ _ _ (omega
@@ -19,7 +19,7 @@ returns-then-len-lt16 g c =
 pub returns : goal.returns
 returns g c =
     let fit = c.requires.sixteen in
-    all_stored (g.M.Mapping.means c.args.mapping) c.args.src.now c.args.dst.now c.args.at 16 _
+    all_stored c.args.src.now c.args.dst.now c.args.at 16 _
     (low_lanes_long c.args.src.now _ c.low_bytes-lanes.ensures fit) fit c.requires.room
     (own_lanes 16 _ c.args.src.now _ (omega (arith, c.min-len.ensures))
     c.ascii_units.ensures.bound c.low_bytes-lanes.ensures c.ascii_units.ensures.ascii)

@@ -1,19 +1,24 @@
-use Rattle.std.proofs.Common.{◌≡◌, length, arith}
-use Rattle.enc_units.proofs.Utf8FaultLemmas.{pair_lane}
+use Rattle.std.proofs.Common.{◌≡◌, ◌∙◌, length, get_or, ap, sym, subst, arith}
+use Rattle.enc_units.specs.declared.utf8_faults.TheConstants.{FIRST_UPPER, FIRST_LOWER, SECOND_UPPER}
+use Rattle.enc_units.specs.Utf8Run.{ArePairFaults}
+use Rattle.enc_units.proofs.Utf8FaultLemmas.{lane_of_and, pair_faults_of}
 use Rattle.enc_units.proofs.Utf8UnitLanes.{lane_bound}
 use Rattle.enc_units.proofs.utf8.pair_faults.Goals as goal
 
 pub returns : goal.returns
-returns c =
-    let args = c.args in
-    let upper = c.upper_halves in
-    let lower = c.lower_halves in
-    let second = c.upper_halves-2 in
-    let upper_long : length upper.result ≡ 16 = omega arith in
-    let lower_long : length lower.result ≡ 16 = omega arith in
-    let second_long : length second.result ≡ 16 = omega arith in
-    pair_lane args.first args.second upper.result lower.result second.result upper_long lower_long
-    second_long upper.ensures.value lower.ensures.value second.ensures.value
-    (λ k few. lane_bound args.first k c.fits-first few)
-    (λ k few. lane_bound args.second k c.fits-second few) _ _ _ c.pick.ensures c.pick-2.ensures
-    c.pick-3.ensures
+returns c k few =
+    let x = get_or c.args.first k 0 in
+    let b = get_or c.args.second k 0 in
+    let upper = c.pick.ensures.lanes k few
+    ∙ ap (λ p. get_or FIRST_UPPER p 0) (c.upper_halves.ensures.value k few) in
+    let lower = c.pick-2.ensures.lanes k few
+    ∙ ap (λ p. get_or FIRST_LOWER p 0) (c.lower_halves.ensures.value k few) in
+    let second = c.pick-3.ensures.lanes k few
+    ∙ ap (λ p. get_or SECOND_UPPER p 0) (c.upper_halves-2.ensures.value k few) in
+    let one_long : length c.pick.result ≡ 16 = omega arith in
+    let other_long : length c.pick-2.result ≡ 16 = omega arith in
+    let third_long : length c.pick-3.result ≡ 16 = omega arith in
+    subst (ArePairFaults x b)
+    (sym (lane_of_and _ _ _ k one_long other_long third_long few))
+    (pair_faults_of (lane_bound c.args.first k c.fits-first few)
+    (lane_bound c.args.second k c.fits-second few) upper lower second)

@@ -1,18 +1,24 @@
-use Rattle.std.proofs.Common.{◌≡◌, ◌+◌, arith, drop, subst, IsUtf8}
-use Rattle.enc_units.proofs.Utf8BytesLemmas.{from_start, writes_on}
+use Rattle.std.proofs.Common.{drop, arith}
+use Rattle.enc_units.proofs.LengthLemmas.{lengths}
+use Rattle.enc_units.proofs.WriteLoopLemmas.{writes_then}
 use Rattle.enc_units.proofs.utf8_bytes.put_eight.Goals as goal
 
-pub put_four-first-requires-clause-utf8 : goal.put_four-first-requires-clause-utf8
-put_four-first-requires-clause-utf8 g c =
-    let same : c.args.from ≡ c.args.from + 0 = omega arith in
-    subst (λ k. IsUtf8 (drop k c.args.src.now)) same c.requires.utf8
+pub put_four-first-requires-clause-units : goal.put_four-first-requires-clause-units
+put_four-first-requires-clause-units g c k below = omega (arith, c.lanes_at-lanes.ensures.unit k below)
+
+pub put_four-second-requires-clause-units : goal.put_four-second-requires-clause-units
+put_four-second-requires-clause-units g c k below =
+    omega (arith, c.lanes_at-lanes.ensures.unit k below)
 
 pub returns-then-not-is_whole-clause-writes : goal.returns-then-not-is_whole-clause-writes
-returns-then-not-is_whole-clause-writes g c = from_start c.put_four-first.ensures.writes
-
-pub put_four-second-requires-clause-utf8 : goal.put_four-second-requires-clause-utf8
-put_four-second-requires-clause-utf8 g c = (from_start c.put_four-first.ensures.writes).utf8
+returns-then-not-is_whole-clause-writes g c =
+    c.put_four-first.ensures.writes (drop c.args.from c.args.src.now) (omega (arith, lengths))
+    c.lanes_at-lanes.ensures c.requires.utf8
 
 pub returns-clause-writes : goal.returns-clause-writes
 returns-clause-writes g c =
-    writes_on (from_start c.put_four-first.ensures.writes) c.put_four-second.ensures.writes
+    let text = drop c.args.from c.args.src.now in
+    let first = c.put_four-first.ensures.writes text (omega (arith, lengths))
+    c.lanes_at-lanes.ensures c.requires.utf8 in
+    writes_then first (c.put_four-second.ensures.writes text (omega (arith, lengths))
+    c.lanes_at-lanes.ensures first.rest)

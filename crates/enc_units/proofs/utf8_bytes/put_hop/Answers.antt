@@ -1,27 +1,25 @@
-use Rattle.std.proofs.Common.{arith}
-use Rattle.enc_units.proofs.Utf8BytesLemmas.{front_written, ascii_here, writes_on}
+use Rattle.std.proofs.Common.{refl, arith, drop}
+use Rattle.enc_units.proofs.AsciiMaskLemmas.{ascii_loaded}
+use Rattle.enc_units.proofs.LengthLemmas.{lengths}
+use Rattle.enc_units.proofs.Utf8BytesLemmas.{ascii_written, later_utf8, of_rest}
+use Rattle.enc_units.proofs.WriteLoopLemmas.{writes_then}
 use Rattle.enc_units.proofs.utf8_bytes.put_hop.Goals as goal
 
 pub put_short-read-requires-clause-utf8 : goal.put_short-read-requires-clause-utf8
 put_short-read-requires-clause-utf8 g c =
+    let text = drop c.args.from c.args.src.now in
     let ascii = c.ascii_from-ascii.ensures in
-    (front_written {Means = g.M.Mapping.means c.args.mapping} {src = c.args.src.now}
-    {before = c.args.dst.now} {from = c.args.from}
-    {at = c.args.at} {n = c.ascii_from-ascii.result} c.requires.keeps c.requires.utf8
-    c.requires.lanes
-    (omega (arith, ascii.bound)) (omega (arith, ascii.bound))
-    (ascii_here c.args.src.now c.args.from _ c.args.lanes c.requires.lanes
-    (omega (arith, ascii.bound)) ascii.ascii) (omega (arith, ascii.bound))
-    c.put_wide_lanes.ensures).utf8
+    later_utf8 c.args.src.now c.args.from (ascii_written (g.M.Mapping.means c.args.mapping) c.requires.keeps c.requires.utf8 (omega (arith, ascii.bound))
+    (omega (arith, ascii.bound, lengths))
+    (ascii_loaded text 0 _ _ refl (omega (arith, ascii.bound)) ascii.ascii)
+    (omega (arith, ascii.bound)) c.put_wide_lanes.ensures)
 
 pub returns-clause-writes : goal.returns-clause-writes
 returns-clause-writes g c =
+    let text = drop c.args.from c.args.src.now in
     let ascii = c.ascii_from-ascii.ensures in
-    writes_on (front_written {Means = g.M.Mapping.means c.args.mapping} {src = c.args.src.now}
-    {before = c.args.dst.now} {from = c.args.from}
-    {at = c.args.at} {n = c.ascii_from-ascii.result} c.requires.keeps c.requires.utf8
-    c.requires.lanes
-    (omega (arith, ascii.bound)) (omega (arith, ascii.bound))
-    (ascii_here c.args.src.now c.args.from _ c.args.lanes c.requires.lanes
-    (omega (arith, ascii.bound)) ascii.ascii) (omega (arith, ascii.bound))
-    c.put_wide_lanes.ensures) c.put_short-read.ensures.writes
+    writes_then (ascii_written (g.M.Mapping.means c.args.mapping) c.requires.keeps c.requires.utf8 (omega (arith, ascii.bound))
+    (omega (arith, ascii.bound, lengths))
+    (ascii_loaded text 0 _ _ refl (omega (arith, ascii.bound)) ascii.ascii)
+    (omega (arith, ascii.bound)) c.put_wide_lanes.ensures)
+    (of_rest c.args.src.now c.args.from _ c.put_short-read.ensures.writes)

@@ -1,10 +1,13 @@
-use Rattle.std.proofs.Common.{chars, drop, arith}
-use Rattle.enc_units.proofs.MappingLemmas.{maps_one}
+use Rattle.std.proofs.Common.{arith}
+use Rattle.enc_units.proofs.WriteLoopLemmas.{writes_one}
 use Rattle.enc_units.proofs.utf8_mapped.put_beyond.Goals as goal
 
-pub returns-clause-writes : goal.returns-clause-writes
-returns-clause-writes g c =
+pub returns : goal.returns
+returns g c =
     let first = c.found_at-found.ensures.first in
-    maps_one (g.M.Mapping.means c.args.mapping) (chars c.args.src.now)
-    (chars (drop c.found_at-found.result.width c.args.src.now)) c.args.dst.now _ c.args.at _ _ _
-    first.chars c.in-Some.ensures c.put_bytes.ensures.count (omega arith) c.put_bytes.ensures.put
+    let put = c.put_bytes.ensures in
+    writes_one c.in-Some.ensures first.within first.utf8 first.chars (record {
+      count = put.count;
+      fits = omega (arith, put.few);
+      onto = put.put;
+    })

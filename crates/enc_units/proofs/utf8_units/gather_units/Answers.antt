@@ -1,6 +1,5 @@
-use Rattle.std.proofs.Common.{◌∙◌, ◌++◌, ap, sym, arith, append-nil, take}
-use Rattle.enc_units.proofs.Utf8UnitsLemmas.{gathered_more}
-use Rattle.enc_units.specs.Utf8Units.{unit_at}
+use Rattle.std.proofs.Common.{◌∙◌, ◌+◌, ◌-◌, arith}
+use Rattle.enc_units.proofs.Utf8UnitsLemmas.{units_further}
 use Rattle.enc_units.proofs.utf8_units.gather_units.Goals as goal
 
 pub loop-at-preserved-then-to-at-ge16 : goal.loop-at-preserved-then-to-at-ge16
@@ -12,9 +11,9 @@ loop-at-preserved-then-to-at-ge16 c =
       omega (arith, stored.bound, invariant.2),
       omega (arith, stored.bound),
       stored.len ∙ invariant.4,
-      gathered_more c.args.src.now c.args.from c.loop-at.at 16 c.loop-at.end
-          c.store_sixteen-end.result
-          c.loop-at.buffer c.store_sixteen-end.new.buffer invariant.0 invariant.5 stored.stored,
+      units_further c.args.src.now c.args.from (c.loop-at.at - c.args.from) c.loop-at.at 16
+          (c.loop-at.at + 16 - c.args.from) invariant.5 stored.stored
+          (omega arith) (omega arith),
     )
 
 pub loop-at-preserved : goal.loop-at-preserved
@@ -26,9 +25,7 @@ loop-at-preserved c =
       omega (arith, stored.bound, invariant.2),
       omega (arith, stored.bound),
       stored.len ∙ invariant.4,
-      gathered_more c.args.src.now c.args.from c.loop-at.at 1 c.loop-at.end c.store_one-end.result
-          c.loop-at.buffer
-          c.store_one-end.new.buffer invariant.0 invariant.5
-          (stored.stored ∙ ap (λ z. take c.loop-at.end c.loop-at.buffer ++ z)
-          (sym (append-nil (unit_at c.args.src.now c.loop-at.at)))),
+      units_further c.args.src.now c.args.from (c.loop-at.at - c.args.from) c.loop-at.at 1
+          (c.loop-at.at + 1 - c.args.from) invariant.5 stored.stored
+          (omega arith) (omega arith),
     )

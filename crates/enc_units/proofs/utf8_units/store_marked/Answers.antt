@@ -1,7 +1,8 @@
 use Rattle.std.proofs.Common.{◌%◌, arith}
 use Rattle.enc_units.proofs.MaskedUnitLemmas.{row_is, row_long, stores_marked}
 use lib.Lanes.{digits_l, number_l}
-use Rattle.enc_units.proofs.Utf8UnitsLemmas.{chunk_rest}
+use Rattle.std.proofs.Common.{refl, ◌+◌}
+use Rattle.enc_units.proofs.PutLemmas.{put_rest, put_lanes}
 use Rattle.enc_units.proofs.utf8_units.store_marked.Goals as goal
 
 pub pick-requires : goal.pick-requires
@@ -14,8 +15,10 @@ returns-clause-stored c =
     stores_marked args.at args.marks args.units _ _ args.buffer.now c.requires c.fits-units.0
     c.fits-units.1
     (row_long mask (omega arith)) (row_is mask (omega arith))
-    c.pick.ensures
+    c.pick.ensures.list
 
 pub returns-clause-rest : goal.returns-clause-rest
-returns-clause-rest c = chunk_rest c.args.at c.args.buffer.now
-    (digits_l 0x1_0000 8 (number_l 0x100 c.pick.result)) c.requires
+returns-clause-rest c =
+    let eight = digits_l 0x1_0000 8 (number_l 0x100 c.pick.result) in
+    put_rest (put_lanes 8 c.args.at c.args.buffer.now eight c.requires refl) (c.args.at + 8)
+    (omega arith)

@@ -1,16 +1,17 @@
-use Rattle.enc_units.proofs.Utf8UnitsLemmas.{stores_one, stores_none, next_bytes}
-use Rattle.std.proofs.Common.{◌∙◌, ◌+◌, sym, arith}
-use Rattle.std.proofs.lemmas.List.{drop-set-lt}
+use Rattle.std.proofs.Common.{◌≡◌, ◌∙◌, ◌+◌, suc, refl, sym, arith, append-nil}
+use Rattle.std.proofs.lemmas.List.{drop-set-lt, take_more_set}
 use Rattle.enc_units.proofs.utf8_units.store_one.Goals as goal
 
 pub returns-then-not-gives-clause-stored : goal.returns-then-not-gives-clause-stored
 returns-then-not-gives-clause-stored c =
-    stores_none _ _ _ (sym c.gives.ensures ∙ c.if-not-gives.true)
+    rw (sym c.gives.ensures ∙ c.if-not-gives.true, append-nil) refl
 
 pub returns-clause-stored : goal.returns-clause-stored
-returns-clause-stored c = stores_one c.args.end _ c.args.buffer.now _ _ c.requires.room
-    (sym c.gives.ensures ∙ c.if-not-gives.false)
-    (next_bytes c.args.src.now c.args.at _ c.unit_of.ensures)
+returns-clause-stored c =
+    let next : c.args.at + 1 ≡ suc c.args.at = omega arith in
+    let second : c.args.at + 2 ≡ suc (suc c.args.at) = omega arith in
+    take_more_set c.args.buffer.now c.args.end _ c.requires.room
+    ∙ rw (sym c.gives.ensures ∙ c.if-not-gives.false, c.unit_of.ensures, next, second) refl
 
 pub returns-clause-rest : goal.returns-clause-rest
 returns-clause-rest c =

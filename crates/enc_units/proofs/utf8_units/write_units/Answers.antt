@@ -1,51 +1,56 @@
-use Rattle.std.proofs.Common.{◌≡◌, ◌∙◌, ◌+◌, ◌≤◌, length, take, drop, ap, sym, arith, length-take}
+use Rattle.std.proofs.Common.{refl}
+use Rattle.std.proofs.Common.{◌≡◌, ◌∙◌, ◌+◌, ◌-◌, ◌≤◌, ◌++◌, length, take, drop, ap, sym, arith}
 use Rattle.enc_units.specs.Utf8Units.{units_from}
+use Rattle.enc_units.proofs.LengthLemmas.{lengths}
+use Rattle.enc_units.proofs.PutLemmas.{put_length, put_front, put_rest, put_part}
+use Rattle.enc_units.proofs.UnitsWrittenLemmas.{written_further}
 use Rattle.enc_units.proofs.Utf8TextLemmas.{gathers_units}
-use Rattle.enc_units.proofs.Utf8UnitsLemmas.{writes_long, writes_count, writes_more, writes_rest, units_grow}
+use Rattle.enc_units.proofs.Utf8UnitsLemmas.{units_further, units_grow}
 use Rattle.enc_units.proofs.utf8_units.write_units.Goals as goal
 
 pub returns-clause-gathers : goal.returns-clause-gathers
 returns-clause-gathers c =
-    let invariant = c.loop-read.invariant in
+    let written = c.loop-read.invariant.1 in
     let all : c.loop-read.read ≡ c.args.len = omega arith in
     gathers_units c.args.src.now c.args.len _ (omega arith) c.requires.utf8
-    (invariant.5 ∙ ap (units_from c.args.src.now 0) all)
+    (written.front ∙ ap (units_from c.args.src.now 0) all)
 
 pub returns-clause-rest : goal.returns-clause-rest
 returns-clause-rest c =
-    let invariant = c.loop-read.invariant in
+    let written = c.loop-read.invariant.1 in
     let all : c.loop-read.read ≡ c.args.len = omega arith in
-    let written = invariant.4 ∙ ap (λ n. length (units_from c.args.src.now 0 n)) all in
-    ap (λ n. drop n c.loop-read.dst) written ∙ invariant.6
-    ∙ ap (λ n. drop n c.args.dst.now) (sym written)
+    let end = written.count ∙ ap (λ n. length (units_from c.args.src.now 0 n)) all in
+    ap (λ n. drop n c.loop-read.dst) end ∙ written.rest ∙ ap (λ n. drop n c.args.dst.now) (sym end)
 
 pub loop-read-preserved : goal.loop-read-preserved
 loop-read-preserved c =
-    let invariant = c.loop-read.invariant in
     let state = c.loop-read in
-    let src = c.args.src.now in
+    let written = state.invariant.1 in
     let gathered = c.gather_units-next.ensures in
     let next = c.gather_units-next.result.0 in
     let end = c.gather_units-next.result.1 in
-    let ys = c.copy_from_slice.new.self in
-    let copied : ys ≡ take end c.gather_units-next.new.buffer = c.copy_from_slice.ensures.after in
-    let many : length ys ≡ end = omega
-    (arith, ap length copied, length-take end c.gather_units-next.new.buffer, gathered.bound) in
-    let on : state.read ≤ next = omega (arith, gathered.some) in
+    let part = take end c.gather_units-next.new.buffer in
+    let count : end ≡ length part = omega (arith, lengths, gathered.bound) in
     let room : state.written + end ≤ length state.dst =
-    omega (arith, gathered.few, gathered.within, invariant.1, invariant.3) in
-    let more = copied ∙ gathered.gathered in
-    let count = writes_count src state.read next state.written end state.dst ys room many on
-    invariant.4 invariant.5 more in (
-      gathered.within,
-      omega (arith, invariant.1, gathered.few, gathered.some),
-      gathered.len ∙ invariant.2,
-      writes_long src state.read next state.written end state.dst ys room many on invariant.4
-          invariant.5 more ∙ invariant.3,
-      count,
-      writes_more src state.read next state.written end state.dst ys room many on invariant.4
-          invariant.5 more,
-      writes_rest src state.read next state.written end state.dst ys room many on invariant.4
-          invariant.5 more _ (omega (arith, count, units_grow src next c.args.len gathered.within))
-          ∙ invariant.6,
-    )
+    omega (arith, gathered.few, gathered.within, written.few, written.long) in
+    let put = put_part state.written end state.dst c.copy_from_slice.ensures.after count room in
+    let long = put_length put in
+    let n = next - state.read in
+    let whole : state.read + n ≡ next = omega (arith, gathered.some) in
+    let stored = put_front put
+    ∙ ap (λ z. take state.written state.dst ++ z) gathered.gathered in
+    let front = units_further c.args.src.now 0 state.read state.read n (state.read + n)
+    written.front stored (omega arith) refl in
+    let all : state.written + end ≤ length (units_from c.args.src.now 0 c.args.len) =
+    omega (
+      arith,
+      lengths,
+      ap length front,
+      long,
+      room,
+      whole,
+      units_grow c.args.src.now (state.read + n) c.args.len (omega (arith, whole, gathered.within)),
+    ) in
+    let further = written_further n written (omega (arith, whole, gathered.within)) long
+    (omega (arith, long, room)) stored (put_rest put _ all) in
+    (gathered.len ∙ state.invariant.0, rw whole at further)

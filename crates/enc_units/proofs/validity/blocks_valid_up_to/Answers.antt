@@ -1,6 +1,7 @@
 -- The well-formed bytes in front, and the longest prefix of the rest.
 use Rattle.std.proofs.Common.{◌-◌, List, ℕ, length, drop, subst, arith, length-drop}
 use Rattle.std.proofs.lemmas.List.{take_all}
+use Rattle.enc_units.proofs.LengthLemmas.{lengths}
 use Rattle.enc_units.specs.Validity.{IsLongestPrefix, IsWellFormedUtf8}
 use Rattle.enc_units.proofs.Utf8PrefixLemmas.{longest_after}
 use Rattle.enc_units.proofs.validity.blocks_valid_up_to.Goals as goal
@@ -13,5 +14,5 @@ returns c =
     longest_after bytes front found c.utf8_front-front.ensures.within
     c.utf8_front-front.ensures.utf8
     (subst (λ (rest : List ℕ). IsLongestPrefix IsWellFormedUtf8 rest found)
-    (take_all (length bytes - front) (drop front bytes) (omega (arith, length-drop front bytes)))
+    (take_all (length bytes - front) (drop front bytes) (omega (arith, lengths)))
     c.chars_valid_up_to.ensures)

@@ -1,4 +1,5 @@
 use Rattle.std.proofs.Common.{◌≤◌, ◌∙◌, ◌++◌, ap, arith, length, take, drop, length-drop}
+use Rattle.enc_units.proofs.LengthLemmas.{lengths}
 use Rattle.enc_units.proofs.GatherLemmas.{gathers_then, gathers_one}
 use Rattle.enc_units.proofs.CodeUnitsLemmas.{gathers_units}
 use Rattle.enc_units.proofs.code_units.CodeUnitsGather.gather.Goals as goal
@@ -8,7 +9,7 @@ loop-written-preserved-then-count-eq8 g c =
     let invariant = c.loop-written.invariant in
     let stored = c.store_scalars-count.ensures in
     let long : 16 ≤ length (drop c.loop-written.read c.args.src.now) =
-    omega (arith, length-drop c.loop-written.read c.args.src.now) in (
+    omega (arith, lengths) in (
       omega (arith, stored.len, invariant.0),
       omega (arith, stored.bound),
       stored.len ∙ invariant.2,
@@ -23,7 +24,7 @@ loop-written-preserved g c =
     let stored_text = c.store_text-written.ensures in
     let found = c.in-Some.ensures in
     let long : 16 ≤ length (drop c.loop-written.read c.args.src.now) =
-    omega (arith, length-drop c.loop-written.read c.args.src.now) in
+    omega (arith, lengths) in
     let text = ap (λ k. take k c.store_text-written.new.buffer) stored_text.end ∙ stored_text.stored
     ∙ ap (λ z. take c.store_scalars-count.result.1 c.store_scalars-count.new.buffer ++ z)
     c.utf8_of.ensures.bytes in (
@@ -41,5 +42,5 @@ returns-in_default-clause-gathers g c =
     let stored = c.store_scalars-count.ensures in
     gathers_then c.loop-written.invariant.3
     (gathers_units c.args.self.now.big_endian c.requires.ready _ stored.few
-    (omega (arith, length-drop c.loop-written.read c.args.src.now))
+    (omega (arith, lengths))
     c.units_in-units.ensures stored.scalars stored.stored)

@@ -1,4 +1,5 @@
 use Rattle.std.proofs.Common.{◌∙◌, ◌+◌, ◌++◌, ap, arith, take, length-drop}
+use Rattle.enc_units.proofs.LengthLemmas.{lengths}
 use Rattle.enc_units.proofs.Utf8SliceLemmas.{ascii_units}
 use Rattle.enc_units.proofs.GatherLemmas.{gathers_then, gathers_own, gathers_one}
 use Rattle.enc_units.proofs.gather.OneByOneGather.gather.Goals as goal
@@ -12,7 +13,7 @@ loop-written-preserved-then-own-gt0 g c =
       stored.len ∙ invariant.2,
       gathers_then invariant.3
           (gathers_own ascii_units
-          (omega (arith, stored.bound, length-drop c.loop-written.read c.args.src.now)) stored.own
+          (omega (arith, lengths, stored.bound)) stored.own
           stored.stored),
     )
 
@@ -31,7 +32,7 @@ loop-written-preserved g c =
       gathers_then
           (gathers_then invariant.3
           (gathers_own ascii_units
-          (omega (arith, own.bound, length-drop c.loop-written.read c.args.src.now)) own.own
+          (omega (arith, lengths, own.bound)) own.own
           own.stored))
           (gathers_one _ found.some found.within c.utf8_of.ensures.scalar found.means text),
     )

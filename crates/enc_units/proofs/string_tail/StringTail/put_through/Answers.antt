@@ -1,4 +1,5 @@
 use Rattle.std.proofs.Common.{refl, ap, arith, rules, length, length-take}
+use Rattle.enc_units.proofs.LengthLemmas.{lengths}
 use Rattle.enc_units.proofs.PiecesLemmas.{then_rest}
 use Rattle.enc_units.proofs.AsciiPrefixLemmas.{gathered_utf8, appends_gathered}
 use Rattle.enc_units.proofs.string_tail.StringTail.put_through.Goals as goal
@@ -11,9 +12,4 @@ pub loop-front-preserved : goal.loop-front-preserved
 loop-front-preserved g c =
     then_rest c.split_at.ensures.back c.loop-front.invariant
     (appends_gathered c.put_pieces-read.ensures (rw c.new-out.ensures.len refl) (search rules)
-    (omega (
-      arith,
-      ap length c.new-out.ensures.now,
-      length-take c.min-most.result c.loop-front.buffer,
-      c.min-most.ensures,
-    )) c.append.ensures)
+    (omega (arith, lengths, ap length c.new-out.ensures.now, c.min-most.ensures)) c.append.ensures)

@@ -1,6 +1,6 @@
 use Rattle.std.proofs.Common.{arith}
 use Rattle.enc_units.proofs.PiecesLemmas.{then_rest, same_then}
-use Rattle.enc_units.proofs.GatherLemmas.{then_gathered}
+use Rattle.enc_units.proofs.GatherLemmas.{puts_gathered}
 use Rattle.enc_units.proofs.utf16_slice.Utf16Slice.append_gathered.Goals as goal
 
 pub returns-then-read-eq0 : goal.returns-then-read-eq0
@@ -14,8 +14,9 @@ returns-then-not-append_units g c =
 
 pub loop-at-preserved : goal.loop-at-preserved
 loop-at-preserved g c =
-    then_gathered c.split_at-in-loop-at.ensures.back
+    let appended = c.append_units.ensures in
+    then_rest c.split_at-in-loop-at.ensures.back
     (then_rest c.split_at.ensures.back c.loop-at.invariant c.append_ascii_of-at.ensures)
-    c.gather_units-read.ensures.gathers
-    (omega (arith, c.append_units.ensures.fits c.if-not-append_units.false))
-    (c.append_units.ensures.written c.if-not-append_units.false)
+    (puts_gathered c.gather_units-read.ensures.gathers
+    (omega (arith, appended.fits c.if-not-append_units.false))
+    (appended.written c.if-not-append_units.false))

@@ -6,6 +6,5 @@ use Rattle.enc_units.proofs.utf16_slice.Utf16SliceUnitSlice.append_ascii.Goals a
 pub returns : goal.returns
 returns c =
     let widened = c.widen_ascii-len.ensures in
-    let slice = c.args.self.now in
-    puts_ascii slice.len _ slice.dst.now c.args.src.now _ slice.dst.ghost_name (omega arith)
-    widened.read ascii_units_16 widened.room widened.ascii widened.ends widened.stored
+    puts_ascii c.args.self.now.dst.now _ c.args.self.now.dst.ghost_name ascii_units_16 (omega arith) widened.read widened.room
+    widened.ascii widened.ends widened.stored

@@ -1,9 +1,12 @@
-use Rattle.std.proofs.Common.{◌≡◌, ◌≤◌, length, take, ap, ◌∙◌, subst, arith, length-take}
+use Rattle.std.proofs.Common.{◌≤◌, subst, arith, length-take}
 use Rattle.std.proofs.lemmas.List.{take-take}
-use Rattle.enc_units.specs.Output.{with_appended}
+use Rattle.enc_units.proofs.LengthLemmas.{lengths}
 use Rattle.enc_units.specs.Validity.{IsWellFormedUtf8}
 use Rattle.enc_units.proofs.Utf8CharsLemmas.{puts_utf8}
-use Rattle.enc_units.proofs.Utf8SliceLemmas.{grown_by}
+use Rattle.enc_units.proofs.Utf8SliceLemmas.{grown}
+use Rattle.std.proofs.Common.{sym}
+use Rattle.std.proofs.lemmas.List.{length-take-le}
+use Rattle.enc_units.proofs.PutLemmas.{put_part}
 use Rattle.enc_units.proofs.utf8_slice.Utf8Slice.append_part.Goals as goal
 
 pub returns : goal.returns
@@ -14,10 +17,8 @@ returns c =
     let valid = c.utf8_front-taken.ensures in
     let most = c.min-most.result in
     let least = c.min-most.ensures in
-    let few : taken ≤ most = omega (arith, valid.within, length-take most src) in
-    let copied : c.copy_from_slice.new.self ≡ take taken src = c.copy_from_slice.ensures.after in
+    let few : taken ≤ most = omega (arith, lengths, valid.within) in
     puts_utf8 _ _ src taken (omega arith) (omega arith)
     (subst IsWellFormedUtf8 (take-take taken most src few) valid.utf8)
-    (grown_by slice.len taken slice.dst.now c.copy_from_slice.new.self slice.dst.ghost_name
-    (omega arith) (omega (arith, ap length copied, length-take taken src))
-    ∙ ap (with_appended _) copied)
+    (grown slice.dst.ghost_name (put_part slice.len taken slice.dst.now
+    c.copy_from_slice.ensures.after (sym (length-take-le taken src (omega arith))) (omega arith)))

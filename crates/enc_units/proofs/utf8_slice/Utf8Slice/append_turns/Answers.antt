@@ -1,6 +1,6 @@
 use Rattle.std.proofs.Common.{arith}
 use Rattle.enc_units.proofs.PiecesLemmas.{then_rest, same_then}
-use Rattle.enc_units.proofs.GatherLemmas.{then_gathered}
+use Rattle.enc_units.proofs.GatherLemmas.{puts_gathered}
 use Rattle.enc_units.proofs.utf8_slice.Utf8Slice.append_turns.Goals as goal
 
 pub returns-then-not-append : goal.returns-then-not-append
@@ -9,20 +9,23 @@ returns-then-not-append g c =
 
 pub returns-then-written-buffer : goal.returns-then-written-buffer
 returns-then-written-buffer g c =
-    then_gathered c.split_at.ensures.back c.loop-at.invariant c.gather-read.ensures.gathers
-    (omega (arith, c.append.ensures.fits c.if-not-append.false))
-    (c.append.ensures.written c.if-not-append.false)
+    let appended = c.append.ensures in
+    then_rest c.split_at.ensures.back c.loop-at.invariant
+    (puts_gathered c.gather-read.ensures.gathers
+    (omega (arith, appended.fits c.if-not-append.false)) (appended.written c.if-not-append.false))
 
 pub loop-at-preserved : goal.loop-at-preserved
 loop-at-preserved g c =
-    then_gathered c.split_at.ensures.back c.loop-at.invariant c.gather-read.ensures.gathers
-    (omega (arith, c.append.ensures.fits c.if-not-append.false))
-    (c.append.ensures.written c.if-not-append.false)
+    let appended = c.append.ensures in
+    then_rest c.split_at.ensures.back c.loop-at.invariant
+    (puts_gathered c.gather-read.ensures.gathers
+    (omega (arith, appended.fits c.if-not-append.false)) (appended.written c.if-not-append.false))
 
 pub loop-at-preserved-then-begins_as_ascii : goal.loop-at-preserved-then-begins_as_ascii
 loop-at-preserved-then-begins_as_ascii g c =
+    let appended = c.append.ensures in
     then_rest c.split_at-in-loop-at.ensures.back
-    (then_gathered c.split_at.ensures.back c.loop-at.invariant c.gather-read.ensures.gathers
-    (omega (arith, c.append.ensures.fits c.if-not-append.false))
-    (c.append.ensures.written c.if-not-append.false))
+    (then_rest c.split_at.ensures.back c.loop-at.invariant
+    (puts_gathered c.gather-read.ensures.gathers
+    (omega (arith, appended.fits c.if-not-append.false)) (appended.written c.if-not-append.false)))
     c.append_ascii_of-at.ensures

@@ -5,6 +5,5 @@ use Rattle.enc_units.proofs.utf8_slice.Utf8SliceUnitSlice.append_ascii.Goals as 
 pub returns : goal.returns
 returns c =
     let copied = c.copy_ascii-len.ensures in
-    let slice = c.args.self.now in
-    puts_ascii slice.len _ slice.dst.now c.args.src.now _ slice.dst.ghost_name (omega arith)
-    copied.read ascii_units copied.room copied.ascii copied.ends copied.copied
+    puts_ascii c.args.self.now.dst.now _ c.args.self.now.dst.ghost_name ascii_units (omega arith) copied.read copied.room
+    copied.ascii copied.ends copied.copied

@@ -1,0 +1,13 @@
+-- The lengths of lists of numbers, as a set for `omega`.
+use Rattle.std.proofs.Common.{◌≡◌, ℕ, ◌+◌, ◌-◌, List, ◌++◌, length, take, drop, min, length-append, length-drop, length-take}
+
+pub append_length : (xs ys : List ℕ) → length (xs ++ ys) ≡ length xs + length ys
+append_length xs ys = length-append xs ys
+
+pub drop_length : (n : ℕ) (xs : List ℕ) → length (drop n xs) ≡ length xs - n
+drop_length n xs = length-drop n xs
+
+pub take_length : (n : ℕ) (xs : List ℕ) → length (take n xs) ≡ min n (length xs)
+take_length n xs = length-take n xs
+
+pub ruleset lengths = (append_length, drop_length, take_length)

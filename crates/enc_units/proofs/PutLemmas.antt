@@ -1,0 +1,111 @@
+-- Elements that are put in the place of as many of a slice, from an offset on.
+use Rattle.std.proofs.Common.{◌≡◌, ℕ, ◌+◌, ◌-◌, ◌≤◌, ◌<◌, suc, List, [], ◌∷◌, ◌++◌, length, take, drop, ap, ◌∙◌, sym, arith, refl}
+use Rattle.std.proofs.Common.{append_assoc, append-nil, drop-drop, length-drop}
+use Rattle.std.proofs.Math.ListN.{set}
+use Rattle.std.proofs.lemmas.List.{take_all, length-take-le, set_split}
+use Rattle.std.proofs.lemmas.Simd.{put_chunk_is}
+use Rattle.std.proofs.lemmas.Slice.{drop-append-drop}
+use Rattle.std.proofs.Math.ListN.{drop_of_length-le}
+use Rattle.std.proofs.Math.Seq.{take-append_seam}
+use lib.Lanes.{put_chunk}
+use borrow.Rule.Slice.PartMut.{put_mid}
+use Rattle.enc_units.proofs.LengthLemmas.{lengths}
+
+-- n bytes from `at` on have taken the place of those there
+pub record Put (at n : ℕ) (before bytes after : List ℕ) : Type 0 where
+  pub count : n ≡ length bytes
+  pub fits : at + n ≤ length before
+  pub onto : after ≡ take at before ++ (bytes ++ drop (at + n) before)
+
+module _ {at n : ℕ} {before bytes after : List ℕ} (put : Put at n before bytes after) where
+  front_and_rest : after ≡ (take at before ++ bytes) ++ drop (at + n) before
+  front_and_rest = put.onto ∙ sym (append_assoc (take at before) bytes (drop (at + n) before))
+
+  front_long : length (take at before ++ bytes) ≡ at + n
+  front_long = omega (arith, lengths, put.count, put.fits)
+
+  pub put_length : length after ≡ length before
+  put_length = omega (arith, ap length front_and_rest, lengths, put.count, put.fits)
+
+  pub put_front : take (at + n) after ≡ take at before ++ bytes
+  put_front =
+      ap (take (at + n)) front_and_rest
+      ∙ ap (λ m. take m ((take at before ++ bytes) ++ drop (at + n) before)) (sym front_long)
+      ∙ take-append_seam (take at before ++ bytes) (drop (at + n) before)
+
+  pub put_rest : (m : ℕ) → at + n ≤ m → drop m after ≡ drop m before
+  put_rest m beyond =
+      ap (drop m) front_and_rest
+      ∙ drop-append-drop (at + n) before (take at before ++ bytes) m beyond front_long
+
+  -- more are put after them
+  pub put_more : {k : ℕ} {more last : List ℕ} → Put (at + n) k after more last
+      → Put at (n + k) before (bytes ++ more) last
+  put_more {k} {more} then_more =
+      let place : at + n + k ≡ at + (n + k) = omega arith in
+      let rest = put_rest (at + n + k) (omega arith) ∙ ap (λ m. drop m before) place in
+      record {
+        count = omega (arith, lengths, put.count, then_more.count);
+        fits = omega (arith, then_more.fits, put_length);
+        onto = then_more.onto ∙ ap (λ z. z ++ (more ++ drop (at + n + k) after)) put_front
+            ∙ ap (λ z. (take at before ++ bytes) ++ (more ++ z)) rest
+            ∙ append_assoc (take at before) bytes (more ++ drop (at + (n + k)) before)
+            ∙ ap (λ z. take at before ++ z)
+            (sym (append_assoc bytes more (drop (at + (n + k)) before)));
+      }
+
+-- by a store of one
+pub put_one : (at byte : ℕ) (before : List ℕ) → at < length before
+    → Put at 1 before (byte ∷ []) (set before at byte)
+put_one at byte before inside =
+    let next : suc at ≡ at + 1 = omega arith in
+    record {
+      count = refl;
+      fits = omega arith;
+      onto = set_split before at byte inside ∙ ap (λ m. take at before ++ (byte ∷ drop m before)) next;
+    }
+
+-- by a store of lanes
+pub put_lanes : (m at : ℕ) (before lanes : List ℕ) → at + m ≤ length before → length lanes ≡ m
+    → Put at m before (take m lanes) (put_chunk at before lanes)
+put_lanes m at before lanes fits long = record {
+  count = sym (length-take-le m lanes (omega arith));
+  fits = fits;
+  onto = put_chunk_is at before lanes (omega arith)
+      ∙ ap (λ k. take at before ++ (lanes ++ drop k (drop at before))) long
+      ∙ ap (λ z. take at before ++ (lanes ++ z)) (drop-drop m at before)
+      ∙ ap (λ z. take at before ++ (z ++ drop (at + m) before))
+      (sym (take_all m lanes (omega arith)));
+}
+
+-- by a copy to a part of a slice
+pub put_part : (at n : ℕ) (before : List ℕ) {new bytes : List ℕ} → new ≡ bytes → n ≡ length bytes
+    → at + n ≤ length before → Put at n before bytes (put_mid at (at + n - at) before new)
+put_part at n before {new} {bytes} copied count fits =
+    let part : at + n - at ≡ n = omega arith in
+    record {
+      count = count;
+      fits = fits;
+      onto = ap (λ z. take at before ++ (z ++ drop (at + n - at) (drop at before))) copied
+          ∙ ap (λ k. take at before ++ (bytes ++ drop k (drop at before))) part
+          ∙ ap (λ z. take at before ++ (bytes ++ z)) (drop-drop n at before);
+    }
+
+-- by a copy to the front of the rest of a slice
+pub put_copied : (at n : ℕ) (before src new : List ℕ) → at ≤ length before → n ≤ length src
+    → n ≤ length before - at
+    → new ≡ take n src ++ drop n (take (length before - at) (drop at before))
+    → Put at n before (take n src) (put_mid at (length before - at) before new)
+put_copied at n before src new within read room copied =
+    let left = length-drop at before in
+    record {
+      count = sym (length-take-le n src read);
+      fits = omega arith;
+      onto =
+          ap (λ z. take at before ++ (new ++ z))
+          (drop_of_length-le (drop at before) (omega (arith, left)))
+          ∙ ap (λ z. take at before ++ z) (append-nil new ∙ copied)
+          ∙ ap (λ z. take at before ++ (take n src ++ drop n z))
+          (take_all (length before - at) (drop at before) (omega (arith, left)))
+          ∙ ap (λ z. take at before ++ (take n src ++ z)) (drop-drop n at before);
+    }
