@@ -12,8 +12,9 @@ use crate::char_encoder::CharEncoder;
 use crate::character_set::CharacterSet;
 use crate::machine::run;
 use crate::made_bytes::one;
+use crate::outcome::RawOutcome;
 use crate::raw_encoder::RawEncoder;
-use enc_units::{Bytes, Chars, EncoderResult, Mapping, ascii_in};
+use enc_units::{Bytes, Chars, Mapping, ascii_in};
 use std::simd::prelude::*;
 
 /// An encoding without escape sequences, by the bytes of each character.
@@ -177,12 +178,7 @@ impl<R: Repertoire> RawEncoder for StatelessEncoder<Barring<R>> {
 
     ghost formulas = { λ e. R.lengths e.repertoire.repertoire };
 
-    fn encode<C: Chars>(
-        &mut self,
-        src: &mut C,
-        dst: &mut [u8],
-        last: bool,
-    ) -> (EncoderResult, usize, usize) {
+    fn encode<C: Chars>(&mut self, src: &mut C, dst: &mut [u8], last: bool) -> RawOutcome {
         let repertoire = self.repertoire.repertoire;
         let barred = self.repertoire.barred;
         repertoire.laws();
