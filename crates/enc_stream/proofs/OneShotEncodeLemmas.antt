@@ -14,6 +14,7 @@ use Rattle.enc_encoder.specs.Text.{bytes_of_text, with_references}
 use Rattle.enc_encoder.specs.Steps.{step_chars}
 use Rattle.enc_units.specs.Results.{encoder_result_of}
 use Rattle.enc_encoder.specs.Unmappable.{any_unmappable}
+use Rattle.enc_encoder.proofs.LeavesLemmas.{leaves_in_mode}
 use Rattle.enc_encoder.proofs.UnmappableLemmas.{any_reported_is, any_unmappable-append}
 use Rattle.enc_stream.specs.declared.encoding.Encoding.{Encoding}
 use Rattle.enc_stream.specs.Encodings.{output_rule}
@@ -191,8 +192,7 @@ module _ {e : Encoding} {text rest : List ℕ} {old new : EncoderState} {before 
       ∙ ap (λ b. had || (b || any_unmappable (output_rule [] e) encodes.rest))
       (ap (λ rule. any_unmappable rule front) (sym rule_is)
       ∙ sym (encodes.call.flag
-      ∙ any_reported_is (raw_state old) (raw_state new) (chars rest) encodes.rest true
-      encodes.call.done encodes.call.reads encodes.call.rule encodes.call.remaining))
+      ∙ any_reported_is (leaves_in_mode encodes.call)))
       ∙ sym (or_assoc had replaced (any_unmappable (output_rule [] e) encodes.rest))
       ∙ ap (λ x. (had || replaced) || any_unmappable (output_rule [] e) x) (sym is_rest)
 
