@@ -53,8 +53,7 @@ leaves_on {last} {u} {w = w} {c = c} {ps} {qs} first second = record {
 }
 
 -- bytes after those already written
-module _ {before mid after a b : List ℕ} {m n k : ℕ} (first : Adds before mid m n a)
-    (second : Adds mid after n k b) where
+module _ {before mid a : List ℕ} {m n : ℕ} (first : Adds before mid m n a) where
   abbrev front : List ℕ
   front = take m before ++ a
 
@@ -70,8 +69,8 @@ module _ {before mid after a b : List ℕ} {m n k : ℕ} (first : Adds before mi
   taken : take n mid ≡ front
   taken = rw (mid_is, sym front_length) (take-append_seam front (drop (length front) before))
 
-  pub adds_on : Adds before after m k (a ++ b)
-  adds_on = record {
+  pub adds_on : {after b : List ℕ} {k : ℕ} → Adds mid after n k b → Adds before after m k (a ++ b)
+  adds_on {b = b} {k} second = record {
     count = rw (length-append a b) (omega (arith, first.count, second.count));
     fits = omega (arith, second.fits, mid_length);
     onto =

@@ -92,15 +92,15 @@ module _ {E : Type 0} {state : E → RawEncoderState} {e : E} {last : Bool} {res
 -- where a call stops: `a` is the number of code units given, `b` of those left
 module _ (units_of : ℕ → List ℕ) {last : Bool} {old : RawEncoderState} {src before : List ℕ}
     {now : Place} (writes : Writes last (place old src before 0) now)
-    (lawful : IsLawfulEncoderRule old.rule) {a : ℕ} (counted : a ≡ length (units_of_text units_of src))
-  where
+    (lawful : IsLawfulEncoderRule old.rule) where
     stop : {new : RawEncoderState} {rest : List ℕ} {done : List Step}
         → Leaves last old new src rest done → step_bytes writes.done ≡ step_bytes done
-        → {b : ℕ} → b ≡ length (units_of_text units_of rest) → (result : EncoderResult)
+        → {a b : ℕ} → a ≡ length (units_of_text units_of src)
+        → b ≡ length (units_of_text units_of rest) → (result : EncoderResult)
         → EncoderStops new rest last (length before) done result
         → EncoderCallInto units_of last (place old src before 0)
         (place new rest now.slice now.written) result (a - b)
-    stop {new} {rest} {done} leaves bytes_are left_count result stops =
+    stop {new} {rest} {done} leaves bytes_are counted left_count result stops =
         let adds = writes.adds in
         let count : now.written ≡ length (step_bytes writes.done) = omega (arith, adds.count) in
         let call : EncoderCall old new src rest last (length before) result
@@ -124,20 +124,22 @@ module _ (units_of : ℕ → List ℕ) {last : Bool} {old : RawEncoderState} {sr
           need = rw count (meets_need result call);
         }
 
-    pub stop_empty : {b : ℕ} → b ≡ length (units_of_text units_of now.rest) → now.rest ≡ []
+    pub stop_empty : {a b : ℕ} → a ≡ length (units_of_text units_of src)
+          → b ≡ length (units_of_text units_of now.rest) → now.rest ≡ []
         → (last ≡ true → now.state.set ≡ Ascii)
         → EncoderCallInto units_of last (place old src before 0) now InputEmpty (a - b)
-    stop_empty left_count all_read ended =
-        stop writes.leaves refl left_count InputEmpty
+    stop_empty counted left_count all_read ended =
+        stop writes.leaves refl counted left_count InputEmpty
         (record { none_reported = writes.none_reported; all_read = all_read; ended = ended })
 
     module _ {new : RawEncoderState} {left : List ℕ} {q : Step}
         (next : Leaves last now.state new now.rest left (q ∷ [])) where
-      pub stop_full : {b : ℕ} → b ≡ length (units_of_text units_of now.rest) → q.report ≡ None
+      pub stop_full : {a b : ℕ} → a ≡ length (units_of_text units_of src)
+          → b ≡ length (units_of_text units_of now.rest) → q.report ≡ None
           → length now.slice < now.written + length q.bytes
           → EncoderCallInto units_of last (place old src before 0) now OutputFull (a - b)
-      stop_full left_count unreported full =
-          stop writes.leaves refl left_count OutputFull (record {
+      stop_full counted left_count unreported full =
+          stop writes.leaves refl counted left_count OutputFull (record {
             none_reported = writes.none_reported;
             next = q;
             others = steps_from_state new last left;
@@ -146,14 +148,15 @@ module _ (units_of : ℕ → List ℕ) {last : Bool} {old : RawEncoderState} {sr
             full = omega (arith, full, writes.adds.count, same_length writes.adds);
           })
 
-      pub stop_report : {b : ℕ} → b ≡ length (units_of_text units_of left) → {k : ℕ}
+      pub stop_report : {a b : ℕ} → a ≡ length (units_of_text units_of src)
+          → b ≡ length (units_of_text units_of left) → {k : ℕ}
           → q.report ≡ Some k → q.bytes ≡ [] → ((x : ℕ) × (q.reads ≡ x ∷ []))
           → EncoderCallInto units_of last (place old src before 0)
           (place new left now.slice now.written) (Unmappable k) (a - b)
-      stop_report left_count {k} reported none_written read =
+      stop_report counted left_count {k} reported none_written read =
           stop (leaves_on writes.leaves next)
           (rw (step_bytes-one writes.done q, none_written) (sym (append-nil (step_bytes writes.done))))
-          left_count (Unmappable k) (record {
+          counted left_count (Unmappable k) (record {
             before = writes.done;
             none_reported = writes.none_reported;
             report = q;

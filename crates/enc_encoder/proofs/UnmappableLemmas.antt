@@ -9,6 +9,8 @@ use Rattle.enc_encoder.specs.EncoderRule.{EncoderRule, RawEncoderState, set_for}
 use Rattle.enc_encoder.specs.Steps.{Step, steps_of, steps_from_state, step_chars, any_reported, escape_steps_before}
 use Rattle.enc_encoder.specs.Steps.{escape_step, char_step, first_written_char, steps_at_end}
 use Rattle.enc_encoder.specs.Writes.{Leaves}
+use Rattle.enc_encoder.specs.ErrorMode.{CallInMode, IsCallInMode, Html}
+use Rattle.enc_encoder.proofs.LeavesLemmas.{leaves_in_mode}
 use Rattle.enc_encoder.specs.Unmappable.{any_unmappable, report_for, reports_of}
 
 abbrev pub reports_by : Option ℕ → List ℕ
@@ -106,6 +108,12 @@ pub any_reported_is : {last : Bool} {old new : RawEncoderState} {src rest : List
     → any_reported done ≡ any_unmappable old.rule (step_chars done)
 any_reported_is {old = old} {done = done} leaves =
     any_in done ∙ ap some_in (reports_are leaves) ∙ sym (any_of old.rule (step_chars done))
+
+-- whether a call writes a reference
+pub replaced_is : {units_of : ℕ → List ℕ} {old new : RawEncoderState} {c : CallInMode}
+    (call : IsCallInMode units_of old new c) → {kept : ℕ} → c.mode ≡ Html kept
+    → c.replaced ≡ any_unmappable old.rule (step_chars call.done)
+replaced_is call is_html = rw is_html at call.flag ∙ any_reported_is (leaves_in_mode call)
 
 or_assoc : (a b c : Bool) → ((a || b) || c) ≡ (a || (b || c))
 or_assoc a b c = elim a as (λ a. ((a || b) || c) ≡ (a || (b || c))) [ true ↦ refl | false ↦ refl ]

@@ -18,8 +18,8 @@ returns-in_default g c =
 pub returns-in-Some-report : goal.returns-in-Some-report
 returns-in-Some-report g c =
     let read = report_reads c.in-Some.ensures c.in-Some-report.is c.advance.ensures in
-    stop_report g.C.Chars.units_of c.loop-taken.invariant c.requires c.unread-unread.ensures
-    (step_leaves c.in-Some.ensures read.0) c.unread-in-Some-report.ensures c.in-Some-report.is
+    stop_report g.C.Chars.units_of c.loop-taken.invariant c.requires
+    (step_leaves c.in-Some.ensures read.0) c.unread-unread.ensures c.unread-in-Some-report.ensures c.in-Some-report.is
     (c.in-Some.ensures.reports _ c.in-Some-report.is).1 read.1
 
 pub overflow_sub-result-in-Some-report : goal.overflow_sub-result-in-Some-report
@@ -42,8 +42,8 @@ overflow_sub-result-then-not-put g c =
 pub returns-then-not-put : goal.returns-then-not-put
 returns-then-not-put g c =
     rw (c.put.ensures.unchanged c.if-not-put.true)
-    (stop_full g.C.Chars.units_of c.loop-taken.invariant c.requires c.unread-unread.ensures
-    (step_leaves c.in-Some.ensures refl) c.unread-then-not-put.ensures
+    (stop_full g.C.Chars.units_of c.loop-taken.invariant c.requires
+    (step_leaves c.in-Some.ensures refl) c.unread-unread.ensures c.unread-then-not-put.ensures
     (no_report _ c.in_default-report.not-Some) (c.put.ensures.full c.if-not-put.true))
 
 lt_le : (a b k : ℕ) → a ≤ b → b < k → a < k
