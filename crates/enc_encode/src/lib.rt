@@ -6,6 +6,7 @@
 
 mod choice;
 mod encoders;
+mod laws;
 mod variant;
 
 pub use choice::{byte_lengths, has_encoder, new_encoder};
