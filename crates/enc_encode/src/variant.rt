@@ -11,8 +11,8 @@ use crate::encoders::shift_jis::ShiftJisEncoder;
 use crate::encoders::single_byte::SingleByteEncoder;
 use crate::encoders::utf_8::Utf8Encoder;
 use crate::encoders::x_user_defined::XUserDefinedEncoder;
-use enc_encoder::{ByteLengths, RawEncoder};
-use enc_units::{Chars, EncoderResult};
+use enc_encoder::{ByteLengths, RawEncoder, RawOutcome};
+use enc_units::Chars;
 
 /// An encoder of any encoding. It does what the encoder in it does.
 #[derive(Clone, Copy)]
@@ -61,12 +61,7 @@ impl RawEncoder for VariantEncoder {
 
     ghost formulas = { variant_encoder_lengths };
 
-    fn encode<C: Chars>(
-        &mut self,
-        src: &mut C,
-        dst: &mut [u8],
-        last: bool,
-    ) -> (EncoderResult, usize, usize) {
+    fn encode<C: Chars>(&mut self, src: &mut C, dst: &mut [u8], last: bool) -> RawOutcome {
         by_encoder!(self, encoder => encoder.encode(src, dst, last))
     }
 

@@ -1,8 +1,7 @@
 pub mod StepLemmas
-pub mod EncodeProgressLemmas
 pub mod MachineLemmas
 pub mod RunLemmas
-pub mod PrefixStepLemmas
+pub mod LeavesLemmas
 pub mod TextLemmas
 pub mod HandlerLemmas
 pub mod SizeLemmas
@@ -13,8 +12,9 @@ pub mod EnoughLemmas
 pub mod StepCountLemmas
 pub mod ReferenceLemmas
 pub mod ReferenceStopLemmas
-pub mod TotalRuleLemmas
+pub mod RawCallLemmas
 pub mod SliceLemmas
-pub mod ReferenceProgressLemmas
+pub mod ReferenceTurnLemmas
+pub mod ReferenceCallLemmas
 pub mod UnmappableLemmas
 pub mod NeedInModeLemmas

@@ -1,94 +1,93 @@
--- How many bytes a call has to write, and that it goes on.
-use Rattle.std.proofs.Common.{◌≡◌, ℕ, ◌+◌, ◌≤◌, inl, inr, Bool, true, false, ◌||◌, is_some, List, [], ◌∷◌, ◌++◌, length}
-use Rattle.std.proofs.Common.{refl, ap, ◌∙◌, sym, subst, arith, length-append}
+-- How many bytes a call in an error mode has to write, and that it goes on.
+use Rattle.std.proofs.Common.{◌≡◌, ℕ, ◌+◌, ◌<◌, ◌≤◌, inl, inr, Bool, true, false, ◌||◌, is_some, List, [], ◌∷◌, ◌++◌}
+use Rattle.std.proofs.Common.{length, refl, ap, ◌∙◌, sym, arith, length-append}
 use Rattle.std.proofs.lemmas.Bool.{false≢true}
 use Rattle.enc_units.specs.declared.encoder_result.EncoderResult.{EncoderResult}
 use Rattle.enc_units.specs.declared.encoder_result.EncoderResult.TheVariants.{InputEmpty, OutputFull, Unmappable}
 use Rattle.enc_encoder.specs.EncoderRule.{RawEncoderState, IsLawfulEncoderRule}
-use Rattle.enc_encoder.specs.Steps.{Step, steps_from_state, step_chars, any_reported}
+use Rattle.enc_encoder.specs.Steps.{Step, steps_from_state, any_reported}
+use Rattle.enc_encoder.specs.Writes.{Leaves}
 use Rattle.enc_encoder.specs.Call.{EncoderStops}
 use Rattle.enc_encoder.specs.Need.{encode_need, MeetsEncodeNeed}
-use Rattle.enc_encoder.proofs.NeedLemmas.{meets_need, left, at_next}
+use Rattle.enc_encoder.specs.ErrorMode.{EncodeErrorMode, Fatal, Html, CallInMode, IsCallInMode, StopsInMode, IsFull}
+use Rattle.enc_encoder.specs.ErrorMode.{StopsInHtmlMode, ends_in_report}
+use Rattle.enc_encoder.specs.Unmappable.{any_unmappable}
+use Rattle.enc_encoder.proofs.LeavesLemmas.{leaves_in_mode}
+use Rattle.enc_encoder.proofs.NeedLemmas.{meets_need, need_left, at_next}
 use Rattle.enc_encoder.proofs.StepCountLemmas.{first_bytes, first_few}
 use Rattle.enc_encoder.proofs.TextLemmas.{unreferred}
-use Rattle.enc_encoder.specs.ErrorMode.{EncodeErrorMode, Fatal, Html, EncoderCallInMode, StopsInMode, IsFull}
-use Rattle.enc_encoder.specs.ErrorMode.{ends_in_report}
-use Rattle.enc_encoder.specs.Unmappable.{any_unmappable}
 use Rattle.enc_encoder.proofs.UnmappableLemmas.{any_reported_is, any_unmappable-append}
 
-module _ (units_of : ℕ → List ℕ) (old new : RawEncoderState) (src rest : List ℕ) (last : Bool)
-    (room : ℕ) (result : EncoderResult) (read : ℕ) (wrote : List ℕ) (replaced : Bool) where
-  -- a call that reports unmappable characters meets its need
-  pub reporting_meets_need : EncoderCallInMode units_of Fatal old new src rest last room result read
-      wrote replaced
-      → MeetsEncodeNeed old new src rest last room result (length wrote)
-  reporting_meets_need call = meets_need old new src rest last room result wrote (record {
-    done = call.done;
-    reads = call.reads;
-    remaining = call.remaining;
-    rule = call.rule;
-    set = call.set;
-    bytes = call.bytes;
-    fits = subst (λ (x : List ℕ). length x ≤ room) (sym call.bytes) call.fits;
-    stops = call.stops;
-  })
+-- a call that reports unmappable characters meets its need
+pub reporting_meets_need : {units_of : ℕ → List ℕ} {old new : RawEncoderState} {c : CallInMode}
+    → IsCallInMode units_of old new c → c.mode ≡ Fatal
+    → MeetsEncodeNeed old new c.src c.rest c.last c.room c.result (length c.wrote)
+reporting_meets_need {c = c} call is_fatal =
+    let bytes = rw is_fatal at call.bytes in
+    let fits = rw is_fatal at call.fits in
+    meets_need c.result (record {
+      done = call.done;
+      reads = call.reads;
+      remaining = call.remaining;
+      rule = call.rule;
+      set = call.set;
+      bytes = bytes;
+      fits = omega (arith, fits, ap length bytes);
+      stops = rw is_fatal at call.stops;
+    })
 
 neither : (a b : Bool) → (a || b) ≡ false → a ≡ false
-neither true b e = absurd (false≢true (sym e))
-neither false b e = refl
+neither true b none = absurd (false≢true (sym none))
+neither false b none = refl
+
+or_true : (a : Bool) → (a || true) ≡ true
+or_true true = refl
+or_true false = refl
 
 one_reported : (ps : List Step) → ends_in_report ps ≡ true → any_reported ps ≡ true
-one_reported [] e = absurd (false≢true e)
-one_reported (p ∷ []) e = rw e refl
-one_reported (p ∷ q ∷ ps) e = ap (λ b. is_some p.report || b) (one_reported (q ∷ ps) e)
-    ∙ or_true (is_some p.report)
-  where
-    or_true : (a : Bool) → (a || true) ≡ true
-    or_true true = refl
-    or_true false = refl
+one_reported [] ends = absurd (false≢true ends)
+one_reported (p ∷ []) ends = rw ends refl
+one_reported (p ∷ q ∷ ps) ends = rw (one_reported (q ∷ ps) ends) (or_true (is_some p.report))
 
 -- A call that puts references: where no character is unmappable, and the room has the need and the
 -- bytes that are kept back, it reads all.
-module _ (old new : RawEncoderState) (src rest : List ℕ) (last : Bool) (room kept : ℕ)
-    (done : List Step) (reads : src ≡ step_chars done ++ rest)
-    (remaining : steps_from_state old last src ≡ done ++ steps_from_state new last rest)
-    (rule : new.rule ≡ old.rule)
-    (mappable : any_unmappable old.rule src ≡ false)
-    (room_is : encode_need old last src + kept ≤ room) where
-  none_reported : any_reported done ≡ false
-  none_reported =
-      any_reported_is old new src rest last done reads rule remaining
-      ∙ neither _ (any_unmappable old.rule rest)
-      (sym (any_unmappable-append old.rule (step_chars done) rest)
-      ∙ ap (any_unmappable old.rule) (sym reads) ∙ mappable)
+not_full : {last : Bool} {old new : RawEncoderState} {src rest : List ℕ} {done : List Step}
+    → Leaves last old new src rest done → any_reported done ≡ false → (kept room : ℕ)
+    → encode_need old last src + kept ≤ room → IsFull kept new rest last room done → ⊥
+not_full {last} {new = new} {rest = rest} {done} leaves none kept room room_is (inl at) =
+    omega (
+      arith,
+      room_is,
+      at.full,
+      at_next at.next at.others (steps_from_state new last rest) at.comes at.not_report,
+      need_left leaves none,
+      ap length (unreferred done none),
+    )
+not_full {done = done} leaves none kept room room_is (inr (inl at)) =
+    false≢true (sym none ∙ one_reported done at.reference)
+not_full leaves none kept room room_is (inr (inr at)) = omega (arith, room_is, at.small)
 
-  not_full : IsFull kept new rest last room done → ⊥
-  not_full (inl next_step) =
-      let next =
-      at_next next_step.next next_step.others (steps_from_state new last rest) next_step.comes
-      next_step.not_report in
-      omega (
-        arith,
-        room_is,
-        next_step.full,
-        next,
-        left old new src rest last done none_reported remaining,
-        ap length (unreferred done none_reported),
-      )
-  not_full (inr (inl r)) = absurd (false≢true (sym none_reported ∙ one_reported done r.reference))
-  not_full (inr (inr s)) = omega (arith, room_is, s.small)
+all_read : (kept : ℕ) (new : RawEncoderState) (rest : List ℕ) (last : Bool) (room : ℕ)
+    (done : List Step) (result : EncoderResult)
+    → StopsInHtmlMode kept new rest last room done result
+    → (IsFull kept new rest last room done → ⊥) → result ≡ InputEmpty
+all_read kept new rest last room done InputEmpty stops none_full = refl
+all_read kept new rest last room done OutputFull stops none_full = absurd (none_full stops)
+all_read kept new rest last room done (Unmappable k) stops none_full = absurd stops
 
-module _ (units_of : ℕ → List ℕ) (kept : ℕ) (old new : RawEncoderState) (src rest : List ℕ)
-    (last : Bool) (room read : ℕ) (wrote : List ℕ) (replaced : Bool) where
-  pub reads_all : (result : EncoderResult)
-      → EncoderCallInMode units_of (Html kept) old new src rest last room result read wrote replaced
-      → any_unmappable old.rule src ≡ false
-      → encode_need old last src + kept ≤ room → result ≡ InputEmpty
-  reads_all InputEmpty call m l = refl
-  reads_all OutputFull call m l =
-      absurd (not_full old new src rest last room kept call.done call.reads call.remaining call.rule
-      m l call.stops)
-  reads_all (Unmappable k) call m l = absurd call.stops
+pub reads_all : {units_of : ℕ → List ℕ} {old new : RawEncoderState} {c : CallInMode}
+    → IsCallInMode units_of old new c → (kept : ℕ) → c.mode ≡ Html kept
+    → any_unmappable old.rule c.src ≡ false → encode_need old c.last c.src + kept ≤ c.room
+    → c.result ≡ InputEmpty
+reads_all {old = old} {new} {c} call kept is_html mappable room_is =
+    let leaves = leaves_in_mode call in
+    let none : any_reported call.done ≡ false =
+    any_reported_is leaves
+    ∙ neither _ (any_unmappable old.rule c.rest)
+    (sym (any_unmappable-append old.rule _ c.rest)
+    ∙ ap (any_unmappable old.rule) (sym call.reads) ∙ mappable) in
+    all_read kept new c.rest c.last c.room call.done c.result (rw is_html at call.stops)
+    (not_full leaves none kept c.room room_is)
 
 -- how many bytes a call keeps back
 abbrev pub kept_by : EncodeErrorMode → ℕ
@@ -143,3 +142,18 @@ module _ (new : RawEncoderState) (lawful : IsLawfulEncoderRule new.rule) (rest :
   takes_step (Html kept) l done InputEmpty n s = absurd (n refl)
   takes_step (Html kept) l done OutputFull n s = takes_when_full kept l done s
   takes_step (Html kept) l done (Unmappable c) n s = absurd s
+
+-- fewer steps are left
+pub goes_on : {units_of : ℕ → List ℕ} {old new : RawEncoderState} {c : CallInMode}
+    → IsCallInMode units_of old new c → IsLawfulEncoderRule new.rule
+    → 4 + kept_by c.mode ≤ c.room → (c.result ≡ InputEmpty → ⊥)
+    → length (steps_from_state new c.last c.rest) < length (steps_from_state old c.last c.src)
+goes_on {new = new} {c} call lawful enough not_ended =
+    let some = takes_step new lawful c.rest c.last c.room c.mode enough call.done c.result not_ended
+    call.stops in
+    omega (
+      arith,
+      some,
+      ap length call.remaining,
+      length-append call.done (steps_from_state new c.last c.rest),
+    )

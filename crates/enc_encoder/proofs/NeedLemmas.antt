@@ -6,10 +6,12 @@ use Rattle.enc_units.specs.declared.encoder_result.EncoderResult.{EncoderResult}
 use Rattle.enc_units.specs.declared.encoder_result.EncoderResult.TheVariants.{InputEmpty, OutputFull, Unmappable}
 use Rattle.enc_encoder.specs.EncoderRule.{RawEncoderState}
 use Rattle.enc_encoder.specs.Steps.{Step, steps_of, steps_from_state, step_bytes, any_reported, steps_at_end}
-use Rattle.enc_encoder.specs.Call.{EncoderCall, EncoderCallInto}
+use Rattle.enc_encoder.specs.Call.{EncoderCall, AtUnmappable}
+use Rattle.enc_encoder.specs.Writes.{Leaves}
+use Rattle.enc_encoder.proofs.LeavesLemmas.{leaves_of}
 use Rattle.enc_encoder.specs.Need.{steps_unless_report, steps_before_report, encode_need, MeetsEncodeNeed}
-use Rattle.enc_encoder.proofs.StepLemmas.{step_bytes-append, step_bytes-one}
-use Rattle.enc_encoder.proofs.TextLemmas.{parted}
+use Rattle.enc_encoder.proofs.StepLemmas.{step_bytes-append}
+use Rattle.enc_encoder.proofs.TextLemmas.{parted, reported_bytes}
 
 -- none of them is a report
 steps_before_report-append : (ps qs : List Step) → any_reported ps ≡ false
@@ -19,11 +21,6 @@ steps_before_report-append (p ∷ ps) qs h =
     let both = parted p.report (any_reported ps) h in
     ap (λ r. steps_unless_report r p (steps_before_report (ps ++ qs))) both.0
     ∙ ap (λ x. p ∷ x) (steps_before_report-append ps qs both.1)
-
--- nothing comes before a report that is the first step
-at_report : (q : Step) (c : ℕ) (qs : List Step) → q.report ≡ Some c
-    → steps_before_report (q ∷ qs) ≡ []
-at_report q c qs e = ap (λ r. steps_unless_report r q (steps_before_report qs)) e
 
 -- the bytes of a first step that is no report
 pub at_next : (q : Step) (qs all : List Step) → all ≡ q ∷ qs → q.report ≡ None
@@ -42,77 +39,54 @@ unfolding steps_of
 at_end v true h = ap (λ s. length (step_bytes (steps_before_report (steps_at_end s)))) (h refl)
 at_end v false h = refl
 
-module _ (old new : RawEncoderState) (src rest : List ℕ) (last : Bool) where
+module _ {last : Bool} {old new : RawEncoderState} {src rest : List ℕ} {done : List Step}
+    (leaves : Leaves last old new src rest done) where
   -- after steps without a report
-  pub left : (done : List Step) → any_reported done ≡ false
-      → steps_from_state old last src ≡ done ++ steps_from_state new last rest
+  pub need_left : any_reported done ≡ false
       → encode_need old last src ≡ length (step_bytes done) + encode_need new last rest
-  left done n r =
-      ap (λ x. length (step_bytes (steps_before_report x))) r
-      ∙ ap (λ x. length (step_bytes x))
-      (steps_before_report-append done (steps_from_state new last rest) n)
-      ∙ ap length (step_bytes-append done (steps_before_report (steps_from_state new last rest)))
-      ∙ length-append (step_bytes done)
-      (step_bytes (steps_before_report (steps_from_state new last rest)))
+  need_left none_reported =
+      let remaining = steps_from_state new last rest in
+      rw (leaves.remaining, steps_before_report-append done remaining none_reported)
+      (ap length (step_bytes-append done (steps_before_report remaining))
+      ∙ length-append (step_bytes done) (step_bytes (steps_before_report remaining)))
 
   -- up to a report
-  before_report : (before : List Step) (q : Step) (c : ℕ) → any_reported before ≡ false
-      → q.report ≡ Some c
-      → steps_from_state old last src ≡ (before ++ q ∷ []) ++ steps_from_state new last rest
-      → encode_need old last src ≡ length (step_bytes before)
-  before_report before q c n e r =
-      ap (λ x. length (step_bytes (steps_before_report x)))
-      (r ∙ append_assoc before (q ∷ []) (steps_from_state new last rest))
-      ∙ ap (λ x. length (step_bytes x))
-      (steps_before_report-append before (q ∷ steps_from_state new last rest) n
-      ∙ ap (λ x. before ++ x) (at_report q c (steps_from_state new last rest) e)
-      ∙ append-nil before)
+  need_to_report : {c : ℕ} (at : AtUnmappable done c)
+      → encode_need old last src ≡ length (step_bytes done)
+  need_to_report at =
+      let remaining = steps_from_state new last rest in
+      let others = at.report ∷ remaining in
+      let parts : steps_from_state old last src ≡ at.before ++ others =
+      leaves.remaining ∙ ap (λ x. x ++ remaining) at.then_report
+      ∙ append_assoc at.before (at.report ∷ []) remaining in
+      rw (
+        parts,
+        steps_before_report-append at.before others at.none_reported,
+        at.reported,
+        append-nil at.before,
+        reported_bytes at,
+      ) refl
 
-module _ (old new : RawEncoderState) (src rest : List ℕ) (last : Bool) (room : ℕ) where
-  pub meets_need : (result : EncoderResult) (wrote : List ℕ)
-      → EncoderCall old new src rest last room result wrote
+module _ {old new : RawEncoderState} {src rest : List ℕ} {last : Bool} {room : ℕ}
+    {wrote : List ℕ} where
+  pub meets_need : (result : EncoderResult) → EncoderCall old new src rest last room result wrote
       → MeetsEncodeNeed old new src rest last room result (length wrote)
-  meets_need InputEmpty wrote call =
-      let falls : encode_need old last src ≡ length wrote + encode_need new last rest =
-      left old new src rest last call.done call.stops.none_reported call.remaining
-      ∙ ap (λ x. length x + encode_need new last rest) (sym call.bytes) in
-      let none : encode_need new last rest ≡ 0 =
-      ap (λ t. encode_need new last t) call.stops.all_read
-      ∙ at_end new last call.stops.ended in
-      record {
-        full = (λ e. cc, λ l. absurd (omega (arith, falls, none, call.fits, l)));
-        falls = falls;
-      }
-  meets_need OutputFull wrote call =
-      let falls : encode_need old last src ≡ length wrote + encode_need new last rest =
-      left old new src rest last call.done call.stops.none_reported call.remaining
-      ∙ ap (λ x. length x + encode_need new last rest) (sym call.bytes) in
-      let next = at_next call.stops.next call.stops.others (steps_from_state new last rest)
-      call.stops.comes
-      call.stops.not_report in
-      record {
-        full = (λ e. omega (arith, falls, next, call.stops.full, ap length call.bytes), λ l. refl);
-        falls = falls;
-      }
-  meets_need (Unmappable k) wrote call =
+  meets_need InputEmpty call =
       let stops = call.stops in
-      let report = stops.report in
-      let before =
-      before_report old new src rest last stops.before report k stops.none_reported stops.reported
-      (call.remaining
-      ∙ ap (λ x. x ++ steps_from_state new last rest) stops.then_report) in
-      let wrote_is : wrote ≡ step_bytes stops.before =
-      call.bytes ∙ ap step_bytes stops.then_report ∙ step_bytes-one stops.before report
-      ∙ ap (λ x. step_bytes stops.before ++ x) stops.none_written
-      ∙ append-nil (step_bytes stops.before) in
+      let falls = need_left (leaves_of call) stops.none_reported in
+      let none : encode_need new last rest ≡ 0 =
+      ap (encode_need new last) stops.all_read ∙ at_end new last stops.ended in
+      rw call.bytes (record {
+        full = (λ e. cc, λ l. absurd (omega (arith, falls, none, call.fits, ap length call.bytes, l)));
+        falls = falls;
+      })
+  meets_need OutputFull call =
+      let stops = call.stops in
+      let falls = need_left (leaves_of call) stops.none_reported in
+      let next = at_next stops.next stops.others (steps_from_state new last rest) stops.comes
+      stops.not_report in
+      rw call.bytes (record { full = (λ e. omega (arith, falls, next, stops.full), λ l. refl); falls = falls })
+  meets_need (Unmappable k) call =
       let falls : encode_need old last src ≡ length wrote + 0 =
-      omega (arith, before, ap length wrote_is) in
+      omega (arith, need_to_report (leaves_of call) call.stops, ap length call.bytes) in
       record { full = (λ e. cc, λ l. absurd (omega (arith, falls, call.fits, l))); falls = falls }
-
-pub into_meets_need : {units_of : ℕ → List ℕ} {old new : RawEncoderState} {src rest : List ℕ}
-    {last : Bool}
-    {before after : List ℕ} {result : EncoderResult} {read written : ℕ}
-    → EncoderCallInto units_of old new src rest last before after result read written
-    → MeetsEncodeNeed old new src rest last (length before) result written
-into_meets_need {old} {new} {src} {rest} {last} {before} {result} call =
-    rw call.count (meets_need old new src rest last (length before) result call.wrote call.call)

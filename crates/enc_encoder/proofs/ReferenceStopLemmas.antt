@@ -78,6 +78,11 @@ unreported_before limit n (p ∷ ps) h k =
           (unreported_before limit (n + length p.bytes + 0) ps both.1 (omega arith)),
     )
 
+pub rest_is_read : (v : RawEncoderState) (rest : List ℕ) (last : Bool)
+    → is_nothing_left v rest last ≡ true → [] ≡ rest
+rest_is_read v [] last nothing_left = refl
+rest_is_read v (c ∷ rest) last nothing_left = cc
+
 -- all characters are read, and the text is ended where it is to end
 pub none_left : (v : RawEncoderState) (rest : List ℕ) (last : Bool) → rest ≡ []
     → (last ≡ true → v.set ≡ Ascii) → is_nothing_left v rest last ≡ true

@@ -1,59 +1,47 @@
--- Parts of a slice that are written anew.
-use Rattle.std.proofs.Common.{◌≡◌, ℕ, ◌+◌, ◌-◌, ◌≤◌, List, ◌++◌, length, take, drop, ap, ◌∙◌, sym, arith, append_assoc}
-use Rattle.std.proofs.Common.{drop-drop, length-append, length-drop}
+-- Bytes that are written to a part of a slice.
+use Rattle.std.proofs.Common.{◌≡◌, ℕ, ◌+◌, ◌-◌, ◌≤◌, List, ◌++◌, length, take, drop, refl, ap, ◌∙◌, sym, arith}
+use Rattle.std.proofs.Common.{append_assoc, drop-drop, length-append, length-drop}
 use Rattle.std.proofs.lemmas.List.{length-take, drop-append-le, take-append-drop}
-use Rattle.std.proofs.lemmas.Slice.{drop-append-drop}
-use Rattle.std.proofs.Math.Seq.{take-append_seam}
+use Rattle.std.proofs.lemmas.Slice.{take-put_mid, drop-put_mid}
+use borrow.Rule.Slice.PartMut.{put_mid}
+use Rattle.enc_encoder.specs.Writes.{Adds}
+use Rattle.enc_encoder.proofs.LeavesLemmas.{same_length}
 
--- the slice after the bytes written at the start of a part
-after_part : (a e n : ℕ) (xs : List ℕ) → a ≤ e → e ≤ length xs → n ≤ e - a
-    → drop n (take (e - a) (drop a xs)) ++ drop (e - a) (drop a xs) ≡ drop (a + n) xs
-after_part a e n xs h k l =
-    let part = take (e - a) (drop a xs) in
-    sym (drop-append-le n part (drop (e - a) (drop a xs))
-    (rw (length-take, length-drop) (omega arith)))
-    ∙ ap (drop n) (take-append-drop (e - a) (drop a xs)) ∙ drop-drop n a xs
+module _ (slice : List ℕ) (start limit : ℕ) (below : start ≤ limit)
+    (within : limit ≤ length slice) where
+  abbrev room : ℕ
+  room = limit - start
 
--- a slice, where the start of a part of it was written anew
-pub onto_part : (a e n : ℕ) (xs w ys z : List ℕ) → n ≡ length w → a ≤ e → e ≤ length xs → n ≤ e - a
-    → ys ≡ w ++ drop n (take (e - a) (drop a xs))
-    → take (a + length ys) z ≡ take a xs ++ ys → drop (a + length ys) z ≡ drop (a + length ys) xs
-    → z ≡ take a xs ++ (w ++ drop (a + n) xs)
-onto_part a e n xs w ys z c h k l ys_is t d =
-    let part = take (e - a) (drop a xs) in
-    let others = drop (e - a) (drop a xs) in
-    let len : length ys ≡ e - a =
-    rw (ys_is, length-append, length-drop, length-take, length-drop) (omega (arith, c)) in
-    let rest : drop (a + length ys) xs ≡ others = sym (drop-drop (length ys) a xs)
-    ∙ ap (λ m. drop m (drop a xs)) len in
-    sym (take-append-drop (a + length ys) z) ∙ ap (λ x. x ++ drop (a + length ys) z) t
-    ∙ ap (λ x. (take a xs ++ ys) ++ x) (d ∙ rest)
-    ∙ append_assoc (take a xs) ys others ∙ ap (λ x. take a xs ++ (x ++ others)) ys_is
-    ∙ ap (λ x. take a xs ++ x)
-    (append_assoc w (drop n part) others ∙ ap (λ x. w ++ x) (after_part a e n xs h k l))
+  abbrev part : List ℕ
+  part = take room (drop start slice)
 
--- bytes written after those already written
-pub onto_after : (before after then wrote w : List ℕ) (written n : ℕ) → written ≡ length wrote
-    → n ≡ length w
-    → after ≡ wrote ++ drop written before
-    → then ≡ take written after ++ (w ++ drop (written + n) after)
-    → then ≡ (wrote ++ w) ++ drop (written + n) before
-onto_after before after then wrote w written n counted d onto t =
-    let front : take written after ≡ wrote =
-    rw (onto, counted) (take-append_seam wrote (drop (length wrote) before)) in
-    let back : drop (written + n) after ≡ drop (written + n) before =
-    ap (drop (written + n)) onto
-    ∙ drop-append-drop written before wrote (written + n) (omega arith) (sym counted) in
-    t ∙ ap (λ x. x ++ (w ++ drop (written + n) after)) front ∙ ap (λ x. wrote ++ (w ++ x)) back
-    ∙ sym (append_assoc wrote w (drop (written + n) before))
+  part_length : length part ≡ room
+  part_length = rw (length-take, length-drop) (omega (arith, below, within))
 
--- the bytes written, and the rest of the slice
-pub wrote_is : (before after wrote : List ℕ) (written : ℕ) → written ≡ length wrote
-    → after ≡ wrote ++ drop written before → take written after ≡ wrote
-wrote_is before after wrote written c o =
-    rw (o, c) (take-append_seam wrote (drop (length wrote) before))
-
-pub rest_stays : (before after wrote : List ℕ) (written : ℕ) → written ≡ length wrote
-    → after ≡ wrote ++ drop written before → drop written after ≡ drop written before
-rest_stays before after wrote written c o =
-    ap (drop written) o ∙ drop-append-drop written before wrote written (omega arith) (sym c)
+  pub adds_in_part : {after bytes : List ℕ} {n : ℕ} → Adds part after 0 n bytes
+      → Adds slice (put_mid start room slice after) start (start + n) bytes
+  adds_in_part {after} {bytes} {n} adds =
+      let others = drop room (drop start slice) in
+      let size : length after ≡ room = same_length adds ∙ part_length in
+      let fits : n ≤ room = omega (arith, adds.fits, part_length) in
+      let put = put_mid start room slice after in
+      let end : start + length after ≡ start + room = omega (arith, size) in
+      let front : take (start + length after) put ≡ take start slice ++ after =
+      take-put_mid start room slice after _ refl (omega (arith, below, within)) in
+      let back : drop (start + length after) put ≡ drop (start + length after) slice =
+      drop-put_mid start room slice after _ (omega (arith, size)) (omega (arith, below, within))
+      size in
+      let rest : drop (start + length after) slice ≡ others =
+      ap (λ m. drop m slice) end ∙ sym (drop-drop room start slice) in
+      let unwritten : drop n part ++ others ≡ drop (start + n) slice =
+      sym (drop-append-le n part others (omega (arith, fits, part_length)))
+      ∙ ap (drop n) (take-append-drop room (drop start slice)) ∙ drop-drop n start slice in
+      record {
+        count = omega (arith, adds.count);
+        fits = omega (arith, fits, below, within);
+        onto = sym (take-append-drop (start + length after) put)
+            ∙ rw (front, back, rest) (append_assoc (take start slice) after others)
+            ∙ ap (λ x. take start slice ++ (x ++ others)) adds.onto
+            ∙ ap (λ x. take start slice ++ x)
+            (append_assoc bytes (drop n part) others ∙ ap (λ x. bytes ++ x) unwritten);
+      }

@@ -18,9 +18,10 @@ use Rattle.enc_encoder.specs.Text.{KeepsText}
 use Rattle.enc_encoder.specs.Steps.{Step, escape_step, char_step, first_written_char, escape_steps_before, steps_at_end}
 use Rattle.enc_encoder.specs.Steps.{steps_of, steps_from_state, step_bytes, any_reported, bytes_with_references}
 use Rattle.enc_encoder.specs.Steps.{reference_for_report}
-use Rattle.enc_encoder.specs.Call.{EncoderCall, EncoderCallInto, EncoderStops}
-use Rattle.enc_encoder.proofs.StepLemmas.{step_bytes-one}
-use Rattle.enc_encoder.proofs.PrefixStepLemmas.{whatever_follows}
+use Rattle.enc_encoder.specs.Call.{EncoderCall, EncoderStops, AtUnmappable}
+use Rattle.enc_encoder.proofs.StepLemmas.{step_bytes-one, any_reported-append}
+use Rattle.enc_encoder.specs.Writes.{Leaves}
+use Rattle.enc_encoder.proofs.LeavesLemmas.{whatever_follows}
 
 -- references are made of `&`, `#`, `;` and digits
 
@@ -164,58 +165,61 @@ unreferred (p ∷ ps) h =
     ∙ ap (λ t. t ++ bytes_with_references ps) (append-nil p.bytes)
     ∙ ap (λ t. p.bytes ++ t) (unreferred ps both.1)
 
+-- A report is the last step of a call that reports one: the bytes are those before it.
+
+pub reported_bytes : {done : List Step} {c : ℕ} (at : AtUnmappable done c)
+    → step_bytes done ≡ step_bytes at.before
+reported_bytes at =
+    rw (at.then_report, step_bytes-one at.before at.report, at.none_written)
+    (append-nil (step_bytes at.before))
+
+pub is_reported : {done : List Step} {c : ℕ} → AtUnmappable done c → any_reported done ≡ true
+is_reported at =
+    rw (
+      at.then_report,
+      any_reported-append at.before (at.report ∷ []),
+      at.none_reported,
+      at.reported,
+    ) refl
+
 -- the bytes of the steps that a call took, with the reference that its caller writes
 bytes_by_result : (new : RawEncoderState) (rest : List ℕ) (last : Bool) (room : ℕ)
-    (result : EncoderResult)
-    (done : List Step) (wrote : List ℕ) → wrote ≡ step_bytes done
-    → EncoderStops new rest last room done result
-    → bytes_with_references done ≡ wrote ++ reference_after result
-bytes_by_result new rest last room InputEmpty done wrote b stops =
-    unreferred done stops.none_reported ∙ sym b ∙ sym (append-nil wrote)
-bytes_by_result new rest last room OutputFull done wrote b stops =
-    unreferred done stops.none_reported ∙ sym b ∙ sym (append-nil wrote)
-bytes_by_result new rest last room (Unmappable c) done wrote b stops =
-    let report = stops.report in
+    (done : List Step) (result : EncoderResult) → EncoderStops new rest last room done result
+    → bytes_with_references done ≡ step_bytes done ++ reference_after result
+bytes_by_result new rest last room done InputEmpty stops =
+    unreferred done stops.none_reported ∙ sym (append-nil (step_bytes done))
+bytes_by_result new rest last room done OutputFull stops =
+    unreferred done stops.none_reported ∙ sym (append-nil (step_bytes done))
+bytes_by_result new rest last room done (Unmappable c) stops =
+    let before = step_bytes stops.before in
     ap bytes_with_references stops.then_report
-    ∙ bytes_with_references-append stops.before (report ∷ [])
-    ∙ ap (λ t. t ++ ((report.bytes ++ reference_for_report report.report) ++ []))
-    (unreferred stops.before stops.none_reported)
-    ∙ ap (λ t. step_bytes stops.before ++ t)
-    (append-nil (report.bytes ++ reference_for_report report.report))
-    ∙ ap (λ r. step_bytes stops.before ++ (report.bytes ++ reference_for_report r)) stops.reported
-    ∙ sym (append_assoc (step_bytes stops.before) report.bytes (reference c))
-    ∙ ap (λ t. t ++ reference c)
-    (sym (step_bytes-one stops.before report) ∙ ap step_bytes (sym stops.then_report)
-    ∙ sym b)
+    ∙ rw (
+      bytes_with_references-append stops.before (stops.report ∷ []),
+      unreferred stops.before stops.none_reported,
+      stops.none_written,
+      stops.reported,
+      append-nil (reference c),
+    ) refl
+    ∙ ap (λ t. t ++ reference c) (sym (reported_bytes stops))
 
-module _ {old new : RawEncoderState} {src rest : List ℕ} {last : Bool} {room : ℕ}
-    {result : EncoderResult}
-    {wrote : List ℕ} (call : EncoderCall old new src rest last room result wrote) where
-  pub done_is : bytes_with_references call.done ≡ wrote ++ reference_after result
-  done_is = bytes_by_result new rest last room result call.done wrote call.bytes call.stops
+pub done_is : {old new : RawEncoderState} {src rest : List ℕ} {last : Bool} {room : ℕ}
+    {result : EncoderResult} {wrote : List ℕ}
+    (call : EncoderCall old new src rest last room result wrote)
+    → bytes_with_references call.done ≡ wrote ++ reference_after result
+done_is {new = new} {rest = rest} {last} {room} {result} call =
+    bytes_by_result new rest last room call.done result call.stops ∙ ap (λ t. t ++ reference_after result) (sym call.bytes)
 
-  pub call_keeps_text : IsLawfulEncoderRule old.rule → KeepsText old new src rest last result wrote
-  call_keeps_text lawful z m =
-      let lawful_after : IsLawfulEncoderRule new.rule =
-      subst IsLawfulEncoderRule (sym call.rule) lawful in
-      sym (steps_are_text old.rule lawful old.set (src ++ z))
-      ∙ ap bytes_with_references (whatever_follows old new src rest last room result wrote call z m)
-      ∙ bytes_with_references-append call.done (steps_from_state new true (rest ++ z))
-      ∙ ap (λ t. t ++ bytes_with_references (steps_from_state new true (rest ++ z)))
-      done_is
-      ∙ ap (λ t. (wrote ++ reference_after result) ++ t)
-      (steps_are_text new.rule lawful_after new.set (rest ++ z))
-      ∙ append_assoc wrote (reference_after result)
-      (bytes_of_text new.rule new.set (with_references new.rule (rest ++ z)))
-
-pub into_keeps_text : {units_of : ℕ → List ℕ} {old new : RawEncoderState} {src rest : List ℕ}
-    {last : Bool}
-    {before after : List ℕ} {result : EncoderResult} {read written : ℕ}
-    → IsLawfulEncoderRule old.rule
-    → EncoderCallInto units_of old new src rest last before after result read written
-    → KeepsText old new src rest last result (take written after)
-into_keeps_text {old} {new} {src} {rest} {last} {before} {after} {result} {written} lawful call =
-    let written_bytes : take written after ≡ call.wrote =
-    rw (call.onto, call.count) (take-append_seam call.wrote (drop (length call.wrote) before)) in
-    subst (λ (x : List ℕ). KeepsText old new src rest last result x) (sym written_bytes)
-    (call_keeps_text call.call lawful)
+pub keeps_text : {last : Bool} {old new : RawEncoderState} {src rest : List ℕ} {done : List Step}
+    → Leaves last old new src rest done → IsLawfulEncoderRule old.rule
+    → (result : EncoderResult) (wrote : List ℕ)
+    → bytes_with_references done ≡ wrote ++ reference_after result
+    → KeepsText old new src rest last result wrote
+keeps_text {old = old} {new} {src} {rest} {done} leaves lawful result wrote bytes_are z none =
+    let lawful_after : IsLawfulEncoderRule new.rule =
+    subst IsLawfulEncoderRule (sym leaves.rule) lawful in
+    sym (steps_are_text old.rule lawful old.set (src ++ z))
+    ∙ ap bytes_with_references (whatever_follows leaves z none)
+    ∙ bytes_with_references-append done (steps_from_state new true (rest ++ z))
+    ∙ rw (bytes_are, steps_are_text new.rule lawful_after new.set (rest ++ z)) refl
+    ∙ append_assoc wrote (reference_after result)
+    (bytes_of_text new.rule new.set (with_references new.rule (rest ++ z)))

@@ -8,6 +8,9 @@ use Rattle.enc_encoder.specs.declared.character_set.CharacterSet.TheVariants.{As
 use Rattle.enc_encoder.specs.EncoderRule.{EncoderRule, RawEncoderState, set_for}
 use Rattle.enc_encoder.specs.Steps.{Step, steps_of, steps_from_state, step_chars, any_reported, escape_steps_before}
 use Rattle.enc_encoder.specs.Steps.{escape_step, char_step, first_written_char, steps_at_end}
+use Rattle.enc_encoder.specs.Writes.{Leaves}
+use Rattle.enc_encoder.specs.ErrorMode.{CallInMode, IsCallInMode, Html}
+use Rattle.enc_encoder.proofs.LeavesLemmas.{leaves_in_mode}
 use Rattle.enc_encoder.specs.Unmappable.{any_unmappable, report_for, reports_of}
 
 abbrev pub reports_by : Option ℕ → List ℕ
@@ -64,19 +67,17 @@ steps_report e last s (c ∷ t) =
     (one_reported e (set_for e s first_char) c (e.bytes c))
     ∙ ap (λ x. report_for e c (e.bytes c) ++ x) (steps_report e last (set_for e s first_char) t)
 
-module _ (old new : RawEncoderState) (src rest : List ℕ) (last : Bool) (done : List Step)
-    (reads : src ≡ step_chars done ++ rest) (rule : new.rule ≡ old.rule)
-    (remaining : steps_from_state old last src ≡ done ++ steps_from_state new last rest) where
-  -- of steps that a call took
-  pub reports_are : reports_in done ≡ reports_of old.rule (step_chars done)
-  reports_are =
-      append_cancel_right (reports_in done) (reports_of old.rule (step_chars done))
-      (reports_of old.rule rest)
-      (ap (λ t. reports_in done ++ t)
-      (ap (λ e. reports_of e rest) (sym rule) ∙ sym (steps_report new.rule last new.set rest))
-      ∙ sym (reports_in-append done (steps_from_state new last rest))
-      ∙ ap reports_in (sym remaining) ∙ steps_report old.rule last old.set src
-      ∙ ap (reports_of old.rule) reads ∙ reports_of-append old.rule (step_chars done) rest)
+-- of steps that a call took
+pub reports_are : {last : Bool} {old new : RawEncoderState} {src rest : List ℕ} {done : List Step}
+    → Leaves last old new src rest done → reports_in done ≡ reports_of old.rule (step_chars done)
+reports_are {last} {old} {new} {src} {rest} {done} leaves =
+    append_cancel_right (reports_in done) (reports_of old.rule (step_chars done))
+    (reports_of old.rule rest)
+    (ap (λ t. reports_in done ++ t)
+    (ap (λ e. reports_of e rest) (sym leaves.rule) ∙ sym (steps_report new.rule last new.set rest))
+    ∙ sym (reports_in-append done (steps_from_state new last rest))
+    ∙ ap reports_in (sym leaves.remaining) ∙ steps_report old.rule last old.set src
+    ∙ ap (reports_of old.rule) leaves.reads ∙ reports_of-append old.rule (step_chars done) rest)
 
 -- whether there is one
 
@@ -102,13 +103,17 @@ any_of : (e : EncoderRule) (t : List ℕ) → any_unmappable e t ≡ some_in (re
 any_of e [] = refl
 any_of e (c ∷ t) = any_of_one e c (e.bytes c) (reports_of e t) (any_unmappable e t) (any_of e t)
 
-module _ (old new : RawEncoderState) (src rest : List ℕ) (last : Bool) (done : List Step)
-    (reads : src ≡ step_chars done ++ rest) (rule : new.rule ≡ old.rule)
-    (remaining : steps_from_state old last src ≡ done ++ steps_from_state new last rest) where
-  pub any_reported_is : any_reported done ≡ any_unmappable old.rule (step_chars done)
-  any_reported_is =
-      any_in done ∙ ap some_in (reports_are old new src rest last done reads rule remaining)
-      ∙ sym (any_of old.rule (step_chars done))
+pub any_reported_is : {last : Bool} {old new : RawEncoderState} {src rest : List ℕ}
+    {done : List Step} → Leaves last old new src rest done
+    → any_reported done ≡ any_unmappable old.rule (step_chars done)
+any_reported_is {old = old} {done = done} leaves =
+    any_in done ∙ ap some_in (reports_are leaves) ∙ sym (any_of old.rule (step_chars done))
+
+-- whether a call writes a reference
+pub replaced_is : {units_of : ℕ → List ℕ} {old new : RawEncoderState} {c : CallInMode}
+    (call : IsCallInMode units_of old new c) → {kept : ℕ} → c.mode ≡ Html kept
+    → c.replaced ≡ any_unmappable old.rule (step_chars call.done)
+replaced_is call is_html = rw is_html at call.flag ∙ any_reported_is (leaves_in_mode call)
 
 or_assoc : (a b c : Bool) → ((a || b) || c) ≡ (a || (b || c))
 or_assoc a b c = elim a as (λ a. ((a || b) || c) ≡ (a || (b || c))) [ true ↦ refl | false ↦ refl ]

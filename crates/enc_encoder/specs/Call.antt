@@ -1,11 +1,14 @@
 -- A call of an encoder without replacement (Encoding Standard 4.1, error mode "fatal", with a
 -- bounded output).
-use Rattle.std.specs.Prelude.{◌≡◌, ℕ, ◌+◌, ◌<◌, ◌≤◌, Bool, true, false, Some, None, List, [], ◌∷◌, ◌++◌, length, drop}
+use Rattle.std.specs.Prelude.{◌≡◌, ℕ, ◌+◌, ◌<◌, ◌≤◌, Bool, true, false, Some, None, List, [], ◌∷◌, ◌++◌, length}
 use Rattle.enc_units.specs.Output.{units_of_text}
 use Rattle.enc_units.specs.declared.encoder_result.EncoderResult.{EncoderResult}
 use Rattle.enc_units.specs.declared.encoder_result.EncoderResult.TheVariants.{InputEmpty, OutputFull, Unmappable}
 use Rattle.enc_encoder.specs.declared.character_set.CharacterSet.TheVariants.{Ascii}
 use Rattle.enc_encoder.specs.EncoderRule.{RawEncoderState}
+use Rattle.enc_encoder.specs.Text.{KeepsText}
+use Rattle.enc_encoder.specs.Need.{MeetsEncodeNeed}
+use Rattle.enc_encoder.specs.Writes.{Adds, Place}
 use Rattle.enc_encoder.specs.Steps.{Step, steps_from_state, step_chars, step_bytes, any_reported, set_after_steps}
 
 -- all characters are read, and with `last` no escape sequence is due
@@ -56,12 +59,16 @@ pub record EncoderCall (old new : RawEncoderState) (src rest : List ℕ) (last :
   pub fits : length wrote ≤ room
   pub stops : EncoderStops new rest last room done result
 
--- the same, for a call that writes to the start of a slice, leaves its other bytes unchanged, and
--- has read this number of code units
-pub record EncoderCallInto (units_of : ℕ → List ℕ) (old new : RawEncoderState) (src rest : List ℕ)
-    (last : Bool) (before after : List ℕ) (result : EncoderResult) (read written : ℕ) : Type 0 where
+-- The same, for a call that writes to the start of a slice, leaves its other bytes unchanged, and
+-- has read this number of code units. It writes by its need. Whatever follows, the bytes of the
+-- whole text are what it wrote, a reference to the character reported, and the bytes of the rest.
+pub record EncoderCallInto (units_of : ℕ → List ℕ) (last : Bool) (from to : Place)
+    (result : EncoderResult) (read : ℕ) : Type 0 where
   pub wrote : List ℕ
-  pub count : written ≡ length wrote
-  pub onto : after ≡ wrote ++ drop written before
-  pub call : EncoderCall old new src rest last (length before) result wrote
+  pub adds : Adds from.slice to.slice from.written to.written wrote
+  pub call : EncoderCall from.state to.state from.rest to.rest last (length from.slice) result
+      wrote
   pub units : read ≡ length (units_of_text units_of (step_chars call.done))
+  pub text : KeepsText from.state to.state from.rest to.rest last result wrote
+  pub need : MeetsEncodeNeed from.state to.state from.rest to.rest last (length from.slice) result
+      to.written

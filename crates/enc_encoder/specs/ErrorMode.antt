@@ -5,6 +5,8 @@ use Rattle.std.specs.Prelude.{is_some, List, [], ◌∷◌, ◌++◌, length}
 use Rattle.enc_units.specs.Output.{units_of_text}
 use Rattle.enc_units.specs.declared.encoder_result.EncoderResult.{EncoderResult}
 use Rattle.enc_units.specs.declared.encoder_result.EncoderResult.TheVariants.{InputEmpty, OutputFull, Unmappable}
+use Rattle.enc_encoder.specs.declared.error_mode.ErrorMode.{ErrorMode}
+use Rattle.enc_encoder.specs.declared.error_mode.ErrorMode.TheVariants as mode
 use Rattle.enc_encoder.specs.EncoderRule.{EncoderRule, RawEncoderState, is_escape_due}
 use Rattle.enc_encoder.specs.Text.{KeepsText}
 use Rattle.enc_encoder.specs.Steps.{Step, steps_from_state, step_chars, step_bytes, bytes_with_references, any_reported}
@@ -16,6 +18,12 @@ use Rattle.enc_encoder.specs.Call.{EncoderStops}
 pub data EncodeErrorMode : Type 0 where
   Fatal : EncodeErrorMode
   Html : ℕ → EncodeErrorMode
+
+-- the error mode of a call, by that of the code: the longest reference has 10 bytes
+abbrev pub mode_of : ErrorMode → EncodeErrorMode
+mode_of mode.Fatal = Fatal
+mode_of mode.Html = Html 10
+mode_of mode.HtmlOfMappable = Html 0
 
 -- whether references are written
 abbrev pub is_html_mode : EncodeErrorMode → Bool
@@ -105,21 +113,49 @@ StopsInMode Fatal new rest last room done result = EncoderStops new rest last ro
 StopsInMode (Html kept) new rest last room done result =
     StopsInHtmlMode kept new rest last room done result
 
--- A call of an encoder with the characters `src`, which nothing follows if `last`, over an output
--- of `room` bytes. It does the steps that come first, in order, and leaves the characters `rest`
--- unread. Whatever follows, the bytes of the whole text are those that it wrote, a reference to the
--- character reported, and the bytes of the text left.
-pub record EncoderCallInMode (units_of : ℕ → List ℕ) (mode : EncodeErrorMode)
-    (old new : RawEncoderState) (src rest : List ℕ) (last : Bool) (room : ℕ)
-    (result : EncoderResult) (read : ℕ) (wrote : List ℕ) (replaced : Bool) : Type 0 where
+-- What a call has: its error mode, the characters given and those that it leaves unread, whether
+-- nothing follows them, the room of the output, why it stops, the number of code units read, the
+-- bytes written, and whether a reference is among them.
+pub record CallInMode : Type 0 where
+  pub mode : EncodeErrorMode
+  pub src : List ℕ
+  pub rest : List ℕ
+  pub last : Bool
+  pub room : ℕ
+  pub result : EncoderResult
+  pub read : ℕ
+  pub wrote : List ℕ
+  pub replaced : Bool
+
+-- A call of an encoder. It does the steps that come first, in order. Whatever follows, the bytes of
+-- the whole text are those that it wrote, a reference to the character reported, and the bytes of
+-- the text left.
+pub record IsCallInMode (units_of : ℕ → List ℕ) (old new : RawEncoderState) (c : CallInMode)
+    : Type 0 where
   pub done : List Step
-  pub reads : src ≡ step_chars done ++ rest
-  pub remaining : steps_from_state old last src ≡ done ++ steps_from_state new last rest
+  pub reads : c.src ≡ step_chars done ++ c.rest
+  pub remaining : steps_from_state old c.last c.src ≡ done ++ steps_from_state new c.last c.rest
   pub rule : new.rule ≡ old.rule
   pub set : new.set ≡ set_after_steps old.set done
-  pub bytes : wrote ≡ bytes_in_mode mode done
-  pub fits : StepsFitInMode mode room done
-  pub flag : replaced ≡ (is_html_mode mode && any_reported done)
-  pub stops : StopsInMode mode new rest last room done result
-  pub units : read ≡ length (units_of_text units_of (step_chars done))
-  pub text : KeepsText old new src rest last result wrote
+  pub bytes : c.wrote ≡ bytes_in_mode c.mode done
+  pub fits : StepsFitInMode c.mode c.room done
+  pub flag : c.replaced ≡ (is_html_mode c.mode && any_reported done)
+  pub stops : StopsInMode c.mode new c.rest c.last c.room done c.result
+  pub units : c.read ≡ length (units_of_text units_of (step_chars done))
+  pub text : KeepsText old new c.src c.rest c.last c.result c.wrote
+
+-- the same, of what a call has one by one
+abbrev pub EncoderCallInMode : (ℕ → List ℕ) → EncodeErrorMode → RawEncoderState → RawEncoderState
+    → List ℕ → List ℕ → Bool → ℕ → EncoderResult → ℕ → List ℕ → Bool → Type 0
+EncoderCallInMode units_of mode old new src rest last room result read wrote replaced =
+    IsCallInMode units_of old new (record {
+      mode = mode;
+      src = src;
+      rest = rest;
+      last = last;
+      room = room;
+      result = result;
+      read = read;
+      wrote = wrote;
+      replaced = replaced;
+    })

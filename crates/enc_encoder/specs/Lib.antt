@@ -1,13 +1,14 @@
 pub mod EncoderRule
 pub mod Text
 pub mod Steps
+pub mod Writes
+pub mod Lengths
+pub mod Need
 pub mod Call
 pub mod CharLaw
 pub mod Stateless
 pub mod Barring
-pub mod Lengths
-pub mod Need
 pub mod Runs
 pub mod ErrorMode
-pub mod Replacing
 pub mod Unmappable
+pub mod Replacing

@@ -108,9 +108,4 @@ impl<R: Repertoire> Repertoire for Barring<R> {
     fn byte_lengths(self) -> ByteLengths {
         self.repertoire.byte_lengths()
     }
-
-    #[tactic(auto, using(crate::proofs::BarringLemmas::except_is_lawful))]
-    fn laws(self) {
-        self.repertoire.laws();
-    }
 }

@@ -5,13 +5,13 @@ ghost use Rattle.std.specs.Prelude.{IsTrue, IsFalse};
 ghost use Rattle.enc_units.specs.Bytes.{byte_list};
 ghost use Rattle.enc_encoder.specs.CharLaw.{IsStepAtEnd, IsNextStepOfCall};
 ghost use Rattle.enc_encoder.specs.Call.{EncoderCallInto};
+ghost use Rattle.enc_encoder.specs.Writes.{place};
 ghost use Rattle.enc_encoder.specs.EncoderRule.{IsLawfulEncoderRule};
 ghost use Rattle.enc_encoder.specs.Runs.{WritesRun};
-ghost use Rattle.enc_encoder.specs.Text.{KeepsText};
-ghost use Rattle.enc_encoder.specs.Need.{MeetsEncodeNeed};
 
 use crate::char_encoder::CharEncoder;
 use crate::character_set::CharacterSet;
+use crate::outcome::RawOutcome;
 use crate::transition::Transition;
 use crate::transitions::{first_written_char, take_char, take_escape};
 use enc_units::{Bytes, Chars, EncoderResult};
@@ -64,6 +64,7 @@ fn put(dst: &mut [u8], written: usize, bytes: Bytes) -> bool
 ///
 /// Returns the number of bytes written. A character beyond ASCII has a step of its own: it may be
 /// unmappable.
+#[tactic(auto, using(crate::proofs::RunLemmas::writes_none))]
 #[inline(always)]
 fn first_run<E: CharEncoder, C: Chars>(encoder: E, src: &mut C, dst: &mut [u8]) -> usize
     ensures { WritesRun (E.state encoder) (C.rest src.old) (C.rest src.new) dst.old dst.new 0
@@ -85,17 +86,12 @@ pub fn run<E: CharEncoder, C: Chars>(
     src: &mut C,
     dst: &mut [u8],
     last: bool,
-) -> (EncoderResult, usize, usize)
-    requires lawful { IsLawfulEncoderRule (E.state encoder.old).rule }
-    ensures call { EncoderCallInto C.units_of
-        (E.state encoder.old) (E.state encoder.new) (C.rest src.old) (C.rest src.new) last
-        dst.old dst.new result.0 result.1 result.2 }
-    ensures text { KeepsText
-        (E.state encoder.old) (E.state encoder.new) (C.rest src.old) (C.rest src.new) last
-        result.0 (take result.2 dst.new) }
-    ensures need { MeetsEncodeNeed
-        (E.state encoder.old) (E.state encoder.new) (C.rest src.old) (C.rest src.new) last
-        (length dst.old) result.0 result.2 }
+) -> RawOutcome
+    requires { IsLawfulEncoderRule (E.state encoder.old).rule }
+    ensures { EncoderCallInto C.units_of last
+        (place (E.state encoder.old) (C.rest src.old) dst.old 0)
+        (place (E.state encoder.new) (C.rest src.new) dst.new result.written)
+        result.result result.read }
 {
     let unread = src.unread();
     let mut state = *encoder;
@@ -103,16 +99,28 @@ pub fn run<E: CharEncoder, C: Chars>(
     loop {
         let Some(taken) = what_comes(state, src, last) else {
             *encoder = state;
-            return (EncoderResult::InputEmpty, unread - src.unread(), written);
+            return RawOutcome {
+                result: EncoderResult::InputEmpty,
+                read: unread - src.unread(),
+                written,
+            };
         };
         if let Some(c) = taken.report {
             src.advance();
             *encoder = taken.next;
-            return (EncoderResult::Unmappable(c), unread - src.unread(), written);
+            return RawOutcome {
+                result: EncoderResult::Unmappable(c),
+                read: unread - src.unread(),
+                written,
+            };
         }
         if !put(dst, written, taken.bytes) {
             *encoder = state;
-            return (EncoderResult::OutputFull, unread - src.unread(), written);
+            return RawOutcome {
+                result: EncoderResult::OutputFull,
+                read: unread - src.unread(),
+                written,
+            };
         }
         if taken.reads {
             src.advance();

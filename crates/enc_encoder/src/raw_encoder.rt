@@ -1,16 +1,17 @@
 //! The contract of every encoder.
 
-ghost use Rattle.std.specs.Prelude.{◌≡◌, length, take};
+ghost use Rattle.std.specs.Prelude.{◌≡◌};
 ghost use Rattle.enc_encoder.specs.EncoderRule.{RawEncoderState, IsLawfulEncoderRule};
 ghost use Rattle.enc_encoder.specs.EncoderRule.{is_escape_due};
 ghost use Rattle.enc_encoder.specs.Call.{EncoderCallInto};
-ghost use Rattle.enc_encoder.specs.Text.{KeepsText};
-ghost use Rattle.enc_encoder.specs.Need.{MeetsEncodeNeed, AreEnoughForEncoder};
+ghost use Rattle.enc_encoder.specs.Writes.{place};
+ghost use Rattle.enc_encoder.specs.Need.{AreEnoughForEncoder};
 ghost use Rattle.enc_encoder.specs.Lengths.{from_utf_8_length, from_utf_16_length};
 ghost use Rattle.enc_encoder.specs.declared.byte_lengths.ByteLengths.{ByteLengths};
 
 use crate::byte_lengths::ByteLengths;
-use enc_units::{Chars, EncoderResult};
+use crate::outcome::RawOutcome;
+use enc_units::Chars;
 
 /// An encoder of one encoding (Encoding Standard 4.1).
 ///
@@ -26,27 +27,15 @@ pub trait RawEncoder {
     /// Encodes a chunk, without replacement (Encoding Standard 4.1, error mode "fatal").
     ///
     /// It stops when all characters are read, the bytes that come next do not fit into `dst`, or a
-    /// character is unmappable. With `last` nothing follows `src`, and the text is ended. Returns
-    /// why it stopped, the number of code units read from `src`, and the number of bytes written to
-    /// `dst`.
+    /// character is unmappable. With `last` nothing follows `src`, and the text is ended.
     ///
     /// The bytes of a character are written together; an escape sequence before it may be written
     /// alone. The bytes of `dst` after those written are unchanged. Takes no memory.
-    fn encode<C: Chars>(
-        &mut self,
-        src: &mut C,
-        dst: &mut [u8],
-        last: bool,
-    ) -> (EncoderResult, usize, usize)
-        ensures call { EncoderCallInto C.units_of
-            (state self.old) (state self.new) (C.rest src.old) (C.rest src.new) last
-            dst.old dst.new result.0 result.1 result.2 }
-        ensures text { KeepsText
-            (state self.old) (state self.new) (C.rest src.old) (C.rest src.new) last
-            result.0 (take result.2 dst.new) }
-        ensures need { MeetsEncodeNeed
-            (state self.old) (state self.new) (C.rest src.old) (C.rest src.new) last
-            (length dst.old) result.0 result.2 }
+    fn encode<C: Chars>(&mut self, src: &mut C, dst: &mut [u8], last: bool) -> RawOutcome
+        ensures call { EncoderCallInto C.units_of last
+            (place (state self.old) (C.rest src.old) dst.old 0)
+            (place (state self.new) (C.rest src.new) dst.new result.written)
+            result.result result.read }
         ensures lawful { IsLawfulEncoderRule (state self.old).rule }
         ensures formulas { formulas self.new ≡ formulas self.old };
 

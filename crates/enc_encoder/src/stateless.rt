@@ -3,17 +3,18 @@
 ghost use Rattle.std.specs.Prelude.{◌≡◌, ◌<◌, ◌≤◌, ℕ, Option, Some, List, [], ◌∷◌, IsTrue};
 ghost use Rattle.std.specs.Char.{encode_utf8};
 ghost use Rattle.enc_encoder.specs.CharLaw.{AreBytesOf};
-ghost use Rattle.enc_encoder.specs.Stateless.{IsLawfulRepertoire};
 ghost use Rattle.enc_encoder.specs.declared.byte_lengths.ByteLengths.{ByteLengths};
 
 use crate::barring::Barring;
 use crate::byte_lengths::ByteLengths;
 use crate::char_encoder::CharEncoder;
 use crate::character_set::CharacterSet;
+use crate::lawful_repertoire::LawfulRepertoire;
 use crate::machine::run;
 use crate::made_bytes::one;
+use crate::outcome::RawOutcome;
 use crate::raw_encoder::RawEncoder;
-use enc_units::{Bytes, Chars, EncoderResult, Mapping, ascii_in};
+use enc_units::{Bytes, Chars, Mapping, ascii_in};
 use std::simd::prelude::*;
 
 /// An encoding without escape sequences, by the bytes of each character.
@@ -62,13 +63,6 @@ pub trait Repertoire: Copy {
     /// Returns the formulas for the lengths to allocate.
     fn byte_lengths(self) -> ByteLengths
         ensures { result ≡ lengths self };
-
-    /// The laws of the bytes of characters. The call does nothing.
-    ///
-    /// ASCII is written as itself, and no character has more than four bytes, or more than the
-    /// formulas have for its code units.
-    fn laws(self)
-        ensures { IsLawfulRepertoire (lengths self) (bytes_for self) };
 }
 
 /// The encoder of an encoding without escape sequences. It keeps nothing between two calls.
@@ -86,7 +80,7 @@ impl<R: Repertoire> StatelessEncoder<R> {
     }
 }
 
-impl<R: Repertoire> Mapping for StatelessEncoder<R> {
+impl<R: LawfulRepertoire> Mapping for StatelessEncoder<R> {
     ghost use Rattle.enc_encoder.specs.declared.character_set.CharacterSet.TheVariants.{Ascii};
     ghost use Rattle.enc_encoder.specs.Runs.{IsWrittenIn};
     ghost use Rattle.enc_encoder.specs.Stateless.{stateless_rule};
@@ -132,7 +126,7 @@ impl<R: Repertoire> Mapping for StatelessEncoder<R> {
     }
 }
 
-impl<R: Repertoire> CharEncoder for StatelessEncoder<R> {
+impl<R: LawfulRepertoire> CharEncoder for StatelessEncoder<R> {
     ghost use Rattle.enc_encoder.specs.Stateless.{stateless_state};
 
     ghost state = { λ e. stateless_state (R.bytes_for e.repertoire) };
@@ -168,7 +162,7 @@ impl<R: Repertoire> CharEncoder for StatelessEncoder<R> {
     }
 }
 
-impl<R: Repertoire> RawEncoder for StatelessEncoder<Barring<R>> {
+impl<R: LawfulRepertoire> RawEncoder for StatelessEncoder<Barring<R>> {
     ghost use Rattle.enc_encoder.specs.Stateless.{stateless_state};
     ghost use Rattle.enc_encoder.specs.Barring.{bytes_unless_barred};
 
@@ -177,12 +171,7 @@ impl<R: Repertoire> RawEncoder for StatelessEncoder<Barring<R>> {
 
     ghost formulas = { λ e. R.lengths e.repertoire.repertoire };
 
-    fn encode<C: Chars>(
-        &mut self,
-        src: &mut C,
-        dst: &mut [u8],
-        last: bool,
-    ) -> (EncoderResult, usize, usize) {
+    fn encode<C: Chars>(&mut self, src: &mut C, dst: &mut [u8], last: bool) -> RawOutcome {
         let repertoire = self.repertoire.repertoire;
         let barred = self.repertoire.barred;
         repertoire.laws();

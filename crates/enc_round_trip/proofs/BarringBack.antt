@@ -2,13 +2,12 @@
 -- barred.
 use Rattle.std.proofs.Common.{◌≡◌, ℕ, Bool, true, false, is_some, not, ◌||◌, Option, Some, None, List, [], ◌∷◌, ◌++◌}
 use Rattle.std.proofs.Common.{refl, ap, sym, ◌∙◌, if◌then◌else◌}
-use Rattle.enc_decoder.specs.Segmentation.{Rule}
 use Rattle.enc_encoder.specs.declared.character_set.CharacterSet.{CharacterSet}
 use Rattle.enc_encoder.specs.EncoderRule.{EncoderRule}
 use Rattle.enc_encoder.specs.Text.{escape_before, list_or_empty, bytes_after_text}
 use Rattle.enc_encoder.specs.Barring.{is_barred, bytes_unless_barred, barring_rule}
 use Rattle.enc_encoder.specs.Unmappable.{any_unmappable}
-use Rattle.enc_round_trip.proofs.ReadBackLemmas.{IsReadBack, first_mapped}
+use Rattle.enc_round_trip.proofs.ReadBackLemmas.{first_mapped}
 
 -- a character that has bytes has those of the encoding without the list
 
@@ -21,17 +20,7 @@ same_bytes : (b : List ℕ) (bytes : ℕ → Option (List ℕ)) (c : ℕ)
     → is_some (bytes_unless_barred b bytes c) ≡ true → bytes_unless_barred b bytes c ≡ bytes c
 same_bytes b bytes c h = not_barred (is_barred b c) (bytes c) h
 
-found : (t : Bool) (x : Option (List ℕ)) (b : List ℕ) → (if t then None else x) ≡ Some b
-    → x ≡ Some b
-found true x b e = cc
-found false x b e = e
-
-pub except_is_read : (b : List ℕ) (rule : Rule) (bytes : ℕ → Option (List ℕ)) (back : ℕ → ℕ)
-    → IsReadBack rule bytes back → IsReadBack rule (bytes_unless_barred b bytes) back
-except_is_read b rule bytes back h =
-    record { each = λ c s x e. h.each c s x (found (is_barred b c) (bytes c) x e) }
-
--- and so has a text
+-- so a text has them
 
 module _ (b : List ℕ) (e : EncoderRule) where
   pub still_mapped : (t : List ℕ) → any_unmappable (barring_rule b e) t ≡ false

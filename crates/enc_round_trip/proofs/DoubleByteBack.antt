@@ -48,7 +48,6 @@ by_pairs is_lead pair lead trail pointer alone pairs =
     (λ c. c)
     (λ c is_low. single_piece is_lead single pair c c (alone c is_low)
     (cond-true _ _ _ (lt-ltb c 0x80 is_low)))
-    (λ c b l e. by_pointer (λ x. IsWholeChar rule 0 x c) (λ p. lead p ∷ trail p ∷ []) (pointer c) b
-    (λ p f. (let paired = pairs c p f in
-    pair_piece is_lead single pair (lead p) (trail p) c paired.leads paired.has))
-    e)
+    (λ c high. by_pointer (λ x. IsWholeChar rule 0 x c) (λ p. lead p ∷ trail p ∷ []) (pointer c)
+    (λ p found. (let paired = pairs c p found in
+    pair_piece is_lead single pair (lead p) (trail p) c paired.leads paired.has)))

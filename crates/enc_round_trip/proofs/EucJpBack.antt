@@ -1,6 +1,6 @@
 -- The characters that EUC-JP gives back.
 use Rattle.std.proofs.Common.{◌≡◌, ℕ, ◌+◌, ◌-◌, ◌*◌, ◌/◌, ◌%◌, ◌<◌, ◌≤◌, true, false, ◌==◌, Some, List, [], ◌∷◌, refl}
-use Rattle.std.proofs.Common.{ap, sym, ◌∙◌, arith}
+use Rattle.std.proofs.Common.{ap, sym, ◌∙◌, arith, IfSome, inl, inr}
 use Rattle.std.proofs.lemmas.Bool.{cond-true, cond-false, and_from, and_left, lt-ltb}
 use Rattle.std.proofs.lemmas.Bool.Decides.{nat_tests}
 use Rattle.enc_index.specs.Runs.{jis0208_at}
@@ -13,8 +13,9 @@ use Rattle.enc_decoder_multi_byte.specs.EucJp.{euc_jp_pair_char as read_pair, eu
 use Rattle.enc_decoder_multi_byte.proofs.MultiBytePieces.{complete_one, complete_two}
 use Rattle.enc_encode.specs.Japanese.{is_halfwidth_katakana, katakana_byte, with_fullwidth_minus}
 use Rattle.enc_encode.specs.EucJp.{euc_jp_pair_bytes, euc_jp_other, euc_jp_bytes}
+use Rattle.enc_decoder.proofs.FirstSequenceLemmas.{true_or_false}
 use Rattle.enc_round_trip.specs.RoundTrip.{ascii_twin_or}
-use Rattle.enc_round_trip.proofs.ReadBackLemmas.{IsReadBack, with_ascii_is_read, by_test, same_bytes, same_char}
+use Rattle.enc_round_trip.proofs.ReadBackLemmas.{IsReadBack, with_ascii_is_read}
 use Rattle.enc_round_trip.proofs.PointerLemmas.{IsPointer, by_pointer}
 use Rattle.enc_round_trip.proofs.DoubleByteBack.{within}
 use Rattle.enc_round_trip.proofs.JapaneseBack.{at_jis0208_pointer, katakana_byte_is_read, low_not_latin, latin_is_read}
@@ -67,28 +68,26 @@ two_piece c p has_pointer =
 
 -- all characters
 
-itself : (c : ℕ) → (c == 0x2212) ≡ false → c ≡ with_fullwidth_minus c
-itself c n = sym (cond-false _ _ _ n)
+itself : (c : ℕ) → (c == 0x2212) ≡ false → with_fullwidth_minus c ≡ c
+itself c no_minus = cond-false _ _ _ no_minus
 
-beyond : (c : ℕ) (b : List ℕ) → euc_jp_other c ≡ Some b
-    → Piece b (ascii_twin_or with_fullwidth_minus c)
-beyond c b =
-    latin_is_read (multi_byte_rule euc_jp_prefix) _ with_fullwidth_minus c b low_piece
-    (λ yen line. by_test (is_halfwidth_katakana c) _ _ b
-    (λ k. same_bytes (λ x. Piece x (with_fullwidth_minus c)) _ b
-    (same_char _ 0 _ c (with_fullwidth_minus c) (itself c (grind (arith, nat_tests)))
-    (katakana_piece c k)))
-    (λ k. by_pointer (λ x. Piece x (with_fullwidth_minus c)) euc_jp_pair_bytes
-    (jis0208_pointer (with_fullwidth_minus c)) b
-    (λ p f. two_piece (with_fullwidth_minus c) p
-    (at_jis0208_pointer (with_fullwidth_minus c) p f))))
+beyond : (c : ℕ) → IfSome (euc_jp_other c) (λ b. Piece b (ascii_twin_or with_fullwidth_minus c))
+beyond c = latin_is_read (multi_byte_rule euc_jp_prefix) _ with_fullwidth_minus c low_piece
+    (λ not_yen not_line. elim (true_or_false (is_halfwidth_katakana c)) [
+      | inl is_katakana ↦ rw (itself c (grind (arith, nat_tests)), is_katakana)
+          (katakana_piece c is_katakana)
+      | inr no_katakana ↦ rw no_katakana (by_pointer (λ x. Piece x (with_fullwidth_minus c))
+          euc_jp_pair_bytes (jis0208_pointer (with_fullwidth_minus c))
+          (λ p found. two_piece (with_fullwidth_minus c) p
+          (at_jis0208_pointer (with_fullwidth_minus c) p found)))
+    ])
 
 pub euc_jp_is_read : IsReadBack (multi_byte_rule euc_jp_prefix) euc_jp_bytes
     (ascii_twin_or with_fullwidth_minus)
 euc_jp_is_read =
     with_ascii_is_read (multi_byte_rule euc_jp_prefix) euc_jp_other
     (ascii_twin_or with_fullwidth_minus)
-    (λ c l. same_char _ 0 (c ∷ []) c (ascii_twin_or with_fullwidth_minus c)
-    (itself c (grind (arith, nat_tests)) ∙ low_not_latin with_fullwidth_minus c (omega arith))
-    (low_piece c l))
-    (λ c b l. beyond c b)
+    (λ c low. rw (
+      low_not_latin with_fullwidth_minus c (omega arith),
+      itself c (grind (arith, nat_tests)),
+    ) (low_piece c low)) (λ c high. beyond c)

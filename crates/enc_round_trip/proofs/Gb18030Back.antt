@@ -1,7 +1,7 @@
 -- gb18030 and GBK give each character back, except those of private use whose bytes others have.
 use Rattle.std.proofs.Common.{◌≡◌, ℕ, ◌+◌, ◌-◌, ◌/◌, ◌%◌, ◌<◌, ◌≤◌, Bool, true, false, cond, nat_lt, ◌&&◌, ◌==◌, Option}
 use Rattle.std.proofs.Common.{Some, None, List, [], ◌∷◌, map, refl, ap, sym, subst, ◌∙◌, arith, if◌then◌else◌, not}
-use Rattle.std.proofs.Common.{nat_le}
+use Rattle.std.proofs.Common.{nat_le, IfSome, inl, inr}
 use Rattle.std.proofs.lemmas.Bool.{cond-true, cond-false, lt-ltb, or_parts}
 use Rattle.std.proofs.lemmas.Bool.Decides.{nat_tests}
 use Rattle.std.specs.Cmp.{first_so, second_so}
@@ -24,8 +24,8 @@ use Rattle.enc_encode.specs.Gb18030.{row_bytes, row_or_index_bytes, gb18030_othe
 use Rattle.enc_encode.proofs.PrivateUseLemmas.{no_private_use_row}
 use Rattle.enc_round_trip.specs.Replaced.{replaced_characters}
 use Rattle.enc_round_trip.specs.RoundTrip.{char_by_rows, has_row, any_read_as_other}
-use Rattle.enc_round_trip.proofs.ReadBackLemmas.{IsReadBack, with_ascii_is_read, by_test, same_bytes, no_bytes}
-use Rattle.enc_round_trip.proofs.ReadBackLemmas.{same_char}
+use Rattle.enc_decoder.proofs.FirstSequenceLemmas.{true_or_false}
+use Rattle.enc_round_trip.proofs.ReadBackLemmas.{IsReadBack, with_ascii_is_read}
 use Rattle.enc_round_trip.proofs.PointerLemmas.{IsPointer, is_pointer, by_pointer, has_character}
 use Rattle.enc_round_trip.proofs.DoubleByteBack.{within}
 
@@ -184,88 +184,74 @@ row_piece row read h =
     ∙ ap (λ o. trail_prefix 1 row.2 (text_of_char o))
     (has_character read.1 _ (second_so _ _ bytes_match)))
 
-row_or_later : (t : Bool) (a : List ℕ) (c d : ℕ) (x : Option (List ℕ)) (b : List ℕ) → Piece a c
-    → (x ≡ Some b → Piece b d) → (if t then Some a else x) ≡ Some b
-    → Piece b (if t then c else d)
-row_or_later true a c d x b first later e = same_bytes (λ y. Piece y c) a b first e
-row_or_later false a c d x b first later e = later e
-
-row_is_read : (rows : List (ℕ × ℕ × ℕ)) (reads : List (ℕ × ℕ)) (c : ℕ) (b : List ℕ)
-    → are_read_as rows reads ≡ true → row_bytes rows c ≡ Some b → Piece b (char_by_rows reads c)
-row_is_read [] reads c b h e = cc
-row_is_read (row ∷ rows) [] c b h e = cc
-row_is_read (row ∷ rows) (read ∷ reads) c b h e =
-    same_char _ 0 b _ (char_by_rows (read ∷ reads) c)
-    (ap (λ n. if n == c then read.1 else char_by_rows reads c)
-    (same_code row read (first_so _ _ h)))
-    (row_or_later (row.0 == c) (row.1 ∷ row.2 ∷ []) read.1 (char_by_rows reads c)
-    (row_bytes rows c) b (row_piece row read (first_so _ _ h))
-    (row_is_read rows reads c b (second_so _ _ h)) e)
-
-none_here : (t : Bool) (a : List ℕ) (x : Option (List ℕ)) (c d r : ℕ) → (x ≡ None → d ≡ c)
-    → (if t then Some a else x) ≡ None → (if t then r else d) ≡ c
-none_here true a x c d r later e = cc
-none_here false a x c d r later e = later e
+row_is_read : (rows : List (ℕ × ℕ × ℕ)) (reads : List (ℕ × ℕ)) (c : ℕ)
+    → are_read_as rows reads ≡ true
+    → IfSome (row_bytes rows c) (λ b. Piece b (char_by_rows reads c))
+row_is_read [] reads c rows_match = tt
+row_is_read (row ∷ rows) [] c rows_match = cc
+row_is_read (row ∷ rows) (read ∷ reads) c rows_match =
+    rw (sym (same_code row read (first_so _ _ rows_match))) (elim (true_or_false (row.0 == c)) [
+      | inl is_here ↦ rw is_here (row_piece row read (first_so _ _ rows_match))
+      | inr is_later ↦ rw is_later (row_is_read rows reads c (second_so _ _ rows_match))
+    ])
 
 itself_if_none : (rows : List (ℕ × ℕ × ℕ)) (reads : List (ℕ × ℕ)) (c : ℕ)
     → are_read_as rows reads ≡ true → row_bytes rows c ≡ None → char_by_rows reads c ≡ c
-itself_if_none [] [] c h e = refl
-itself_if_none [] (read ∷ reads) c h e = cc
-itself_if_none (row ∷ rows) [] c h e = cc
-itself_if_none (row ∷ rows) (read ∷ reads) c h e =
-    ap (λ n. if n == c then read.1 else char_by_rows reads c)
-    (sym (same_code row read (first_so _ _ h)))
-    ∙ none_here (row.0 == c) (row.1 ∷ row.2 ∷ []) (row_bytes rows c) c (char_by_rows reads c) read.1
-    (itself_if_none rows reads c (second_so _ _ h)) e
+itself_if_none [] [] c rows_match none = refl
+itself_if_none [] (read ∷ reads) c rows_match none = cc
+itself_if_none (row ∷ rows) [] c rows_match none = cc
+itself_if_none (row ∷ rows) (read ∷ reads) c rows_match none =
+    rw (sym (same_code row read (first_so _ _ rows_match))) (elim (true_or_false (row.0 == c)) [
+      | inl is_here ↦ let no : ⊥ = (let impossible = rw is_here at none in cc) in absurd no
+      | inr is_later ↦ rw is_later
+          (itself_if_none rows reads c (second_so _ _ rows_match) (rw is_later at none))
+    ])
 
 -- all characters
 
-two_or_four_read : (is_gbk : Bool) (c : ℕ) (o : Option ℕ) (b : List ℕ) → gb18030_pointer c ≡ o
-    → two_or_four_bytes is_gbk c o ≡ Some b → Piece b c
-two_or_four_read is_gbk c (Some p) b q e =
-    same_bytes (λ x. Piece x c) (gb18030_pair_bytes p) b (two_piece c p (two_at c p q)) e
-two_or_four_read is_gbk c None b q e =
-    by_test is_gbk None (bytes_of_pointer gb18030_four_bytes (gb18030_ranges_pointer c)) b
-    (λ t f. no_bytes b f)
-    (λ t f. by_pointer (λ x. Piece x c) gb18030_four_bytes (gb18030_ranges_pointer c) b (four c) f)
-    e
+two_or_four_read : (is_gbk : Bool) (c : ℕ) (o : Option ℕ) → gb18030_pointer c ≡ o
+    → IfSome (two_or_four_bytes is_gbk c o) (λ b. Piece b c)
+two_or_four_read is_gbk c (Some p) found = two_piece c p (two_at c p found)
+two_or_four_read true c None found = tt
+two_or_four_read false c None found =
+    by_pointer (λ x. Piece x c) gb18030_four_bytes (gb18030_ranges_pointer c) (four c)
 
-row_or_index_read : (is_gbk : Bool) (c : ℕ) (o : Option (List ℕ)) (b : List ℕ)
-    → row_bytes private_use_rows c ≡ o → row_or_index_bytes is_gbk c o ≡ Some b
-    → Piece b (char_by_rows replaced_characters c)
-row_or_index_read is_gbk c (Some x) b q e =
-    row_is_read private_use_rows replaced_characters c b rows_are_read (q ∙ e)
-row_or_index_read is_gbk c None b q e =
-    same_char _ 0 b c (char_by_rows replaced_characters c)
-    (sym (itself_if_none private_use_rows replaced_characters c rows_are_read q))
-    (two_or_four_read is_gbk c (gb18030_pointer c) b refl e)
+row_or_index_read : (is_gbk : Bool) (c : ℕ) (o : Option (List ℕ)) → row_bytes private_use_rows c ≡ o
+    → IfSome (row_or_index_bytes is_gbk c o) (λ b. Piece b (char_by_rows replaced_characters c))
+row_or_index_read is_gbk c (Some x) found =
+    rw found at (row_is_read private_use_rows replaced_characters c rows_are_read)
+row_or_index_read is_gbk c None found =
+    rw (itself_if_none private_use_rows replaced_characters c rows_are_read found)
+    (two_or_four_read is_gbk c (gb18030_pointer c) refl)
 
-beyond : (is_gbk : Bool) (c : ℕ) (b : List ℕ) → gb18030_other is_gbk c ≡ Some b
-    → Piece b (char_by_rows replaced_characters c)
-beyond is_gbk c b e =
-    by_test (c == 0xE5E5) None _ b (λ t f. no_bytes b f)
-    (λ n g. by_test (is_gbk && c == 0x20AC) _ _ b
-    (λ t f. (let is_euro = second_so is_gbk (c == 0x20AC) t in
-    let euro_is : 0x20AC ≡ c = grind (arith, nat_tests) in
-    same_bytes (λ x. Piece x (char_by_rows replaced_characters c)) (0x80 ∷ []) b
-    (same_char _ 0 (0x80 ∷ []) 0x20AC (char_by_rows replaced_characters c)
-    (ap (char_by_rows replaced_characters) euro_is) euro_piece) f))
-    (λ m f. row_or_index_read is_gbk c (row_bytes private_use_rows c) b refl f) g) e
+beyond : (is_gbk : Bool) (c : ℕ)
+    → IfSome (gb18030_other is_gbk c) (λ b. Piece b (char_by_rows replaced_characters c))
+beyond is_gbk c = elim (true_or_false (c == 0xE5E5)) [
+  | inl is_missing ↦ rw is_missing tt
+  | inr not_missing ↦ elim (true_or_false (is_gbk && c == 0x20AC)) [
+    | inl is_euro ↦
+        let euro : (c == 0x20AC) ≡ true = second_so is_gbk (c == 0x20AC) is_euro in
+        let same : c ≡ 0x20AC = grind (arith, nat_tests) in
+        let char_is : char_by_rows replaced_characters c ≡ 0x20AC =
+        ap (char_by_rows replaced_characters) same in
+        rw (not_missing, is_euro, char_is) euro_piece
+    | inr not_euro ↦ rw (not_missing, not_euro)
+        (row_or_index_read is_gbk c (row_bytes private_use_rows c) refl)
+  ]
+]
 
-low_itself : (c : ℕ) → c < 0x80 → c ≡ char_by_rows replaced_characters c
-low_itself c l =
+low_itself : (c : ℕ) → c < 0x80 → char_by_rows replaced_characters c ≡ c
+low_itself c low =
     let out : (nat_le 0xE5E5 c && nat_le c 0xE864) ≡ false = grind (arith, nat_tests) in
-    sym (itself_if_none private_use_rows replaced_characters c rows_are_read
-    (no_private_use_row c out))
+    itself_if_none private_use_rows replaced_characters c rows_are_read (no_private_use_row c out)
 
 pub gb18030_is_read : (is_gbk : Bool)
     → IsReadBack (multi_byte_rule decoder.gb18030_prefix) (gb18030_bytes is_gbk)
     (char_by_rows replaced_characters)
 gb18030_is_read is_gbk =
     with_ascii_is_read (multi_byte_rule decoder.gb18030_prefix) (gb18030_other is_gbk)
-    (char_by_rows replaced_characters)
-    (λ c l. same_char _ 0 (c ∷ []) c (char_by_rows replaced_characters c) (low_itself c l)
-    (low_piece c l)) (λ c b l e. beyond is_gbk c b e)
+    (char_by_rows replaced_characters) (λ c low. rw (low_itself c low) (low_piece c low))
+    (λ c high. beyond is_gbk c)
 
 -- a text without the characters of rows
 

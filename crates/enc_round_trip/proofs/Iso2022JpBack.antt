@@ -2,8 +2,8 @@
 -- another directly.
 use Rattle.std.proofs.Common.{◌≡◌, ℕ, ◌+◌, ◌-◌, ◌*◌, ◌/◌, ◌%◌, ◌<◌, ◌≤◌, Bool, true, false, cond, eqb, nat_lt, ◌&&◌}
 use Rattle.std.proofs.Common.{◌||◌, ◌==◌, not, is_some, Option, Some, None, List, [], ◌∷◌, ◌++◌, map, refl, ap, sym}
-use Rattle.std.proofs.Common.{subst, ◌∙◌, ◌⊎◌, arith, inl, inr}
-use Rattle.std.proofs.lemmas.Bool.{cond-true, cond-false, or_parts, or_left, or_right, or_from}
+use Rattle.std.proofs.Common.{subst, ◌∙◌, ◌⊎◌, arith, inl, inr, IfSome}
+use Rattle.std.proofs.lemmas.Bool.{cond-true, cond-false, or_parts, or_from}
 use Rattle.std.proofs.lemmas.Bool.Decides.{nat_tests}
 use Rattle.enc_index.specs.Runs.{jis0208_at}
 use Rattle.enc_index_pointers.specs.Pointers.{jis0208_pointer, any_pointer}
@@ -28,8 +28,7 @@ use Rattle.enc_encode.specs.Iso2022Jp.{class_of, has_class, set_of_class, is_shi
 use Rattle.enc_encode.specs.Iso2022Jp.{iso_2022_jp_bytes, iso_2022_jp_encoder_rule}
 use Rattle.enc_encode.proofs.Iso2022JpLemmas.{iso_2022_jp_is_lawful}
 use Rattle.enc_encoder.specs.Unmappable.{any_unmappable}
-use Rattle.enc_round_trip.proofs.ReadBackLemmas.{IsReadAs, read_nothing, read_more, first_mapped, by_test, same_bytes}
-use Rattle.enc_round_trip.proofs.ReadBackLemmas.{no_bytes}
+use Rattle.enc_round_trip.proofs.ReadBackLemmas.{IsReadAs, read_nothing, read_more, first_mapped}
 use Rattle.enc_round_trip.proofs.PointerLemmas.{IsPointer, by_pointer}
 use Rattle.enc_round_trip.proofs.DoubleByteBack.{within}
 use Rattle.enc_round_trip.proofs.JapaneseBack.{at_jis0208_pointer}
@@ -75,38 +74,30 @@ one_read : (s : CharacterSet) (b c : ℕ) → one_byte_char (as_read s) b ≡ So
 one_read s b c e l n =
     record { piece = alone_piece (as_read s) b c e l; plain = λ y. other_front b y n }
 
--- The set in which a character is written has it: which sets these are, by the character.
+-- The set in which a character is written has its class: that of `\`, `A`, U+00A5 or U+4E00.
 
 has : CharacterSet → ℕ → Bool
 has s c = has_class s (class_of c)
 
-latin_set : (s : CharacterSet) (c : ℕ) → (c == 0x5C || c == 0x7E) ≡ true → has s c ≡ true
-    → s ≡ Ascii
-unfolding has
-latin_set Ascii c k h = refl
-latin_set Roman c k h = let impossible = rw k at h in cc
-latin_set Jis0208 c k h = let impossible = rw k at h in cc
+latin_set : (s : CharacterSet) → has_class s (class_of 0x5C) ≡ true → s ≡ Ascii
+latin_set Ascii h = refl
+latin_set Roman h = cc
+latin_set Jis0208 h = cc
 
-neutral_set : (s : CharacterSet) (c : ℕ) → (c == 0x5C || c == 0x7E) ≡ false → nat_lt c 0x80 ≡ true
-    → has s c ≡ true → (s ≡ Ascii) ⊎ (s ≡ Roman)
-unfolding has
-neutral_set Ascii c k l h = inl refl
-neutral_set Roman c k l h = inr refl
-neutral_set Jis0208 c k l h = let impossible = rw (k, l) at h in cc
+neutral_set : (s : CharacterSet) → has_class s (class_of 0x41) ≡ true → (s ≡ Ascii) ⊎ (s ≡ Roman)
+neutral_set Ascii h = inl refl
+neutral_set Roman h = inr refl
+neutral_set Jis0208 h = cc
 
-roman_set : (s : CharacterSet) (c : ℕ) → (c == 0x5C || c == 0x7E) ≡ false → nat_lt c 0x80 ≡ false
-    → (c == 0xA5 || c == 0x203E) ≡ true → has s c ≡ true → s ≡ Roman
-unfolding has
-roman_set Ascii c k l r h = let impossible = rw (k, l, r) at h in cc
-roman_set Roman c k l r h = refl
-roman_set Jis0208 c k l r h = let impossible = rw (k, l, r) at h in cc
+roman_set : (s : CharacterSet) → has_class s (class_of 0xA5) ≡ true → s ≡ Roman
+roman_set Ascii h = cc
+roman_set Roman h = refl
+roman_set Jis0208 h = cc
 
-kanji_set : (s : CharacterSet) (c : ℕ) → (c == 0x5C || c == 0x7E) ≡ false → nat_lt c 0x80 ≡ false
-    → (c == 0xA5 || c == 0x203E) ≡ false → has s c ≡ true → s ≡ Jis0208
-unfolding has
-kanji_set Ascii c k l r h = let impossible = rw (k, l, r) at h in cc
-kanji_set Roman c k l r h = let impossible = rw (k, l, r) at h in cc
-kanji_set Jis0208 c k l r h = refl
+kanji_set : (s : CharacterSet) → has_class s (class_of 0x4E00) ≡ true → s ≡ Jis0208
+kanji_set Ascii h = cc
+kanji_set Roman h = cc
+kanji_set Jis0208 h = refl
 
 -- single bytes
 
@@ -166,64 +157,65 @@ kanji_read c p has_pointer =
 
 -- all characters
 
-itself : (c : ℕ) → is_halfwidth_katakana c ≡ false → (c == 0x2212) ≡ false → c ≡ lookup_char c
-itself c k m = sym (cond-false _ _ _ k ∙ cond-false _ _ _ m)
-
-low_itself : (c : ℕ) → c < 0x80 → c ≡ lookup_char c
-low_itself c l = itself c (grind (arith, nat_tests)) (grind (arith, nat_tests))
-
-valued : (s : CharacterSet) (b : List ℕ) (c d : ℕ) → c ≡ d → IsReadIn s b c → IsReadIn s b d
-valued s b c d e h = subst (IsReadIn s b) e h
-
-there : (s d : CharacterSet) (b : List ℕ) (c : ℕ) → s ≡ d → IsReadIn d b c → IsReadIn s b c
-there s d b c e h = subst (λ x. IsReadIn x b c) (sym e) h
+low_itself : (c : ℕ) → c < 0x80 → lookup_char c ≡ c
+low_itself c low =
+    let no_katakana : is_halfwidth_katakana c ≡ false = grind (arith, nat_tests) in
+    let no_minus : (c == 0x2212) ≡ false = grind (arith, nat_tests) in
+    cond-false _ _ _ no_katakana ∙ cond-false _ _ _ no_minus
 
 low_read : (s : CharacterSet) (c : ℕ) → has s c ≡ true → nat_lt c 0x80 ≡ true → is_shift c ≡ false
-    → IsReadIn s (c ∷ []) (lookup_char c)
-low_read s c has_char is_low not_shift =
-    valued s (c ∷ []) c (lookup_char c) (low_itself c (grind (arith, nat_tests)))
-    (elim (true_or_false (c == 0x5C || c == 0x7E)) [
-      | inl k ↦ there s Ascii (c ∷ []) c (latin_set s c k has_char) (in_ascii c is_low not_shift)
-      | inr k ↦ elim (neutral_set s c k is_low has_char) [
-        | inl e ↦ there s Ascii (c ∷ []) c e (in_ascii c is_low not_shift)
-        | inr e ↦ there s Roman (c ∷ []) c e (in_roman c is_low not_shift k)
-      ]
-    ])
+    → IsReadIn s (c ∷ []) c
+unfolding has
+low_read s c has_char is_low not_shift = elim (true_or_false (c == 0x5C || c == 0x7E)) [
+  | inl is_latin ↦ rw (latin_set s (rw is_latin at has_char)) (in_ascii c is_low not_shift)
+  | inr not_latin ↦ elim (neutral_set s (rw (not_latin, is_low) at has_char)) [
+    | inl is_ascii ↦ rw is_ascii (in_ascii c is_low not_shift)
+    | inr is_roman ↦ rw is_roman (in_roman c is_low not_shift not_latin)
+  ]
+]
 
-no_latin : (c : ℕ) → nat_lt c 0x80 ≡ false → (c == 0x5C || c == 0x7E) ≡ false
-no_latin c l = grind (arith, nat_tests)
+not_latin : (c : ℕ) → nat_lt c 0x80 ≡ false → (c == 0x5C || c == 0x7E) ≡ false
+not_latin c high = grind (arith, nat_tests)
 
-char_read : (s : CharacterSet) (c : ℕ) (b : List ℕ) → has s c ≡ true → iso_2022_jp_bytes c ≡ Some b
-    → IsReadIn s b (lookup_char c)
-char_read s c b has_char e =
-    by_test (nat_lt c 0x80) _ _ b
-    (λ t. by_test (is_shift c) None (Some (c ∷ [])) b (λ n f. no_bytes b f)
-    (λ n f. same_bytes (λ x. IsReadIn s x (lookup_char c)) (c ∷ []) b (low_read s c has_char t n)
-    f))
-    (λ l. by_test (c == 0xA5) _ _ b
-    (λ t f. (let is_yen : 0xA5 ≡ c = grind (arith, nat_tests) in
-    same_bytes (λ x. IsReadIn s x (lookup_char c)) (0x5C ∷ []) b
-    (there s Roman (0x5C ∷ []) (lookup_char c)
-    (roman_set s c (no_latin c l) l (or_left _ _ t) has_char)
-    (valued Roman (0x5C ∷ []) 0xA5 (lookup_char c) (ap lookup_char is_yen) yen_read)) f))
-    (λ yen. by_test (c == 0x203E) _ _ b
-    (λ t f. (let is_line : 0x203E ≡ c = grind (arith, nat_tests) in
-    same_bytes (λ x. IsReadIn s x (lookup_char c)) (0x7E ∷ []) b
-    (there s Roman (0x7E ∷ []) (lookup_char c)
-    (roman_set s c (no_latin c l) l (or_right _ _ t) has_char)
-    (valued Roman (0x7E ∷ []) 0x203E (lookup_char c) (ap lookup_char is_line) line_read)) f))
-    (λ line f. by_pointer (λ x. IsReadIn s x (lookup_char c)) jis0208_pair_bytes
-    (jis0208_pointer (lookup_char c)) b
-    (λ p g. there s Jis0208 (jis0208_pair_bytes p) (lookup_char c)
-    (kanji_set s c (no_latin c l) l (or_from _ _ yen line) has_char)
-    (kanji_read (lookup_char c) p (at_jis0208_pointer (lookup_char c) p g))) f))) e
+high_read : (s : CharacterSet) (c : ℕ) → has s c ≡ true → nat_lt c 0x80 ≡ false
+    → (c == 0xA5) ≡ false → (c == 0x203E) ≡ false → (p : ℕ)
+    → jis0208_pointer (lookup_char c) ≡ Some p → IsReadIn s (jis0208_pair_bytes p) (lookup_char c)
+unfolding has
+high_read s c has_char high not_yen not_line p found =
+    let set_is = kanji_set s (rw (not_latin c high, high, or_from _ _ not_yen not_line) at has_char)
+    in
+    rw set_is (kanji_read (lookup_char c) p (at_jis0208_pointer (lookup_char c) p found))
+
+char_read : (s : CharacterSet) (c : ℕ) → has s c ≡ true
+    → IfSome (iso_2022_jp_bytes c) (λ b. IsReadIn s b (lookup_char c))
+unfolding has
+char_read s c has_char = elim (true_or_false (nat_lt c 0x80)) [
+  | inl low ↦ elim (true_or_false (is_shift c)) [
+    | inl is_shift_code ↦ rw (low, is_shift_code) tt
+    | inr not_shift ↦ rw (low, not_shift, low_itself c (grind (arith, nat_tests)))
+        (low_read s c has_char low not_shift)
+  ]
+  | inr high ↦ elim (true_or_false (c == 0xA5)) [
+    | inl is_yen ↦
+        let yen : c ≡ 0xA5 = grind (arith, nat_tests) in
+        rw (yen, roman_set s (rw yen at has_char)) yen_read
+    | inr not_yen ↦ elim (true_or_false (c == 0x203E)) [
+      | inl is_line ↦
+          let line : c ≡ 0x203E = grind (arith, nat_tests) in
+          rw (line, roman_set s (rw line at has_char)) line_read
+      | inr not_line ↦ rw (high, not_yen, not_line)
+          (by_pointer (λ x. IsReadIn s x (lookup_char c)) jis0208_pair_bytes
+          (jis0208_pointer (lookup_char c)) (high_read s c has_char high not_yen not_line))
+    ]
+  ]
+]
 
 -- texts
 
-one : (s : CharacterSet) (c : ℕ) (b : Option (List ℕ)) → has s c ≡ true → iso_2022_jp_bytes c ≡ b
+one : (s : CharacterSet) (c : ℕ) (b : Option (List ℕ)) → IfSome b (λ x. IsReadIn s x (lookup_char c))
     → is_some b ≡ true → IsReadIn s (list_or_empty b) (lookup_char c)
-one s c None h e m = cc
-one s c (Some b) h e m = char_read s c b h e
+one s c None read some = cc
+one s c (Some b) read some = read
 
 char_then : (s : CharacterSet) (b y t : List ℕ) (c : ℕ) → IsReadIn s b c
     → IsReadAs jp_rule (number s) y t → IsReadAs jp_rule (number s) (b ++ y) (c ∷ t)
@@ -238,11 +230,11 @@ step : (s : CharacterSet) (c : ℕ) (y t : List ℕ) (is_there : Bool) → has s
     ++ (list_or_empty (iso_2022_jp_bytes c) ++ y)) (lookup_char c ∷ t)
 unfolding has
 step s c y t true e m h =
-    char_then s _ y t (lookup_char c) (one s c (iso_2022_jp_bytes c) e refl m) h
+    char_then s _ y t (lookup_char c) (one s c (iso_2022_jp_bytes c) (char_read s c e) m) h
 step s c y t false e m h =
     let designated = set_of_class (class_of c) in
-    let one_step = one designated c (iso_2022_jp_bytes c) (iso_2022_jp_is_lawful.designates c) refl
-    m in
+    let one_step = one designated c (iso_2022_jp_bytes c)
+    (char_read designated c (iso_2022_jp_is_lawful.designates c)) m in
     after_escape (number s) designated (list_or_empty (iso_2022_jp_bytes c) ++ y)
     (lookup_char c ∷ t) (one_step.plain y)
     (char_then designated _ y t (lookup_char c) one_step h)

@@ -1,6 +1,6 @@
 -- Lemmas that the Japanese encodings share.
 use Rattle.std.proofs.Common.{◌≡◌, ℕ, ◌<◌, ◌≤◌, true, false, ◌==◌, Option, Some, None, List, [], ◌∷◌, ap, sym, ◌∙◌}
-use Rattle.std.proofs.Common.{arith, if◌then◌else◌}
+use Rattle.std.proofs.Common.{arith, if◌then◌else◌, refl, IfSome, inl, inr}
 use Rattle.std.proofs.lemmas.Bool.{cond-true, cond-false}
 use Rattle.std.proofs.lemmas.Bool.Decides.{nat_tests}
 use Rattle.enc_index.specs.Runs.{jis0208_at}
@@ -10,7 +10,7 @@ use Rattle.enc_decoder.specs.Taking.{IsWholeChar}
 use Rattle.enc_decoder_multi_byte.specs.Katakana as read
 use Rattle.enc_encode.specs.Japanese.{is_halfwidth_katakana, katakana_byte}
 use Rattle.enc_round_trip.specs.RoundTrip.{ascii_twin_or}
-use Rattle.enc_round_trip.proofs.ReadBackLemmas.{by_test, same_bytes, same_char}
+use Rattle.enc_decoder.proofs.FirstSequenceLemmas.{true_or_false}
 use Rattle.enc_round_trip.proofs.PointerLemmas.{IsPointer, is_pointer}
 
 pub at_jis0208_pointer : (c p : ℕ) → jis0208_pointer c ≡ Some p
@@ -33,31 +33,25 @@ pub katakana_byte_is_read : (c : ℕ) → is_halfwidth_katakana c ≡ true
     then Some (read.katakana_of_byte (katakana_byte c)) else None) ≡ Some c
 katakana_byte_is_read c k = katakana_is_read c (grind (arith, nat_tests)) (grind (arith, nat_tests))
 
--- a character other than U+00A5 and U+203E
-pub not_latin : (f : ℕ → ℕ) (c : ℕ) → (c == 0xA5) ≡ false → (c == 0x203E) ≡ false
-    → f c ≡ ascii_twin_or f c
-not_latin f c yen line = sym (cond-false _ _ _ yen ∙ cond-false _ _ _ line)
+-- U+00A5 and U+203E are read as `\` and `~`, ASCII as itself, and other characters by `f`
 
--- ASCII is no such character
-pub low_not_latin : (f : ℕ → ℕ) (c : ℕ) → c ≤ 0x80 → f c ≡ ascii_twin_or f c
-low_not_latin f c l = not_latin f c (grind (arith, nat_tests)) (grind (arith, nat_tests))
+pub low_not_latin : (f : ℕ → ℕ) (c : ℕ) → c ≤ 0x80 → ascii_twin_or f c ≡ f c
+low_not_latin f c low =
+    let not_yen : (c == 0xA5) ≡ false = grind (arith, nat_tests) in
+    let not_line : (c == 0x203E) ≡ false = grind (arith, nat_tests) in
+    rw (not_yen, not_line) refl
 
--- these two, as `\` and `~`, and others
-pub latin_is_read : (rule : Rule) (other : Option (List ℕ)) (f : ℕ → ℕ) (c : ℕ) (b : List ℕ)
+pub latin_is_read : (rule : Rule) (other : Option (List ℕ)) (f : ℕ → ℕ) (c : ℕ)
     → ((a : ℕ) → a < 0x80 → IsWholeChar rule 0 (a ∷ []) a)
-    → ((c == 0xA5) ≡ false → (c == 0x203E) ≡ false → other ≡ Some b → IsWholeChar rule 0 b (f c))
-    → (if c == 0xA5 then Some (0x5C ∷ []) else if c == 0x203E then Some (0x7E ∷ []) else other)
-    ≡ Some b
-    → IsWholeChar rule 0 b (ascii_twin_or f c)
-latin_is_read rule other f c b ascii beyond =
-    let IsRead : List ℕ → Type 0 = λ x. IsWholeChar rule 0 x (ascii_twin_or f c) in
-    by_test (c == 0xA5) _ _ b
-    (λ t. same_bytes IsRead (0x5C ∷ []) b
-    (same_char rule 0 (0x5C ∷ []) 0x5C (ascii_twin_or f c) (sym (cond-true _ _ _ t))
-    (ascii 0x5C (omega arith))))
-    (λ yen. by_test (c == 0x203E) _ _ b
-    (λ t. same_bytes IsRead (0x7E ∷ []) b
-    (same_char rule 0 (0x7E ∷ []) 0x7E (ascii_twin_or f c)
-    (sym (cond-false _ _ _ yen ∙ cond-true _ _ _ t)) (ascii 0x7E (omega arith))))
-    (λ line e. same_char rule 0 b (f c) (ascii_twin_or f c) (not_latin f c yen line)
-    (beyond yen line e)))
+    → ((c == 0xA5) ≡ false → (c == 0x203E) ≡ false
+    → IfSome other (λ b. IsWholeChar rule 0 b (f c)))
+    → IfSome
+    (if c == 0xA5 then Some (0x5C ∷ []) else if c == 0x203E then Some (0x7E ∷ []) else other)
+    (λ b. IsWholeChar rule 0 b (ascii_twin_or f c))
+latin_is_read rule other f c ascii beyond = elim (true_or_false (c == 0xA5)) [
+  | inl yen ↦ rw yen (ascii 0x5C (omega arith))
+  | inr not_yen ↦ elim (true_or_false (c == 0x203E)) [
+    | inl line ↦ rw (not_yen, line) (ascii 0x7E (omega arith))
+    | inr not_line ↦ rw (not_yen, not_line) (beyond not_yen not_line)
+  ]
+]

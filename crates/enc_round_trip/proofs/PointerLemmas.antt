@@ -1,5 +1,5 @@
 -- The pointer of a character is one at which the index has it, whatever rows stand there.
-use Rattle.std.proofs.Common.{◌≡◌, ℕ, zero, suc, ◌<◌, Bool, true, false, ◌&&◌, cond, Option, Some, None, List, refl, ap}
+use Rattle.std.proofs.Common.{◌≡◌, ℕ, zero, suc, ◌<◌, Bool, true, false, ◌&&◌, cond, Option, Some, None, List, refl, ap, IfSome}
 use Rattle.std.proofs.Common.{subst, arith}
 use Rattle.std.proofs.lemmas.Bool.Decides.{nat_tests}
 use Rattle.std.specs.Cmp.{first_so, second_so}
@@ -61,7 +61,7 @@ is_pointer at counts is_by_last bound c p e =
     }
 
 -- the bytes of a pointer
-pub by_pointer : (P : List ℕ → Type 0) (bytes : ℕ → List ℕ) (o : Option ℕ) (b : List ℕ)
-    → ((p : ℕ) → o ≡ Some p → P (bytes p)) → bytes_of_pointer bytes o ≡ Some b → P b
-by_pointer P bytes None b h e = cc
-by_pointer P bytes (Some p) b h e = let same : bytes p ≡ b = cc in subst P same (h p refl)
+pub by_pointer : (P : List ℕ → Type 0) (bytes : ℕ → List ℕ) (o : Option ℕ)
+    → ((p : ℕ) → o ≡ Some p → P (bytes p)) → IfSome (bytes_of_pointer bytes o) P
+by_pointer P bytes None read = tt
+by_pointer P bytes (Some p) read = read p refl

@@ -1,6 +1,6 @@
 -- Texts are read back where each character is, in encodings without escape sequences.
-use Rattle.std.proofs.Common.{◌≡◌, ℕ, ◌<◌, ◌≤◌, Bool, true, false, nat_lt, cond, not, is_some, Option, Some, None, List}
-use Rattle.std.proofs.Common.{[], ◌∷◌, ◌++◌, map, refl, ap, subst, ◌∙◌, arith}
+use Rattle.std.proofs.Common.{◌≡◌, ℕ, ◌<◌, ◌≤◌, Bool, true, false, nat_lt, not, is_some, Option, Some, None, List}
+use Rattle.std.proofs.Common.{[], ◌∷◌, ◌++◌, map, refl, ap, ◌∙◌, arith, IfSome, inl, inr}
 use Rattle.std.proofs.lemmas.Bool.{or_parts}
 use Rattle.std.proofs.lemmas.Bool.Decides.{nat_tests}
 use Rattle.std.specs.Char.{IsScalar}
@@ -9,6 +9,7 @@ use Rattle.enc_units.specs.Output.{AreScalars}
 use Rattle.enc_decoder.specs.Sequence.{sequence_text, any_malformed}
 use Rattle.enc_decoder.specs.Segmentation.{Rule, sequences_of}
 use Rattle.enc_decoder.specs.Taking.{IsWholeChar}
+use Rattle.enc_decoder.proofs.FirstSequenceLemmas.{true_or_false}
 use Rattle.enc_decoder.proofs.SegmentationLemmas.{sequences_of-nil}
 use Rattle.enc_encoder.specs.declared.character_set.CharacterSet.TheVariants.{Ascii}
 use Rattle.enc_encoder.specs.EncoderRule.{EncoderRule}
@@ -50,14 +51,14 @@ first_mapped e c t h =
 
 -- the bytes of each character are read as one character, whatever follows them
 pub record IsReadBack (rule : Rule) (bytes : ℕ → Option (List ℕ)) (back : ℕ → ℕ) : Type 0 where
-  pub each : (c : ℕ) → IsScalar c → (b : List ℕ) → bytes c ≡ Some b → IsWholeChar rule 0 b (back c)
+  pub each : (c : ℕ) → IsScalar c → IfSome (bytes c) (λ b. IsWholeChar rule 0 b (back c))
 
 module _ (rule : Rule) (bytes : ℕ → Option (List ℕ)) (back : ℕ → ℕ) (h : IsReadBack rule bytes back)
   where
-    one : (c : ℕ) (b : Option (List ℕ)) → bytes c ≡ b → is_some b ≡ true → IsScalar c
-        → IsWholeChar rule 0 (list_or_empty b) (back c)
-    one c None e m s = cc
-    one c (Some b) e m s = h.each c s b e
+    one : (c : ℕ) (b : Option (List ℕ)) → IfSome b (λ x. IsWholeChar rule 0 x (back c))
+        → is_some b ≡ true → IsWholeChar rule 0 (list_or_empty b) (back c)
+    one c None read some = cc
+    one c (Some b) read some = read
 
     suffix_is_read : (u t : List ℕ) → AreScalars t → any_unmappable (stateless_rule bytes) t ≡ false
         → IsReadAs rule 0 (bytes_after_text (stateless_rule bytes) Ascii u t) (map back t)
@@ -66,7 +67,7 @@ module _ (rule : Rule) (bytes : ℕ → Option (List ℕ)) (back : ℕ → ℕ) 
         let both = first_mapped (stateless_rule bytes) c t m in
         read_more rule 0 (list_or_empty (bytes c)) (back c)
         (bytes_after_text (stateless_rule bytes) Ascii (u ++ c ∷ []) t) (map back t)
-        (one c (bytes c) refl both.0 (first_so _ _ scalars))
+        (one c (bytes c) (h.each c (first_so _ _ scalars)) both.0)
         (suffix_is_read (u ++ c ∷ []) t (second_so _ _ scalars) both.1)
 
     -- and so is a text
@@ -74,33 +75,14 @@ module _ (rule : Rule) (bytes : ℕ → Option (List ℕ)) (back : ℕ → ℕ) 
         → IsReadAs rule 0 (bytes_of_text (stateless_rule bytes) Ascii t) (map back t)
     text_is_read t s m = suffix_is_read [] t s m
 
--- by cases
-
-pub by_test : {P : Type 0} (t : Bool) (x y : Option (List ℕ)) (b : List ℕ)
-    → (t ≡ true → x ≡ Some b → P) → (t ≡ false → y ≡ Some b → P) → cond t x y ≡ Some b → P
-by_test true x y b f g e = f refl e
-by_test false x y b f g e = g refl e
-
-pub same_bytes : (P : List ℕ → Type 0) (a b : List ℕ) → P a → Some a ≡ Some b → P b
-same_bytes P a b p e = let same : a ≡ b = cc in subst P same p
-
-pub no_bytes : {P : Type 0} (b : List ℕ) → None ≡ Some b → P
-no_bytes b e = cc
-
 -- ASCII, and the characters beyond it
 pub with_ascii_is_read : (rule : Rule) (others : ℕ → Option (List ℕ)) (back : ℕ → ℕ)
     → ((c : ℕ) → c < 0x80 → IsWholeChar rule 0 (c ∷ []) (back c))
-    → ((c : ℕ) (b : List ℕ) → 0x80 ≤ c → others c ≡ Some b → IsWholeChar rule 0 b (back c))
+    → ((c : ℕ) → 0x80 ≤ c → IfSome (others c) (λ b. IsWholeChar rule 0 b (back c)))
     → IsReadBack rule (with_ascii others) back
 with_ascii_is_read rule others back ascii beyond = record {
-  each = λ c s b e. by_test (nat_lt c 0x80) (Some (c ∷ [])) (others c) b
-      (λ t f. same_bytes (λ x. IsWholeChar rule 0 x (back c)) (c ∷ []) b
-      (ascii c (grind (arith, nat_tests))) f)
-      (λ t f. beyond c b (grind (arith, nat_tests)) f)
-      e;
+  each = λ c scalar. elim (true_or_false (nat_lt c 0x80)) [
+    | inl low ↦ rw low (ascii c (grind (arith, nat_tests)))
+    | inr high ↦ rw high (beyond c (grind (arith, nat_tests)))
+  ];
 }
-
--- the same bytes, read as the same character
-pub same_char : (rule : Rule) (set : ℕ) (b : List ℕ) (c d : ℕ) → c ≡ d → IsWholeChar rule set b c
-    → IsWholeChar rule set b d
-same_char rule set b c d e p = subst (IsWholeChar rule set b) e p

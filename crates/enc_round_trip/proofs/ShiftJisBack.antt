@@ -1,6 +1,7 @@
 -- The characters that Shift_JIS gives back.
 use Rattle.std.proofs.Common.{◌≡◌, ℕ, ◌+◌, ◌-◌, ◌*◌, ◌/◌, ◌%◌, ◌<◌, ◌≤◌, Bool, true, false, nat_lt, nat_le, ◌&&◌, ◌||◌}
 use Rattle.std.proofs.Common.{◌==◌, Some, List, [], ◌∷◌, refl, ap, sym, ◌∙◌, arith, le-leb, if◌then◌else◌}
+use Rattle.std.proofs.Common.{IfSome, inl, inr}
 use Rattle.std.proofs.lemmas.Bool.{cond-true, cond-false, or_left, or_right, or_from}
 use Rattle.std.proofs.lemmas.Bool.Decides.{nat_tests}
 use Rattle.enc_index.specs.Runs.{jis0208_at}
@@ -13,8 +14,9 @@ use Rattle.enc_decoder_multi_byte.specs.ShiftJis as decoder
 use Rattle.enc_encode.specs.Japanese.{is_halfwidth_katakana, katakana_byte, with_fullwidth_minus}
 use Rattle.enc_encode.specs.ShiftJis.{shift_jis_lead_byte, shift_jis_trail_byte, shift_jis_pair_bytes, shift_jis_other}
 use Rattle.enc_encode.specs.ShiftJis.{shift_jis_bytes}
+use Rattle.enc_decoder.proofs.FirstSequenceLemmas.{true_or_false}
 use Rattle.enc_round_trip.specs.RoundTrip.{ascii_twin_or, private_use_or, char_read_in_shift_jis}
-use Rattle.enc_round_trip.proofs.ReadBackLemmas.{IsReadBack, with_ascii_is_read, by_test, same_bytes, same_char}
+use Rattle.enc_round_trip.proofs.ReadBackLemmas.{IsReadBack, with_ascii_is_read}
 use Rattle.enc_round_trip.proofs.PointerLemmas.{IsPointer, is_pointer, by_pointer}
 use Rattle.enc_round_trip.proofs.DoubleByteBack.{single_piece, pair_piece}
 use Rattle.enc_round_trip.proofs.JapaneseBack.{katakana_byte_is_read, low_not_latin, latin_is_read}
@@ -93,51 +95,46 @@ katakana_piece c k =
 
 -- all characters
 
-itself : (c : ℕ) → (nat_le c 0x80 || is_halfwidth_katakana c) ≡ true → c ≡ char_read_in_shift_jis c
-itself c t = sym (cond-true _ _ _ t)
+low_itself : (c : ℕ) → c ≤ 0x80 → ascii_twin_or char_read_in_shift_jis c ≡ c
+low_itself c low =
+    low_not_latin char_read_in_shift_jis c low ∙ cond-true _ _ _ (or_left _ _ (le-leb c 0x80 low))
 
-low_itself : (c : ℕ) → c ≤ 0x80 → c ≡ ascii_twin_or char_read_in_shift_jis c
-low_itself c is_ascii =
-    itself c (or_left _ _ (le-leb c 0x80 is_ascii))
-    ∙ low_not_latin char_read_in_shift_jis c is_ascii
-
-by_index : (c p : ℕ) → nat_le c 0x80 ≡ false → is_halfwidth_katakana c ≡ false
-    → shift_jis_pointer (with_fullwidth_minus c) ≡ Some p
-    → Piece (shift_jis_pair_bytes p) (char_read_in_shift_jis c)
-by_index c p l k is_some_pointer =
-    let has_pointer = at_pointer (with_fullwidth_minus c) p is_some_pointer in
-    let char_is : private_use_or (with_fullwidth_minus c) (Some p) ≡ char_read_in_shift_jis c =
-    ap (private_use_or (with_fullwidth_minus c)) (sym is_some_pointer)
-    ∙ sym (cond-false _ _ _ (or_from _ _ l k)) in
-    same_char _ 0 (shift_jis_pair_bytes p) _ (char_read_in_shift_jis c) char_is
-    (pair_piece decoder.is_shift_jis_lead decoder.shift_jis_single_char decoder.shift_jis_pair_text
+by_index : (c p : ℕ) → shift_jis_pointer c ≡ Some p
+    → Piece (shift_jis_pair_bytes p) (private_use_or c (Some p))
+by_index c p found =
+    let has_pointer = at_pointer c p found in
+    pair_piece decoder.is_shift_jis_lead decoder.shift_jis_single_char decoder.shift_jis_pair_text
     (shift_jis_lead_byte (p / 188)) (shift_jis_trail_byte (p % 188)) _
-    (is_lead (p / 188) (let below = has_pointer.below in omega arith))
-    (is_pair (with_fullwidth_minus c) p has_pointer))
+    (is_lead (p / 188) (let below = has_pointer.below in omega arith)) (is_pair c p has_pointer)
 
-beyond : (c : ℕ) (b : List ℕ) → 0x80 ≤ c → shift_jis_other c ≡ Some b
-    → Piece b (ascii_twin_or char_read_in_shift_jis c)
-beyond c b l =
-    by_test (c == 0x80) _ _ b
-    (λ t. (let same : 0x80 ≡ c = grind (arith, nat_tests) in
-    same_bytes (λ x. Piece x (ascii_twin_or char_read_in_shift_jis c)) (0x80 ∷ []) b
-    (same_char _ 0 (0x80 ∷ []) 0x80 (ascii_twin_or char_read_in_shift_jis c)
-    (same ∙ low_itself c (omega arith)) (low_piece 0x80 (omega arith)))))
-    (λ n. latin_is_read (multi_byte_rule decoder.shift_jis_prefix) _ char_read_in_shift_jis c b
-    (λ a m. low_piece a (omega arith))
-    (λ yen line. by_test (is_halfwidth_katakana c) _ _ b
-    (λ is_katakana. same_bytes (λ x. Piece x (char_read_in_shift_jis c)) (katakana_byte c ∷ []) b
-    (same_char _ 0 (katakana_byte c ∷ []) c (char_read_in_shift_jis c)
-    (itself c (or_right _ _ is_katakana))
-    (katakana_piece c is_katakana)))
-    (λ k. by_pointer (λ x. Piece x (char_read_in_shift_jis c)) shift_jis_pair_bytes
-    (shift_jis_pointer (with_fullwidth_minus c)) b
-    (λ p. by_index c p (grind (arith, nat_tests)) k))))
+beyond : (c : ℕ) → 0x80 ≤ c
+    → IfSome (shift_jis_other c) (λ b. Piece b (ascii_twin_or char_read_in_shift_jis c))
+beyond c high = elim (true_or_false (c == 0x80)) [
+  | inl is_80 ↦
+      let same : c ≡ 0x80 = grind (arith, nat_tests) in rw same (low_piece 0x80 (omega arith))
+  | inr not_80 ↦ rw not_80 (latin_is_read (multi_byte_rule decoder.shift_jis_prefix) _
+      char_read_in_shift_jis c (λ a low. low_piece a (omega arith))
+      (λ not_yen not_line. elim (true_or_false (is_halfwidth_katakana c)) [
+        | inl is_katakana ↦
+            let itself : char_read_in_shift_jis c ≡ c =
+            cond-true _ _ _ (or_right _ _ is_katakana) in
+            rw (itself, is_katakana) (katakana_piece c is_katakana)
+        | inr no_katakana ↦
+            let looked_up = with_fullwidth_minus c in
+            let no_low : nat_le c 0x80 ≡ false = grind (arith, nat_tests) in
+            let by_pointer_alone : char_read_in_shift_jis c
+            ≡ private_use_or looked_up (shift_jis_pointer looked_up) =
+            cond-false _ _ _ (or_from _ _ no_low no_katakana) in
+            rw (by_pointer_alone, no_katakana) (by_pointer
+            (λ x. Piece x (private_use_or looked_up (shift_jis_pointer looked_up)))
+            shift_jis_pair_bytes (shift_jis_pointer looked_up)
+            (λ p found. rw found (by_index looked_up p found)))
+      ]))
+]
 
 pub shift_jis_is_read : IsReadBack (multi_byte_rule decoder.shift_jis_prefix) shift_jis_bytes
     (ascii_twin_or char_read_in_shift_jis)
 shift_jis_is_read =
     with_ascii_is_read (multi_byte_rule decoder.shift_jis_prefix) shift_jis_other
     (ascii_twin_or char_read_in_shift_jis)
-    (λ c l. same_char _ 0 (c ∷ []) c (ascii_twin_or char_read_in_shift_jis c)
-    (low_itself c (omega arith)) (low_piece c (omega arith))) beyond
+    (λ c low. rw (low_itself c (omega arith)) (low_piece c (omega arith))) beyond

@@ -16,7 +16,10 @@ use Rattle.enc_encoder.specs.declared.character_set.CharacterSet.{CharacterSet}
 use Rattle.enc_units.specs.declared.encoder_result.EncoderResult.{EncoderResult}
 use Rattle.enc_units.specs.declared.encoder_result.EncoderResult.TheVariants.{InputEmpty, OutputFull, Unmappable}
 use Rattle.enc_encoder.specs.Steps.{Step}
-use Rattle.enc_encoder.specs.ErrorMode.{EncodeErrorMode, Fatal, Html, MapsEveryCharacter, EncoderCallInMode}
+use Rattle.enc_encoder.specs.ErrorMode.{EncodeErrorMode, Fatal, Html, MapsEveryCharacter, CallInMode, IsCallInMode}
+use Rattle.enc_encoder.specs.ErrorMode.{mode_of}
+use Rattle.enc_encoder.specs.declared.error_mode.ErrorMode.{ErrorMode}
+use Rattle.enc_encoder.specs.declared.error_mode.ErrorMode.TheVariants as code
 use Rattle.enc_encoder.specs.ErrorMode.{StopsInMode, is_nothing_left}
 use Rattle.enc_encode.specs.Encoders.{EncoderFacts, encoder_facts, encoder_rule, facts_or_utf_8, output_facts}
 use Rattle.enc_encode.specs.EncoderLaws.{StaysInAscii}
@@ -27,7 +30,7 @@ use Rattle.enc_stream.specs.declared.encoding.Encoding.{Encoding}
 use Rattle.enc_names.specs.EncodingTable.{codec_by_id, output_by_id}
 use Rattle.enc_stream.specs.Encodings.{rule_or_utf_8, output_rule}
 use Rattle.enc_stream.specs.Properties.{output_encoding_of, is_ascii_compatible}
-use Rattle.enc_stream.specs.Encoder.{EncoderState, EncodesChunk, is_utf_8, maps_every_character, html_mode_in}
+use Rattle.enc_stream.specs.Encoder.{EncoderState, EncodesChunk, is_utf_8, maps_every_character, raw_state}
 use Rattle.enc_stream.proofs.PropertyLemmas.{listed_ascii}
 
 has_encoder_by_id : (id : EncodingId)
@@ -46,10 +49,11 @@ pub is_output_rule : (b : List ℕ) (o : Option EncoderRule) (rule : EncoderRule
 is_output_rule b None rule e = cc
 is_output_rule b (Some x) rule e = cc
 
--- how many bytes are kept back, where every character is mappable and elsewhere
-pub kept_by : (b : List ℕ) (e : Encoding) (every : Bool) → maps_every_character b e ≡ every
-    → Html (if every then 0 else 10) ≡ html_mode_in b e
-kept_by b e every h = ap (λ t. Html (if t then 0 else 10)) (sym h)
+-- the error mode of calls that write references, where every character is mappable and elsewhere
+pub html_mode_is : (every : Bool)
+    → mode_of (if every then code.HtmlOfMappable else code.Html) ≡ Html (if every then 0 else 10)
+html_mode_is true = refl
+html_mode_is false = refl
 
 rule_by_id : EncodingId → EncoderRule
 rule_by_id id = rule_or_utf_8 (encoder_rule (codec_by_id id))
@@ -59,12 +63,33 @@ utf_8_has Utf8 h = refl
 utf_8_has _ h = cc
 
 -- UTF-8 has every character, where none is barred
-pub maps_all : (b : List ℕ) (e : Encoding) (rule : EncoderRule) → rule ≡ output_rule b e
-    → maps_every_character b e ≡ true → MapsEveryCharacter rule
+maps_all : (b : List ℕ) (e : Encoding) → maps_every_character b e ≡ true
+    → MapsEveryCharacter (output_rule b e)
 unfolding rule_by_id
-maps_all [] e rule r h =
-    subst MapsEveryCharacter (sym (r ∙ ap rule_by_id (utf_8_has e.id h))) (λ c. refl)
-maps_all (x ∷ b) e rule r h = cc
+maps_all [] e every =
+    subst MapsEveryCharacter (sym (ap rule_by_id (utf_8_has e.id every))) (λ c. refl)
+maps_all (x ∷ b) e every = cc
+
+is_every : (every : Bool)
+    → (if every then code.HtmlOfMappable else code.Html) ≡ code.HtmlOfMappable → every ≡ true
+is_every true mode_is = refl
+is_every false mode_is = cc
+
+-- so calls that write references may keep no bytes free
+pub may_keep_none : (b : List ℕ) (e : Encoding) {rule : EncoderRule} {mode : ErrorMode}
+    → rule ≡ output_rule b e
+    → mode ≡ (if maps_every_character b e then code.HtmlOfMappable else code.Html)
+    → mode ≡ code.HtmlOfMappable → MapsEveryCharacter rule
+may_keep_none b e rule_is mode_is is_mappable =
+    subst MapsEveryCharacter (sym rule_is)
+    (maps_all b e (is_every _ (sym mode_is ∙ is_mappable)))
+
+-- such a call reports no character
+pub never_reported : {units_of : ℕ → List ℕ} {old new : RawEncoderState} {c : CallInMode}
+    → IsCallInMode units_of old new c → {kept : ℕ} → c.mode ≡ Html kept
+    → (k : ℕ) → c.result ≡ Unmappable k → ⊥
+never_reported {new = new} {c} call is_html k is_report =
+    rw (is_html, is_report) at call.stops
 
 -- An encoding writes by the rule of its facts.
 
@@ -126,68 +151,41 @@ ends_in_ascii mode new rest last room done (Unmappable k) s q l = cc
 
 -- A call of the raw encoder is one of the encoder.
 module _ {units_of : ℕ → List ℕ} (barred : List ℕ) (encoding : Encoding) {old new : RawEncoderState}
-    (keeps : old.rule ≡ output_rule barred encoding) {mode : EncodeErrorMode} {src rest : List ℕ}
-    {last : Bool}
-    {room : ℕ} {result : EncoderResult} {read : ℕ} {wrote : List ℕ} {replaced : Bool}
-    (call : EncoderCallInMode units_of mode old new src rest last room result read wrote replaced)
-  where
-    abbrev with_set : CharacterSet → EncoderState
-    with_set set = record { encoding = encoding; barred = barred; set = set }
+    (keeps : old.rule ≡ output_rule barred encoding) {c : CallInMode}
+    (call : IsCallInMode units_of old new c) where
+  abbrev with_set : CharacterSet → EncoderState
+  with_set set = record { encoding = encoding; barred = barred; set = set }
 
-    rule_stays : new.rule ≡ output_rule barred encoding
-    rule_stays = call.rule ∙ keeps
+  same : (state : RawEncoderState) → state.rule ≡ output_rule barred encoding
+      → state ≡ raw_state (with_set state.set)
+  same state rule_is =
+      let with_rule : EncoderRule → RawEncoderState = λ r. record { rule = r; set = state.set } in
+      ap with_rule rule_is
 
-    same : (state : RawEncoderState) → state.rule ≡ output_rule barred encoding
-        → state ≡ record { rule = output_rule barred encoding; set = state.set }
-    same state rule_is =
-        let with_rule : EncoderRule → RawEncoderState = λ r. record { rule = r; set = state.set } in
-        ap with_rule rule_is
+  pub encodes_by : {mode : EncodeErrorMode} → c.mode ≡ mode
+      → EncodesChunk units_of mode (with_set old.set) (with_set new.set) c.src c.last c.room
+      c.result c.read c.wrote c.replaced
+  encodes_by is_mode = rw (sym is_mode) (record {
+    encoding = refl;
+    barred = refl;
+    rest = c.rest;
+    call =
+        subst (λ (state : RawEncoderState). IsCallInMode units_of state
+        (raw_state (with_set new.set)) c) (same old keeps)
+        (subst (λ (state : RawEncoderState). IsCallInMode units_of old state c)
+        (same new (call.rule ∙ keeps)) call);
+    ended =
+        λ at_end is_last. ap with_set
+        (ends_in_ascii c.mode new c.rest c.last c.room call.done c.result call.stops at_end is_last);
+  })
 
-    encodes : EncodesChunk units_of mode (with_set old.set) (with_set new.set) src last room result
-        read wrote replaced
-    encodes = record {
-      encoding = refl;
-      barred = refl;
-      rest = rest;
-      call =
-          subst (λ (state : RawEncoderState). EncoderCallInMode units_of mode state
-          (record { rule = output_rule barred encoding; set = new.set }) src rest last room result
-          read wrote replaced)
-          (same old keeps)
-          (subst (λ (state : RawEncoderState). EncoderCallInMode units_of mode old state src rest
-          last
-          room result read
-          wrote replaced) (same new rule_stays) call);
-      ended =
-          λ at_end is_last. ap with_set
-          (ends_in_ascii mode new rest last room call.done result call.stops at_end
-          is_last);
-    }
-
-    pub encodes_by : {other : EncodeErrorMode} → mode ≡ other
-        → EncodesChunk units_of other (with_set old.set) (with_set new.set) src last room result
-        read
-        wrote replaced
-    encodes_by is_mode =
-        subst (λ (m : EncodeErrorMode). EncodesChunk units_of m (with_set old.set)
-        (with_set new.set)
-        src last room
-        result read wrote replaced) is_mode encodes
-
--- A call whose bytes are at the end of another list than the one that it wrote into.
-pub in_tail : {units_of : ℕ → List ℕ} {mode : EncodeErrorMode} {old new : EncoderState}
-    {src : List ℕ} {last : Bool}
-    {room size : ℕ} {result : EncoderResult} {read : ℕ} {wrote tail : List ℕ} {replaced : Bool}
-    → room ≡ size → wrote ≡ tail
-    → EncodesChunk units_of mode old new src last room result read wrote replaced
-    → EncodesChunk units_of mode old new src last size result read tail replaced
-in_tail {units_of} {mode} {old} {new} {src} {last} {room} {result} {read} {tail} {replaced} room_is
-    wrote_is encodes =
-    subst (λ (n : ℕ). EncodesChunk units_of mode old new src last n result read tail replaced)
-    room_is
-    (subst (λ (bytes : List ℕ). EncodesChunk units_of mode old new src last room result read bytes
-    replaced) wrote_is
-    encodes)
+-- a call whose bytes are at the end of another list than the one that it wrote into
+pub in_tail : {units_of : ℕ → List ℕ} {old new : RawEncoderState} {c : CallInMode}
+    {size : ℕ} {tail : List ℕ} → c.room ≡ size → c.wrote ≡ tail → IsCallInMode units_of old new c
+    → IsCallInMode units_of old new (record c { room = size; wrote = tail })
+in_tail {units_of} {old} {new} {c} {tail = tail} room_is wrote_is call =
+    subst (λ n. IsCallInMode units_of old new (record c { room = n; wrote = tail })) room_is
+    (subst (λ bytes. IsCallInMode units_of old new (record c { wrote = bytes })) wrote_is call)
 
 -- The rest of a list after its front, if it was cut after the bytes written there.
 pub tail_of : (front slice post junk : List ℕ) {final : List ℕ} {len : ℕ} (written n : ℕ)

@@ -1,5 +1,5 @@
 -- How many bytes a call of an encoder has to write, and which lengths are enough for it.
-use Rattle.std.proofs.Common.{◌≡◌, ℕ, ◌≤◌, Bool, Option, Some, None, List, length, take, IfSome, ap, ◌∙◌, sym, subst}
+use Rattle.std.proofs.Common.{◌≡◌, ℕ, ◌≤◌, Bool, Option, Some, None, List, length, take, IfSome, refl, ap, ◌∙◌, sym, subst}
 use Rattle.std.proofs.Common.{arith, length-take}
 use Rattle.std.specs.Char.{encode_utf8}
 use Rattle.std.specs.Char.Escape.{encode_utf16}
@@ -38,9 +38,7 @@ by_need {units_of} {old} {new} {src} {last} {room} {result} {read} {wrote} {repl
       parts = encodes.call.reads;
       units = encodes.call.units;
       meets =
-          reporting_meets_need units_of (raw_state old) (raw_state new) src encodes.rest last room
-          result read wrote
-          replaced encodes.call;
+          reporting_meets_need encodes.call refl;
     }
 
 pub into_by_need : {units_of : ℕ → List ℕ} {old new : EncoderState} {src : List ℕ} {last : Bool}
@@ -99,7 +97,5 @@ module _ (units_of : ℕ → List ℕ) (v : EncoderState) (n : ℕ) where
       λ src wrote last new room read result replaced units mappable l made.
       let sum = plus_is (Some a) (room_kept_for_references v.barred v.encoding) q (sym e) in
       let same : sum.0 ≡ a = cc in
-      reads_all units_of (room_kept_for_references v.barred v.encoding) (raw_state v)
-      (raw_state new) src made.rest last
-      room read wrote replaced result made.call mappable
+      reads_all made.call (room_kept_for_references v.barred v.encoding) refl mappable
       (omega (arith, h src last units, sum.1.1, same, l))

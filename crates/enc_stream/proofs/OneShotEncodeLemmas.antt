@@ -1,7 +1,7 @@
 -- One-shot calls: the bytes and the state after calls of an encoder that are offered the whole
 -- text.
 use Rattle.std.proofs.Common.{◌≡◌, ℕ, ◌≤◌, Bool, true, ◌||◌, List, [], ◌∷◌, ◌++◌, length, take, drop, refl, ap}
-use Rattle.std.proofs.Common.{◌∙◌, sym, subst, append_assoc, append-nil, chars, IsUtf8}
+use Rattle.std.proofs.Common.{◌∙◌, sym, subst, append_assoc, append-nil, chars}
 use Rattle.std.specs.Prelude.{Option, None, ◌≢◌}
 use Rattle.std.proofs.lemmas.List.{take-append-drop}
 use Rattle.std.specs.Char.{encode_utf8}
@@ -10,11 +10,14 @@ use Rattle.enc_units.specs.declared.coder_result.CoderResult.TheVariants.{InputE
 use Rattle.enc_encoder.specs.declared.character_set.CharacterSet.{CharacterSet}
 use Rattle.enc_encoder.specs.declared.character_set.CharacterSet.TheVariants.{Ascii}
 use Rattle.enc_encoder.specs.EncoderRule.{EncoderRule}
-use Rattle.enc_encoder.specs.Text.{bytes_of_text, with_references}
+use Rattle.enc_encoder.specs.Text.{bytes_of_text, with_references, reference_after}
 use Rattle.enc_encoder.specs.Steps.{step_chars}
+use Rattle.enc_units.specs.declared.encoder_result.EncoderResult.TheVariants as raw
 use Rattle.enc_units.specs.Results.{encoder_result_of}
 use Rattle.enc_encoder.specs.Unmappable.{any_unmappable}
-use Rattle.enc_encoder.proofs.UnmappableLemmas.{any_reported_is, any_unmappable-append}
+use Rattle.enc_encoder.specs.ErrorMode.{CallInMode, IsCallInMode}
+use Rattle.enc_encoder.proofs.ReferenceStopLemmas.{rest_is_read}
+use Rattle.enc_encoder.proofs.UnmappableLemmas.{replaced_is, any_unmappable-append}
 use Rattle.enc_stream.specs.declared.encoding.Encoding.{Encoding}
 use Rattle.enc_stream.specs.Encodings.{output_rule}
 use Rattle.enc_stream.specs.Encoder.{EncoderState, EncodesChunk, fresh_encoder, raw_state, room_kept_for_references}
@@ -26,9 +29,8 @@ use Rattle.enc_stream.specs.Lengths.{output_lengths}
 use Rattle.enc_stream.specs.Properties.{output_encoding_of}
 use Rattle.enc_stream.specs.OneShot.{HasWritten, length_to_encode, remaining_length, HasRoomFor, EncoderRound}
 use Rattle.enc_stream.specs.OneShot.{AreFullRounds, IsTooLongToEncode}
-use Rattle.enc_decoder.proofs.SequenceLemmas.{or_assoc, or_false}
+use Rattle.enc_decoder.proofs.SequenceLemmas.{or_assoc}
 use Rattle.enc_stream.proofs.EncoderProgressLemmas.{none_due, output_rule_is}
-use Rattle.enc_stream.proofs.UnreadTextLemmas.{all_read, chars_after}
 
 -- the bytes of a text, by an encoder's rule and set
 abbrev bytes_by : EncoderRule → CharacterSet → List ℕ → List ℕ
@@ -123,108 +125,57 @@ one_more_round unread before after {new} extends answer_is fits {room} enough le
           (subst (λ x. AreFullRounds rounds new x after last left all) rest_is full),
     )
 
+-- no reference is left to the caller
+none_after : (stop : CoderResult) → reference_after (encoder_result_of stop) ≡ []
+none_after InputEmpty = refl
+none_after OutputFull = refl
+
 -- One more call, whose bytes follow those already written.
-module _ {e : Encoding} {text rest : List ℕ} {old new : EncoderState} {before : List ℕ}
-    (is_utf_8 : IsUtf8 rest)
-    (written_so_far : HasWritten e text (chars rest) old before) {room : ℕ} (result : CoderResult)
-    {read : ℕ}
-    {wrote : List ℕ} {replaced : Bool}
-    (encodes : EncodesChunk encode_utf8 (html_mode old) old new (chars rest) true room
-    (encoder_result_of result) read
-    wrote replaced) where
-  abbrev front : List ℕ
-  front = step_chars encodes.call.done
-
-  unread_is : chars (drop read rest) ≡ encodes.rest
-  unread_is = chars_after rest front encodes.rest read is_utf_8 encodes.call.reads
-      encodes.call.units
-
+module _ (old new : EncoderState) {c : CallInMode}
+    (call : IsCallInMode encode_utf8 (raw_state old) (raw_state new) c) {e : Encoding}
+    {text before : List ℕ} (written_so_far : HasWritten e text c.src old before) where
   rule_is : (raw_state old).rule ≡ output_rule [] e
   rule_is =
       ap (λ b. output_rule b old.encoding) written_so_far.barred
       ∙ ap (output_rule []) written_so_far.encoding
       ∙ output_rule_is [] e
 
-  text_kept : bytes_by (raw_state old).rule old.set (chars rest ++ [])
-      ≡ wrote ++ bytes_by (raw_state new).rule new.set encodes.rest
-  text_kept = by_result result encodes
-    where
-      by_result : (other : CoderResult)
-          (made : EncodesChunk encode_utf8 (html_mode old) old new (chars rest) true room
-          (encoder_result_of other) read
-          wrote replaced)
-          → bytes_by (raw_state old).rule old.set (chars rest ++ [])
-          ≡ wrote ++ bytes_by (raw_state new).rule new.set made.rest
-      by_result InputEmpty made =
-          made.call.text [] (λ _. refl)
-          ∙ ap (λ x. wrote ++ bytes_by (raw_state new).rule new.set x) (append-nil made.rest)
-      by_result OutputFull made =
-          made.call.text [] (λ _. refl)
-          ∙ ap (λ x. wrote ++ bytes_by (raw_state new).rule new.set x) (append-nil made.rest)
-
-  written : {after : List ℕ} → wrote ≡ drop (length before) after
-      → take (length before) after ≡ before
-      → {unread : List ℕ} → unread ≡ encodes.rest → HasWritten e text unread new after
-  written {after} follows keeps is_rest = record {
-    encoding = encodes.encoding ∙ written_so_far.encoding;
-    barred = encodes.barred ∙ written_so_far.barred;
+  pub written_on : new.encoding ≡ old.encoding → new.barred ≡ old.barred → (stop : CoderResult)
+      → c.result ≡ encoder_result_of stop → {after : List ℕ} → c.wrote ≡ drop (length before) after
+      → take (length before) after ≡ before → {unread : List ℕ} → unread ≡ c.rest
+      → HasWritten e text unread new after
+  written_on encoding barred stop result_is {after} follows keeps is_rest = record {
+    encoding = encoding ∙ written_so_far.encoding;
+    barred = barred ∙ written_so_far.barred;
     whole =
-        written_so_far.whole
-        ∙ ap (λ x. before ++ bytes_by (raw_state old).rule old.set x)
-        (sym (append-nil (chars rest)))
-        ∙ ap (λ x. before ++ x) text_kept
-        ∙ sym (append_assoc before wrote _)
-        ∙ ap (λ x. x ++ bytes_by (raw_state new).rule new.set encodes.rest)
+        let later = bytes_by (raw_state new).rule new.set c.rest in
+        let text_kept : bytes_by (raw_state old).rule old.set c.src ≡ c.wrote ++ later =
+        ap (bytes_by (raw_state old).rule old.set) (sym (append-nil c.src))
+        ∙ call.text [] (λ _. refl) ∙ rw (result_is, none_after stop, append-nil c.rest) refl in
+        written_so_far.whole ∙ ap (λ x. before ++ x) text_kept ∙ sym (append_assoc before c.wrote later)
+        ∙ ap (λ x. x ++ later)
         (ap (λ x. before ++ x) follows ∙ ap (λ x. x ++ drop (length before) after) (sym keeps)
         ∙ take-append-drop (length before) after)
         ∙ ap (λ x. after ++ bytes_by (raw_state new).rule new.set x) (sym is_rest);
   }
 
-  flagged : (had : Bool) → any_unmappable (output_rule [] e) text
-      ≡ (had || any_unmappable (output_rule [] e) (chars rest))
-      → {unread : List ℕ} → unread ≡ encodes.rest
+  pub flagged_on : c.mode ≡ html_mode old → (had : Bool)
       → any_unmappable (output_rule [] e) text
-      ≡ ((had || replaced) || any_unmappable (output_rule [] e) unread)
-  flagged had flag_so_far is_rest =
-      flag_so_far ∙ ap (λ x. had || any_unmappable (output_rule [] e) x) encodes.call.reads
-      ∙ ap (λ b. had || b) (any_unmappable-append (output_rule [] e) front encodes.rest)
-      ∙ ap (λ b. had || (b || any_unmappable (output_rule [] e) encodes.rest))
-      (ap (λ rule. any_unmappable rule front) (sym rule_is)
-      ∙ sym (encodes.call.flag
-      ∙ any_reported_is (raw_state old) (raw_state new) (chars rest) encodes.rest true
-      encodes.call.done encodes.call.reads encodes.call.rule encodes.call.remaining))
-      ∙ sym (or_assoc had replaced (any_unmappable (output_rule [] e) encodes.rest))
-      ∙ ap (λ x. (had || replaced) || any_unmappable (output_rule [] e) x) (sym is_rest)
-
-  -- that is not the last
-  pub written_on : {after : List ℕ} → wrote ≡ drop (length before) after
-      → take (length before) after ≡ before
-      → {unread : List ℕ} → unread ≡ drop read rest → HasWritten e text (chars unread) new after
-  written_on follows keeps is_unread = written follows keeps (ap chars is_unread ∙ unread_is)
-
-  pub flagged_on : (had : Bool) → any_unmappable (output_rule [] e) text
-      ≡ (had || any_unmappable (output_rule [] e) (chars rest))
-      → {unread : List ℕ} → unread ≡ drop read rest
+      ≡ (had || any_unmappable (output_rule [] e) c.src) → {unread : List ℕ} → unread ≡ c.rest
       → any_unmappable (output_rule [] e) text
-      ≡ ((had || replaced) || any_unmappable (output_rule [] e) (chars unread))
-  flagged_on had flag_so_far is_unread = flagged had flag_so_far (ap chars is_unread ∙ unread_is)
+      ≡ ((had || c.replaced) || any_unmappable (output_rule [] e) unread)
+  flagged_on is_html had flag_so_far is_rest =
+      let any_in : List ℕ → Bool = any_unmappable (output_rule [] e) in
+      let replaced : c.replaced ≡ any_in (step_chars call.done) =
+      replaced_is call is_html ∙ ap (λ rule. any_unmappable rule (step_chars call.done)) rule_is in
+      flag_so_far ∙ ap (λ x. had || any_in x) call.reads
+      ∙ ap (λ b. had || b) (any_unmappable-append (output_rule [] e) (step_chars call.done) c.rest)
+      ∙ rw (replaced, is_rest) (sym (or_assoc had (any_in (step_chars call.done)) (any_in c.rest)))
 
-  -- and that is
-  none_unread : result ≡ InputEmpty → [] ≡ encodes.rest
-  none_unread = all_read old new (chars rest) true room result read wrote replaced encodes
-
-  pub written_all : {after : List ℕ} → wrote ≡ drop (length before) after
-      → take (length before) after ≡ before
-      → result ≡ InputEmpty → after ≡ whole_bytes [] e text
-  written_all follows keeps at_end =
-      all_written (written follows keeps (none_unread at_end))
-      (ap (λ (state : EncoderState). state.set) (encodes.ended (ap encoder_result_of at_end) refl))
-
-  pub flagged_all : (had : Bool) → any_unmappable (output_rule [] e) text
-      ≡ (had || any_unmappable (output_rule [] e) (chars rest))
-      → result ≡ InputEmpty → (had || replaced) ≡ any_unmappable (output_rule [] e) text
-  flagged_all had flag_so_far at_end =
-      sym (flagged had flag_so_far (none_unread at_end) ∙ or_false (had || replaced))
+  -- the last one reads all
+  pub none_unread : c.mode ≡ html_mode old → c.result ≡ raw.InputEmpty → [] ≡ c.rest
+  none_unread is_html at_end =
+      rest_is_read (raw_state new) c.rest c.last (rw (is_html, at_end) at call.stops)
 
 -- the first length query overflows usize
 pub too_long_at_once : (e : Encoding) (text : List ℕ)

@@ -1,7 +1,7 @@
 //! Encoders.
 
 ghost use Rattle.std.specs.Prelude.{◌≡◌, ◌-◌, ◌≤◌, true, false, [], length, take, drop};
-ghost use Rattle.std.specs.Prelude.{chars, IfSome};
+ghost use Rattle.std.specs.Prelude.{chars, ℕ, if◌then◌else◌};
 ghost use Rattle.std.specs.Str.{IsCharBoundary};
 ghost use Rattle.std.specs.Vec.{vec_len, vec_capacity};
 ghost use Rattle.std.specs.Char.{encode_utf8};
@@ -11,18 +11,17 @@ ghost use Rattle.enc_encoder.specs.Barring.{are_beyond_ascii};
 ghost use Rattle.enc_encoder.specs.EncoderRule.{is_escape_due};
 ghost use Rattle.enc_encoder.specs.ErrorMode.{Fatal};
 ghost use Rattle.enc_units.specs.Results.{encoder_result_of};
-ghost use Rattle.enc_units.specs.Checked.{checked_add};
-ghost use Rattle.enc_encoder.specs.Lengths.{from_utf_8_length, from_utf_16_length};
+ghost use Rattle.enc_encoder.specs.declared.error_mode.ErrorMode.TheVariants.{Html, HtmlOfMappable};
 ghost use Rattle.enc_encoder.specs.Need.{AreEnoughForEncoder};
 ghost use Rattle.enc_stream.specs.Encoder.{EncodesChunk, EncodesInto, fresh_encoder};
 ghost use Rattle.enc_stream.specs.Encoder.{maps_every_character as wanted_every, raw_state};
 ghost use Rattle.enc_stream.specs.Encoder.{room_kept_for_references, html_mode, LeavesFewerSteps};
 ghost use Rattle.enc_stream.specs.Lengths.{output_lengths};
-ghost use Rattle.enc_stream.specs.Need.{EncodesByNeed, IsEnoughForEncoding, IsEnoughIfMappable};
+ghost use Rattle.enc_stream.specs.Need.{EncodesByNeed};
 
 use crate::encoding::{Encoding, codec_of};
 use enc_encode::{ByteLengths, RawEncoder, VariantEncoder, byte_lengths, new_encoder};
-use enc_encoder::{LONGEST_REFERENCE, encode_replacing, encode_reporting};
+use enc_encoder::{ErrorMode, LONGEST_REFERENCE, encode_in_mode};
 use enc_names::EncodingId;
 use enc_units::{CoderResult, EncoderResult, Utf8Chars, Utf16Chars};
 use std::fmt;
@@ -101,6 +100,18 @@ impl Encoding {
     }
 }
 
+/// Returns why a call that writes references stopped.
+fn stop(result_of_call: EncoderResult) -> CoderResult
+    requires { (c : ℕ) → result_of_call ≡ EncoderResult.Unmappable c → ⊥ }
+    ensures { encoder_result_of result ≡ result_of_call }
+{
+    match result_of_call {
+        EncoderResult::InputEmpty => CoderResult::InputEmpty,
+        EncoderResult::OutputFull => CoderResult::OutputFull,
+        EncoderResult::Unmappable(_) => unreachable!(),
+    }
+}
+
 impl Encoder {
     /// Returns the encoding that it writes, which is an output encoding. Takes no memory.
     pub fn encoding(&self) -> Encoding
@@ -120,7 +131,7 @@ impl Encoder {
     }
 
     /// Returns the formulas for the number of bytes of a text.
-    fn byte_lengths(&self) -> ByteLengths
+    pub(crate) fn byte_lengths(&self) -> ByteLengths
         ensures lengths { result ≡ output_lengths self.now.encoding }
         ensures enough { AreEnoughForEncoder (output_lengths self.now.encoding)
             (raw_state self.now) }
@@ -138,8 +149,20 @@ impl Encoder {
         }
     }
 
+    /// Returns the error mode of calls that write references.
+    fn html_mode(&self) -> ErrorMode
+        ensures { result ≡ (if wanted_every self.now.barred self.now.encoding then HtmlOfMappable
+            else Html) }
+    {
+        if self.maps_every_character() {
+            ErrorMode::HtmlOfMappable
+        } else {
+            ErrorMode::Html
+        }
+    }
+
     /// Returns the number of bytes at the end of an output that are kept free for references.
-    fn kept(&self) -> usize
+    pub(crate) fn kept(&self) -> usize
         ensures { result ≡ room_kept_for_references self.now.barred self.now.encoding }
     {
         if self.maps_every_character() {
@@ -147,69 +170,6 @@ impl Encoder {
         } else {
             LONGEST_REFERENCE
         }
-    }
-
-    /// Returns the length in bytes to allocate for UTF-8 input, without replacement.
-    ///
-    /// With that, [`Encoder::encode_from_utf8_without_replacement`] never returns `OutputFull` for
-    /// `byte_length` more bytes. `None` if a step of the formula overflows `usize`. Takes no
-    /// memory.
-    pub fn max_buffer_length_from_utf8_without_replacement(
-        &self,
-        byte_length: usize,
-    ) -> Option<usize>
-        ensures formula { result
-            ≡ from_utf_8_length (output_lengths self.now.encoding) byte_length }
-        ensures enough { IfSome result (IsEnoughForEncoding encode_utf8 self.now byte_length) }
-    {
-        self.byte_lengths().from_utf8(byte_length)
-    }
-
-    /// Returns the length in bytes to allocate for UTF-16 input, without replacement.
-    ///
-    /// With that, [`Encoder::encode_from_utf16_without_replacement`] never returns `OutputFull` for
-    /// `u16_length` more code units. `None` if a step of the formula overflows `usize`. Takes no
-    /// memory.
-    pub fn max_buffer_length_from_utf16_without_replacement(
-        &self,
-        u16_length: usize,
-    ) -> Option<usize>
-        ensures formula { result
-            ≡ from_utf_16_length (output_lengths self.now.encoding) u16_length }
-        ensures enough { IfSome result (IsEnoughForEncoding encode_utf16 self.now u16_length) }
-    {
-        self.byte_lengths().from_utf16(u16_length)
-    }
-
-    /// Returns the length in bytes to allocate for UTF-8 input, with replacement.
-    ///
-    /// If no character of `byte_length` more bytes is unmappable, one call of
-    /// [`Encoder::encode_from_utf8`] reads all then. The length includes the 10 bytes that are kept
-    /// free for references, unless the encoding is UTF-8 and no character is barred. `None` if a
-    /// step of the formula overflows `usize`. Takes no memory.
-    pub fn max_buffer_length_from_utf8_if_no_unmappables(&self, byte_length: usize) -> Option<usize>
-        ensures formula { result ≡ checked_add
-            (from_utf_8_length (output_lengths self.now.encoding) byte_length)
-            (room_kept_for_references self.now.barred self.now.encoding) }
-        ensures enough { IfSome result (IsEnoughIfMappable encode_utf8 self.now byte_length) }
-    {
-        self.max_buffer_length_from_utf8_without_replacement(byte_length)?
-            .checked_add(self.kept())
-    }
-
-    /// Returns the length in bytes to allocate for UTF-16 input, with replacement.
-    ///
-    /// If no character of `u16_length` more code units is unmappable, one call of
-    /// [`Encoder::encode_from_utf16`] reads all then. The same as
-    /// [`Encoder::max_buffer_length_from_utf8_if_no_unmappables`] otherwise.
-    pub fn max_buffer_length_from_utf16_if_no_unmappables(&self, u16_length: usize) -> Option<usize>
-        ensures formula { result ≡ checked_add
-            (from_utf_16_length (output_lengths self.now.encoding) u16_length)
-            (room_kept_for_references self.now.barred self.now.encoding) }
-        ensures enough { IfSome result (IsEnoughIfMappable encode_utf16 self.now u16_length) }
-    {
-        self.max_buffer_length_from_utf16_without_replacement(u16_length)?
-            .checked_add(self.kept())
     }
 
     /// Encodes a chunk of text, with replacement.
@@ -252,9 +212,10 @@ impl Encoder {
             LeavesFewerSteps self.old self.new last
             (chars src.now) (chars (drop result.1 src.now)) }
     {
-        let maps_all = self.maps_every_character();
+        let mode = self.html_mode();
         let mut chars = Utf8Chars::new(src);
-        encode_replacing(&mut self.raw, &mut chars, dst, last, maps_all)
+        let outcome = encode_in_mode(&mut self.raw, &mut chars, dst, last, mode);
+        (stop(outcome.result), outcome.read, outcome.written, outcome.replaced)
     }
 
     /// Encodes a chunk of UTF-16, with replacement.
@@ -282,9 +243,10 @@ impl Encoder {
             LeavesFewerSteps self.old self.new last
             (utf16_lossy_chars src.now) (utf16_lossy_chars (drop result.1 src.now)) }
     {
-        let maps_all = self.maps_every_character();
+        let mode = self.html_mode();
         let mut units = Utf16Chars::new(src);
-        encode_replacing(&mut self.raw, &mut units, dst, last, maps_all)
+        let outcome = encode_in_mode(&mut self.raw, &mut units, dst, last, mode);
+        (stop(outcome.result), outcome.read, outcome.written, outcome.replaced)
     }
 
     /// Encodes a chunk of text and appends its bytes to a Vec, with replacement.
@@ -398,7 +360,8 @@ impl Encoder {
             (chars src.now) (chars (drop result.1 src.now)) }
     {
         let mut chars = Utf8Chars::new(src);
-        encode_reporting(&mut self.raw, &mut chars, dst, last)
+        let outcome = encode_in_mode(&mut self.raw, &mut chars, dst, last, ErrorMode::Fatal);
+        (outcome.result, outcome.read, outcome.written)
     }
 
     /// Encodes a chunk of UTF-16, without replacement.
@@ -424,6 +387,7 @@ impl Encoder {
             (utf16_lossy_chars src.now) (utf16_lossy_chars (drop result.1 src.now)) }
     {
         let mut units = Utf16Chars::new(src);
-        encode_reporting(&mut self.raw, &mut units, dst, last)
+        let outcome = encode_in_mode(&mut self.raw, &mut units, dst, last, ErrorMode::Fatal);
+        (outcome.result, outcome.read, outcome.written)
     }
 }

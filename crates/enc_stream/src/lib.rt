@@ -9,6 +9,7 @@ mod bom;
 pub mod constants;
 mod decoder;
 mod encoder;
+mod encoder_lengths;
 mod encoding;
 mod labels;
 pub mod laws;

@@ -11,7 +11,7 @@ use Rattle.enc_units.specs.declared.encoder_result.EncoderResult.TheVariants.{In
 use Rattle.enc_encoder.specs.EncoderRule.{IsLawfulEncoderRule}
 use Rattle.enc_encoder.specs.Steps.{Step, steps_from_state, step_chars}
 use Rattle.enc_encoder.proofs.StepCountLemmas.{few_steps}
-use Rattle.enc_encoder.proofs.PrefixStepLemmas.{follows}
+use Rattle.enc_encoder.proofs.LeavesLemmas.{leaves_in_mode, whatever_follows}
 use Rattle.enc_encoder.specs.ErrorMode.{EncoderCallInMode}
 use Rattle.enc_encoder.proofs.NeedInModeLemmas.{kept_by, takes_step}
 use Rattle.enc_stream.specs.declared.encoding.Encoding.{Encoding}
@@ -94,8 +94,7 @@ module _ (b : List ℕ) (e : Encoding) (made : EncodeCall) (old new : EncoderSta
         let later = drop made.offer unread in
         let all : steps_from_state (raw_state old) true (take made.offer unread ++ later) ≡ raw.done
         ++ steps_from_state (raw_state new) true (call.encodes.rest ++ later) =
-        follows (raw_state old) (raw_state new) (take made.offer unread) call.encodes.rest last
-        raw.done raw.remaining raw.rule raw.set later (nothing_later unread made.offer) in
+        whatever_follows (leaves_in_mode raw) later (nothing_later unread made.offer) in
         let split : length (steps_from_state (raw_state old) true unread)
         ≡ length (raw.done ++ steps_from_state (raw_state new) true (drop more unread)) =
         ap (λ t. length (steps_from_state (raw_state old) true t))

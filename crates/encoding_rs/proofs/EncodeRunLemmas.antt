@@ -21,6 +21,7 @@ use Rattle.enc_encoder.proofs.StepLemmas.{any_reported-append}
 use Rattle.enc_encoder.proofs.TextLemmas.{parted}
 use Rattle.enc_encoder.specs.ErrorMode.{EncodeErrorMode, Fatal, Html, is_html_mode, EncoderCallInMode, StopsInMode}
 use Rattle.enc_encoder.specs.Unmappable.{any_unmappable, reports_of}
+use Rattle.enc_encoder.proofs.LeavesLemmas.{leaves_in_mode}
 use Rattle.enc_encoder.proofs.UnmappableLemmas.{reports_by, reports_in, reports_in-append, any_reported_is, reports_are}
 use Rattle.enc_encoder.proofs.UnmappableLemmas.{any_unmappable-append, reports_of-append}
 use Rattle.enc_stream.specs.declared.encoding.Encoding.{Encoding}
@@ -249,17 +250,13 @@ module _ {b : List ℕ} {e : Encoding} {text : List ℕ} {calls : List EncodeCal
   reports : reported_character result ≡ reported_by (output_rule b e) part
   reports =
       report_holds.0 ∙ ap (λ t. if made.replace then [] else t)
-      (reports_are (raw_state s.encoder) (raw_state new) _ call.encodes.rest _ raw.done raw.reads
-      raw.rule
-      raw.remaining
+      (reports_are (leaves_in_mode raw)
       ∙ ap (λ r. reports_of r (step_chars raw.done)) written_so_far.rule)
 
   any : (replaced || is_unmappable_result result)
       ≡ any_unmappable (output_rule b e) (step_chars raw.done)
   any =
-      report_holds.1 ∙ any_reported_is (raw_state s.encoder) (raw_state new) _ call.encodes.rest _
-      raw.done raw.reads
-      raw.rule raw.remaining
+      report_holds.1 ∙ any_reported_is (leaves_in_mode raw)
       ∙ ap (λ r. any_unmappable r (step_chars raw.done)) written_so_far.rule
 
   ends : (nat_le (length unread) made.offer && is_input_empty_result result) ≡ true

@@ -16,6 +16,7 @@ use Rattle.enc_encoder.specs.Text.{bytes_after_text, with_references}
 use Rattle.enc_encoder.specs.Steps.{step_chars}
 use Rattle.enc_units.specs.Results.{encoder_result_of}
 use Rattle.enc_encoder.specs.Unmappable.{any_unmappable}
+use Rattle.enc_encoder.proofs.LeavesLemmas.{leaves_in_mode}
 use Rattle.enc_encoder.proofs.UnmappableLemmas.{any_reported_is, any_unmappable-append}
 use Rattle.enc_stream.specs.declared.encoding.Encoding.{Encoding}
 use Rattle.enc_stream.specs.declared.constants.TheConstants.{UTF_8}
@@ -62,9 +63,7 @@ EncodesText-call old new text last before after InputEmpty read written replaced
       reads = encodes.reads;
       residual = encodes.text;
       flag =
-          encodes.flag ∙ any_reported_is (raw_state old) (raw_state new) text this_call.encodes.rest
-          last encodes.done
-          encodes.reads encodes.rule encodes.remaining;
+          encodes.flag ∙ any_reported_is (leaves_in_mode encodes);
     }
 EncodesText-call old new text last before after OutputFull read written replaced this_call =
     let encodes = this_call.encodes.call in
@@ -75,9 +74,7 @@ EncodesText-call old new text last before after OutputFull read written replaced
       reads = encodes.reads;
       residual = encodes.text;
       flag =
-          encodes.flag ∙ any_reported_is (raw_state old) (raw_state new) text this_call.encodes.rest
-          last encodes.done
-          encodes.reads encodes.rule encodes.remaining;
+          encodes.flag ∙ any_reported_is (leaves_in_mode encodes);
     }
 
 -- the flags of some calls, and of some more

@@ -53,7 +53,4 @@ impl Repertoire for Big5 {
     fn byte_lengths(self) -> ByteLengths {
         ByteLengths::TwoBytes
     }
-
-    #[tactic(auto, using(crate::proofs::RepertoireLaws::big5))]
-    fn laws(self) {}
 }

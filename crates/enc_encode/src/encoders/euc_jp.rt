@@ -54,7 +54,4 @@ impl Repertoire for EucJp {
     fn byte_lengths(self) -> ByteLengths {
         ByteLengths::TwoBytes
     }
-
-    #[tactic(auto, using(crate::proofs::RepertoireLaws::euc_jp))]
-    fn laws(self) {}
 }

@@ -43,7 +43,4 @@ impl Repertoire for EucKr {
     fn byte_lengths(self) -> ByteLengths {
         ByteLengths::TwoBytes
     }
-
-    #[tactic(auto, using(crate::proofs::PlainRepertoires::euc_kr))]
-    fn laws(self) {}
 }

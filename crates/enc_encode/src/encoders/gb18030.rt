@@ -149,6 +149,4 @@ impl Repertoire for Gb18030 {
             ByteLengths::Gb18030
         }
     }
-
-    fn laws(self) {}
 }

@@ -13,11 +13,11 @@ ghost use Rattle.enc_encoder.specs.CharLaw.{AreBytesOf};
 use super::japanese::{is_halfwidth_katakana, with_fullwidth_minus};
 use super::katakana::KATAKANA;
 use enc_encoder::{
-    BarredChars, ByteLengths, CharEncoder, CharList, CharacterSet, NoChars, RawEncoder, one, run,
-    two,
+    BarredChars, ByteLengths, CharEncoder, CharList, CharacterSet, NoChars, RawEncoder, RawOutcome,
+    one, run, two,
 };
 use enc_index_pointers::jis0208;
-use enc_units::{Bytes, Chars, EncoderResult, Mapping, unshifted_len};
+use enc_units::{Bytes, Chars, Mapping, unshifted_len};
 use std::simd::prelude::*;
 
 /// The class of a mappable character.
@@ -266,7 +266,7 @@ impl RawEncoder for Iso2022JpEncoder {
         src: &mut C,
         dst: &mut [u8],
         last: bool,
-    ) -> (EncoderResult, usize, usize) {
+    ) -> RawOutcome {
         let set = self.set;
         if self.barred.is_empty() {
             let barred = NoChars;

@@ -76,7 +76,4 @@ impl Repertoire for ShiftJis {
     fn byte_lengths(self) -> ByteLengths {
         ByteLengths::TwoBytes
     }
-
-    #[tactic(auto, using(crate::proofs::RepertoireLaws::shift_jis))]
-    fn laws(self) {}
 }

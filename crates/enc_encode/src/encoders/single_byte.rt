@@ -58,6 +58,4 @@ impl Repertoire for SingleByte {
     fn byte_lengths(self) -> ByteLengths {
         ByteLengths::OneByte
     }
-
-    fn laws(self) {}
 }

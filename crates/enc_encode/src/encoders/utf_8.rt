@@ -46,7 +46,4 @@ impl Repertoire for Utf8 {
     fn byte_lengths(self) -> ByteLengths {
         ByteLengths::Utf8
     }
-
-    #[tactic(auto, using(crate::proofs::RepertoireLaws::utf_8))]
-    fn laws(self) {}
 }

@@ -30,7 +30,4 @@ impl Repertoire for XUserDefined {
     fn byte_lengths(self) -> ByteLengths {
         ByteLengths::OneByte
     }
-
-    #[tactic(auto, using(crate::proofs::RepertoireLaws::x_user_defined))]
-    fn laws(self) {}
 }

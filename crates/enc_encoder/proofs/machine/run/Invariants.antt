@@ -1,12 +1,13 @@
 use Rattle.std.proofs.Common.{length}
 use Rattle.enc_encoder.specs.Steps.{steps_from_state}
-use Rattle.enc_encoder.proofs.EncodeProgressLemmas.{Writing}
+use Rattle.enc_encoder.specs.Writes.{Writes, place}
 use Rattle.enc_encoder.proofs.machine.run.Given as goal
 
 abbrev pub invariant-loop-taken : goal.invariant-loop-taken
 invariant-loop-taken g l =
-    Writing (g.E.CharEncoder.state l.initial.encoder) (g.E.CharEncoder.state l.state)
-    (g.C.Chars.rest l.fn.src) (g.C.Chars.rest l.src) l.last l.fn.dst l.dst l.written
+    Writes l.last
+    (place (g.E.CharEncoder.state l.initial.encoder) (g.C.Chars.rest l.fn.src) l.fn.dst 0)
+    (place (g.E.CharEncoder.state l.state) (g.C.Chars.rest l.src) l.dst l.written)
 
 -- each turn takes one step off
 abbrev pub decreases-loop-taken : goal.decreases-loop-taken

@@ -1,88 +1,61 @@
-use Rattle.std.proofs.Common.{rules}
-use Rattle.enc_encoder.proofs.ReferenceProgressLemmas.{begin, stop_small, stop_empty, stop_full, goes_on, fewer}
-use Rattle.enc_encoder.proofs.ReferenceProgressLemmas.{stop_after, encodes_part}
+use Rattle.std.proofs.Common.{◌-◌, length, refl, arith, rules}
+use Rattle.enc_encoder.proofs.LeavesLemmas.{leaves_of, leaves_on}
+use Rattle.enc_encoder.proofs.MachineLemmas.{units_read}
+use Rattle.enc_encoder.proofs.ReferenceTurnLemmas.{adds_reference, encodes_part, no_turn, next_turn}
+use Rattle.enc_encoder.proofs.ReferenceCallLemmas.{stop_small, stop_raw, stop_after}
 use Rattle.enc_encoder.proofs.replacing.encode_replacing.Goals as goal
 
 pub returns-then-dst-lt-LONGEST_REFERENCE-clause-call :
     goal.returns-then-dst-lt-LONGEST_REFERENCE-clause-call
 returns-then-dst-lt-LONGEST_REFERENCE-clause-call g c =
-    let stopped = stop_small g.C.Chars.units_of
-    (record {
-      state = g.E.RawEncoder.state c.args.encoder.now;
-      src = g.C.Chars.rest c.args.src.now;
-      last = c.args.last;
-      slice = c.args.dst.now;
-      kept = 10;
-    })
-    c.if-dst-lt-LONGEST_REFERENCE.true _ c.full_result.ensures in
-    rw c.if-maps_all.false stopped.call
+    (stop_small g.C.Chars.units_of 10 c.args.last _ _ c.args.dst.now
+    c.if-dst-lt-LONGEST_REFERENCE.true c.full_result.ensures).call
 
-pub loop-src-init : goal.loop-src-init
-loop-src-init g c = begin _
+pub loop-c-init : goal.loop-c-init
+loop-c-init g c = no_turn _ _ _ (omega arith) (omega arith)
 
-pub returns-in-InputEmpty : goal.returns-in-InputEmpty
-returns-in-InputEmpty g c =
-    let encoded = rw c.in-InputEmpty.is
-    at (encodes_part c.encode-result.ensures.call c.encode-result.ensures.text
-    c.loop-src.invariant.below (search rules)) in
-    let stopped = stop_empty g.C.Chars.units_of c.loop-src.invariant
-    c.if-dst-lt-LONGEST_REFERENCE.false
-    c.unread-unread.ensures encoded c.unread.ensures in
-    record {
-      within = stopped.within;
-      rest = stopped.slice_stays;
-      call = rw c.if-maps_all.false stopped.call;
-    }
+pub overflow_sub-result : goal.overflow_sub-result
+overflow_sub-result g c =
+    let encoded = encodes_part c.encode-outcome.ensures.call c.loop-c.dst c.loop-c.written
+    (length c.args.dst.now - 10) refl refl c.loop-c.invariant.below (search rules) in
+    (units_read g.C.Chars.units_of _ _
+    (leaves_on c.loop-c.invariant.refers.leaves (leaves_of encoded.call)).reads
+    c.unread-unread.ensures c.unread.ensures).0
 
-pub overflow_sub-result-in-OutputFull : goal.overflow_sub-result-in-OutputFull
-overflow_sub-result-in-OutputFull g c =
-    fewer g.C.Chars.units_of c.loop-src.invariant c.if-dst-lt-LONGEST_REFERENCE.false
-    c.unread-unread.ensures
-    (encodes_part c.encode-result.ensures.call c.encode-result.ensures.text
-    c.loop-src.invariant.below (search rules)) c.unread-in-OutputFull.ensures
-
-pub returns-in-OutputFull : goal.returns-in-OutputFull
-returns-in-OutputFull g c =
-    let encoded = rw c.in-OutputFull.is
-    at (encodes_part c.encode-result.ensures.call c.encode-result.ensures.text
-    c.loop-src.invariant.below (search rules)) in
-    let stopped = stop_full g.C.Chars.units_of c.loop-src.invariant
-    c.if-dst-lt-LONGEST_REFERENCE.false
-    c.unread-unread.ensures encoded c.unread-in-OutputFull.ensures in
-    record {
-      within = stopped.within;
-      rest = stopped.slice_stays;
-      call = rw c.if-maps_all.false stopped.call;
-    }
+pub returns-in_default : goal.returns-in_default
+returns-in_default g c =
+    let encoded = encodes_part c.encode-outcome.ensures.call c.loop-c.dst c.loop-c.written
+    (length c.args.dst.now - 10) refl refl c.loop-c.invariant.below (search rules) in
+    let stopped = stop_raw g.C.Chars.units_of 10 c.loop-c.invariant _ c.in_default.not-Unmappable
+    encoded c.if-dst-lt-LONGEST_REFERENCE.false c.encode-outcome.ensures.lawful
+    c.unread-unread.ensures c.unread.ensures in
+    record { within = stopped.within; rest = stopped.rest_stays; call = stopped.call }
 
 pub overflow_sub-result-then-written-limit : goal.overflow_sub-result-then-written-limit
 overflow_sub-result-then-written-limit g c =
-    fewer g.C.Chars.units_of c.loop-src.invariant c.if-dst-lt-LONGEST_REFERENCE.false
-    c.unread-unread.ensures
-    (encodes_part c.encode-result.ensures.call c.encode-result.ensures.text
-    c.loop-src.invariant.below (search rules)) c.unread-then-written-limit.ensures
+    let encoded = encodes_part c.encode-outcome.ensures.call c.loop-c.dst c.loop-c.written
+    (length c.args.dst.now - 10) refl refl c.loop-c.invariant.below (search rules) in
+    (units_read g.C.Chars.units_of _ _
+    (leaves_on c.loop-c.invariant.refers.leaves (leaves_of encoded.call)).reads
+    c.unread-unread.ensures c.unread-then-written-limit.ensures).0
 
 pub returns-then-written-limit : goal.returns-then-written-limit
 returns-then-written-limit g c =
-    let encoded = rw c.in-Unmappable.is
-    at (encodes_part c.encode-result.ensures.call c.encode-result.ensures.text
-    c.loop-src.invariant.below (search rules)) in
+    let encoded = rw c.in-Unmappable.is at (encodes_part c.encode-outcome.ensures.call c.loop-c.dst
+    c.loop-c.written (length c.args.dst.now - 10) refl refl c.loop-c.invariant.below
+    (search rules)) in
     let put = c.put_reference-written.ensures in
-    let stopped = stop_after g.C.Chars.units_of c.loop-src.invariant
-    c.if-dst-lt-LONGEST_REFERENCE.false
-    c.unread-unread.ensures encoded put.len put.onto c.if-written-limit.true put.bound
-    c.full_result-stop.ensures
-    c.unread-then-written-limit.ensures in
-    record {
-      within = stopped.within;
-      rest = stopped.slice_stays;
-      call = rw c.if-maps_all.false stopped.call;
-    }
+    let stopped = stop_after g.C.Chars.units_of 10 c.loop-c.invariant encoded
+    (adds_reference _ put.len put.onto put.bound (search rules)) c.if-written-limit.true
+    c.full_result-then-written-limit.ensures c.if-dst-lt-LONGEST_REFERENCE.false c.encode-outcome.ensures.lawful
+    c.unread-unread.ensures c.unread-then-written-limit.ensures in
+    record { within = stopped.within; rest = stopped.rest_stays; call = stopped.call }
 
-pub loop-src-preserved : goal.loop-src-preserved
-loop-src-preserved g c =
-    let encoded = rw c.in-Unmappable.is
-    at (encodes_part c.encode-result.ensures.call c.encode-result.ensures.text
-    c.loop-src.invariant.below (search rules)) in
+pub loop-c-preserved : goal.loop-c-preserved
+loop-c-preserved g c =
+    let encoded = rw c.in-Unmappable.is at (encodes_part c.encode-outcome.ensures.call c.loop-c.dst
+    c.loop-c.written (length c.args.dst.now - 10) refl refl c.loop-c.invariant.below
+    (search rules)) in
     let put = c.put_reference-written.ensures in
-    goes_on c.loop-src.invariant encoded put.len put.onto c.if-written-limit.false
+    next_turn c.loop-c.invariant encoded
+    (adds_reference _ put.len put.onto put.bound (search rules)) c.if-written-limit.false

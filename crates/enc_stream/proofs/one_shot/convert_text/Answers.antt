@@ -4,10 +4,13 @@ use Rattle.std.specs.Prelude.{◌≢◌}
 use Rattle.std.specs.Vec.{vec_len}
 use Rattle.enc_units.specs.Checked.{checked_add}
 use Rattle.enc_units.specs.declared.coder_result.CoderResult.TheVariants.{InputEmpty}
+use Rattle.enc_units.specs.Results.{encoder_result_of}
+use Rattle.enc_decoder.proofs.SequenceLemmas.{or_false}
+use Rattle.enc_stream.specs.Encoder.{EncoderState}
 use Rattle.enc_stream.proofs.OneShotDecodeLemmas.{nothing, something}
-use Rattle.enc_stream.proofs.UnreadTextLemmas.{no_chars}
+use Rattle.enc_stream.proofs.UnreadTextLemmas.{no_chars, chars_unread}
 use Rattle.enc_stream.proofs.OneShotEncodeLemmas.{none_written, none_asked, nothing_written, written_on, flagged_on}
-use Rattle.enc_stream.proofs.OneShotEncodeLemmas.{written_all, flagged_all, one_more_round}
+use Rattle.enc_stream.proofs.OneShotEncodeLemmas.{none_unread, all_written, one_more_round}
 use Rattle.enc_stream.proofs.one_shot.convert_text.Goals as goal
 
 pub calls-init : goal.calls-init
@@ -64,19 +67,27 @@ returns-in_err-make_byte_room-clause-memory c = λ memory. record {
 
 pub returns-then-eq-clause-bytes : goal.returns-then-eq-clause-bytes
 returns-then-eq-clause-bytes c =
-    let invariant = c.calls.invariant in
-    let written_so_far = rw (← c.in_ok-make_byte_room.ensures.bytes) at invariant.1.written in
-    let encoded = c.encode_from_utf8_to_vec-stop.ensures in
-    let at_end : c.encode_from_utf8_to_vec-stop.result.0 ≡ InputEmpty = search rules in
-    written_all invariant.0 written_so_far _ encoded.call refl encoded.appended at_end
+    let written_so_far = rw (← c.in_ok-make_byte_room.ensures.bytes) at c.calls.invariant.1.written
+    in
+    let encoded = c.encode_from_utf8_to_vec-stop in
+    let chunk = encoded.ensures.call in
+    let at_end : encoded.result.0 ≡ InputEmpty = search rules in
+    let is_empty = ap encoder_result_of at_end in
+    all_written (written_on c.calls.encoder encoded.new.self chunk.call written_so_far
+    chunk.encoding chunk.barred encoded.result.0 refl refl encoded.ensures.appended
+    (none_unread c.calls.encoder encoded.new.self chunk.call written_so_far refl is_empty))
+    (ap (λ (state : EncoderState). state.set) (chunk.ended is_empty refl))
 
 pub returns-then-eq-clause-flag : goal.returns-then-eq-clause-flag
 returns-then-eq-clause-flag c =
-    let invariant = c.calls.invariant in
-    let written_so_far = rw (← c.in_ok-make_byte_room.ensures.bytes) at invariant.1.written in
-    let encoded = c.encode_from_utf8_to_vec-stop.ensures in
-    let at_end : c.encode_from_utf8_to_vec-stop.result.0 ≡ InputEmpty = search rules in
-    flagged_all invariant.0 written_so_far _ encoded.call _ invariant.1.flag at_end
+    let written_so_far = rw (← c.in_ok-make_byte_room.ensures.bytes) at c.calls.invariant.1.written
+    in
+    let encoded = c.encode_from_utf8_to_vec-stop in
+    let chunk = encoded.ensures.call in
+    let at_end : encoded.result.0 ≡ InputEmpty = search rules in
+    sym (flagged_on c.calls.encoder encoded.new.self chunk.call written_so_far refl _
+    c.calls.invariant.1.flag (none_unread c.calls.encoder encoded.new.self chunk.call written_so_far
+    refl (ap encoder_result_of at_end)) ∙ or_false _)
 
 pub calls-preserved : goal.calls-preserved
 calls-preserved c =
@@ -92,11 +103,14 @@ calls-preserved c =
       search rules,
       record {
         written =
-            written_on invariant.0 written_so_far _ encoded.call refl encoded.appended
-            c.split_at.ensures.back;
+            written_on c.calls.encoder c.encode_from_utf8_to_vec-stop.new.self encoded.call.call
+            written_so_far encoded.call.encoding encoded.call.barred
+            c.encode_from_utf8_to_vec-stop.result.0 refl refl encoded.appended
+            (ap chars c.split_at.ensures.back ∙ chars_unread invariant.0 encoded.call);
         flag =
-            flagged_on invariant.0 written_so_far _ encoded.call _ invariant.1.flag
-            c.split_at.ensures.back;
+            flagged_on c.calls.encoder c.encode_from_utf8_to_vec-stop.new.self encoded.call.call
+            written_so_far refl _ invariant.1.flag
+            (ap chars c.split_at.ensures.back ∙ chars_unread invariant.0 encoded.call);
         front = invariant.1.front
             ++ take c.encode_from_utf8_to_vec-stop.result.1 c.calls.unread.now;
         rest =

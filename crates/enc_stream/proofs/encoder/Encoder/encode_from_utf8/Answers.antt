@@ -1,25 +1,31 @@
-use Rattle.std.proofs.Common.{◌∙◌, sym}
-use Rattle.enc_stream.proofs.EncoderLemmas.{kept_by, encodes_by, maps_all}
+use Rattle.std.proofs.Common.{refl, sym, ◌∙◌, ap}
+use Rattle.enc_encoder.specs.ErrorMode.{mode_of}
+use Rattle.enc_encoder.proofs.NeedInModeLemmas.{goes_on}
+use Rattle.enc_stream.proofs.EncoderLemmas.{html_mode_is, encodes_by, may_keep_none, never_reported}
 use Rattle.enc_stream.proofs.UnreadTextLemmas.{ends_between, chars_unread}
-use Rattle.enc_stream.proofs.EncoderProgressLemmas.{goes_on, goes_on_if_none_kept}
+use Rattle.enc_stream.proofs.EncoderProgressLemmas.{beside_ten, beside_none, not_ended}
+use Rattle.enc_stream.proofs.ReferenceLemmas.{lawful_of}
 use Rattle.enc_stream.proofs.encoder.Encoder.encode_from_utf8.Goals as goal
 
-pub encode_replacing-requires : goal.encode_replacing-requires
-encode_replacing-requires c = λ every.
+pub encode_in_mode-outcome-requires : goal.encode_in_mode-outcome-requires
+encode_in_mode-outcome-requires c =
     let encoder = c.self.inside in
-    maps_all encoder.barred.now encoder.encoding _ c.self.invariant
-    (rw (← c.self.view_is) at (sym c.maps_every_character-maps_all.ensures ∙ every))
+    may_keep_none encoder.barred.now encoder.encoding c.self.invariant
+    (rw (← c.self.view_is) at c.html_mode-mode.ensures)
+
+pub stop-requires : goal.stop-requires
+stop-requires c =
+    never_reported c.encode_in_mode-outcome.ensures.call
+    (ap mode_of c.html_mode-mode.ensures ∙ html_mode_is _)
 
 pub returns-clause-call : goal.returns-clause-call
 returns-clause-call c =
-    let encoder = c.self.inside in
-    let made = c.encode_replacing.ensures in
-    let every = rw (← c.self.view_is) at (sym c.maps_every_character-maps_all.ensures) in
-    rw (← c.self.view_is) (record {
+    let made = c.encode_in_mode-outcome.ensures in
+    rw (← c.self.view_is, c.stop.ensures) (record {
       within = made.within;
       rest = made.rest;
       encodes = encodes_by _ _ c.self.invariant (rw c.new-chars.ensures at made.call)
-          (kept_by encoder.barred.now encoder.encoding _ every);
+          (ap mode_of (rw (← c.self.view_is) at c.html_mode-mode.ensures) ∙ html_mode_is _);
     })
 
 pub returns-clause-boundary : goal.returns-clause-boundary
@@ -32,9 +38,11 @@ returns-clause-read c = (returns-clause-boundary c).0
 pub returns-clause-progress : goal.returns-clause-progress
 returns-clause-progress c = λ on room.
     let encodes = (returns-clause-call c).encodes in
-    rw (chars_unread c.utf8.src encodes) (goes_on _ encodes on room)
+    rw (chars_unread c.utf8.src encodes)
+    (goes_on encodes.call (lawful_of _ _) (beside_ten room _) (not_ended _ on))
 
 pub returns-clause-progress_if_none_kept : goal.returns-clause-progress_if_none_kept
 returns-clause-progress_if_none_kept c = λ on none_kept room.
     let encodes = (returns-clause-call c).encodes in
-    rw (chars_unread c.utf8.src encodes) (goes_on_if_none_kept _ encodes on none_kept room)
+    rw (chars_unread c.utf8.src encodes)
+    (goes_on encodes.call (lawful_of _ _) (beside_none none_kept room) (not_ended _ on))

@@ -1,5 +1,5 @@
 use Rattle.enc_encode.proofs.RepertoireLaws.{gb18030}
-use Rattle.enc_encode.proofs.encoders.gb18030.Gb18030Repertoire.laws.Goals as goal
+use Rattle.enc_encode.proofs.laws.Gb18030LawfulRepertoire.laws.Goals as goal
 
 pub returns : goal.returns
 returns c = gb18030 c.args.self.is_gbk

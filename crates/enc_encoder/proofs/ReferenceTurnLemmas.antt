@@ -1,0 +1,217 @@
+-- The turns of a call that writes references: each is a call of the raw encoder, and then the
+-- reference to the character that it reports.
+use Rattle.std.proofs.Common.{◌≡◌, ℕ, ◌+◌, ◌-◌, ◌<◌, ◌≤◌, Bool, true, false, ◌||◌, is_some, Option, Some, List, [], ◌∷◌}
+use Rattle.std.proofs.Common.{◌++◌, length, take, drop, refl, ap, ◌∙◌, sym, subst, arith, append_assoc, append-nil}
+use Rattle.std.proofs.Common.{length-append, length-drop}
+use Rattle.std.proofs.lemmas.List.{length-take}
+use Rattle.std.proofs.lemmas.Slice.{take-put_mid, drop-put_mid}
+use borrow.Rule.Slice.PartMut.{put_mid}
+use Rattle.enc_units.specs.declared.encoder_result.EncoderResult.{EncoderResult}
+use Rattle.enc_units.specs.declared.encoder_result.EncoderResult.TheVariants.{Unmappable}
+use Rattle.enc_encoder.specs.EncoderRule.{RawEncoderState}
+use Rattle.enc_encoder.specs.Text.{reference, reference_after}
+use Rattle.enc_encoder.specs.Steps.{Step, step_bytes, any_reported, bytes_with_references}
+use Rattle.enc_encoder.specs.Writes.{Leaves, Adds, Place, place}
+use Rattle.enc_encoder.specs.Call.{EncoderCall, EncoderCallInto}
+use Rattle.enc_encoder.specs.ErrorMode.{StepFits, StepsFit, ends_in_report}
+use Rattle.enc_encoder.proofs.StepLemmas.{any_reported-append}
+use Rattle.enc_encoder.proofs.LeavesLemmas.{no_step, leaves_of, leaves_on, adds_none, adds_on, same_length}
+use Rattle.enc_encoder.proofs.TextLemmas.{bytes_with_references-append, unreferred, done_is, reported_bytes, is_reported}
+use Rattle.enc_encoder.proofs.ReferenceStopLemmas.{FitsBefore, AllBefore, fits-append, before-append, all_fit}
+use Rattle.enc_encoder.proofs.ReferenceStopLemmas.{unreported_before}
+use Rattle.enc_encoder.proofs.SliceLemmas.{adds_in_part}
+
+-- Steps lead from one place to another, and a reference is written for each report. All fit before
+-- a limit, except that a last reference may reach it.
+pub record Refers (last : Bool) (limit : ℕ) (from to : Place) (replaced : Bool) : Type 0 where
+  pub done : List Step
+  pub leaves : Leaves last from.state to.state from.rest to.rest done
+  pub adds : Adds from.slice to.slice from.written to.written (bytes_with_references done)
+  pub fits : StepsFit limit from.written done
+  pub flag : replaced ≡ any_reported done
+
+-- the same, where more steps may follow
+pub record Turns (last : Bool) (limit : ℕ) (from to : Place) (replaced : Bool) : Type 0 where
+  pub refers : Refers last limit from to replaced
+  pub before : AllBefore limit from.written refers.done
+  pub below : to.written ≤ limit
+
+unfoldable pub no_turn : (last : Bool) (limit : ℕ) (at : Place) → at.written ≤ limit
+    → limit ≤ length at.slice → Turns last limit at at false
+no_turn last limit at below within = record {
+  refers = record {
+    done = [];
+    leaves = no_step last at.state at.rest;
+    adds = adds_none at.slice at.written (omega (arith, below, within));
+    fits = tt;
+    flag = refl;
+  };
+  before = tt;
+  below = below;
+}
+
+-- a call of the raw encoder from one place to another
+pub record EncodesTo (last : Bool) (room : ℕ) (from to : Place) (result : EncoderResult)
+    : Type 0 where
+  pub wrote : List ℕ
+  pub adds : Adds from.slice to.slice from.written to.written wrote
+  pub call : EncoderCall from.state to.state from.rest to.rest last room result wrote
+
+-- a call of the raw encoder on the part of a slice from `start` to `limit`
+pub encodes_part : {units_of : ℕ → List ℕ} {last : Bool} {from to : Place} {result : EncoderResult}
+    {read : ℕ} → EncoderCallInto units_of last from to result read
+    → (slice : List ℕ) (start limit : ℕ) → from.slice ≡ take (limit - start) (drop start slice)
+    → from.written ≡ 0 → start ≤ limit → limit ≤ length slice
+    → EncodesTo last (limit - start) (place from.state from.rest slice start)
+    (place to.state to.rest (put_mid start (limit - start) slice to.slice) (start + to.written))
+    result
+encodes_part {last = last} {from} {to} {result} encoded slice start limit part none below within =
+    let room : length from.slice ≡ limit - start =
+    rw (part, length-take, length-drop) (omega (arith, below, within)) in
+    record {
+      wrote = encoded.wrote;
+      adds = adds_in_part slice start limit below within
+          (subst (λ x. Adds x to.slice 0 to.written encoded.wrote) part
+          (subst (λ n. Adds from.slice to.slice n to.written encoded.wrote) none encoded.adds));
+      call = subst (λ (x : ℕ). EncoderCall from.state to.state from.rest to.rest last x result
+          encoded.wrote) room encoded.call;
+    }
+
+-- the reference to a character
+pub adds_reference : (k : ℕ) {slice final : List ℕ} {at n : ℕ} → n ≡ length (reference k)
+    → final ≡ take at slice ++ (reference k ++ drop (at + n) slice) → n ≤ 10
+    → at + 10 ≤ length slice → Adds slice final at (at + n) (reference k)
+adds_reference k length_is onto few within = record {
+  count = omega (arith, length_is);
+  fits = omega (arith, few, within);
+  onto = onto;
+}
+
+or_false : (a : Bool) → a ≡ (a || false)
+or_false true = refl
+or_false false = refl
+
+or_true : (a : Bool) → true ≡ (a || true)
+or_true true = refl
+or_true false = refl
+
+module _ {last : Bool} {limit : ℕ} {from now next : Place} {replaced : Bool}
+    (turns : Turns last limit from now replaced) {result : EncoderResult}
+    (encodes : EncodesTo last (limit - now.written) now next result) where
+  -- the steps of both, with the reference that the caller of the raw encoder writes
+  join : {slice : List ℕ} {written : ℕ}
+      → Adds next.slice slice next.written written (reference_after result)
+      → StepsFit limit now.written encodes.call.done → {flag : Bool}
+      → flag ≡ (replaced || any_reported encodes.call.done)
+      → Refers last limit from (place next.state next.rest slice written) flag
+  join {slice} {written} adds fit flag_is =
+      let before = turns.refers in
+      let done = encodes.call.done in
+      let bytes_are : bytes_with_references before.done
+      ++ (encodes.wrote ++ reference_after result) ≡ bytes_with_references (before.done ++ done) =
+      ap (λ x. bytes_with_references before.done ++ x) (sym (done_is encodes.call))
+      ∙ sym (bytes_with_references-append before.done done) in
+      record {
+        done = before.done ++ done;
+        leaves = leaves_on before.leaves (leaves_of encodes.call);
+        adds = subst (Adds from.slice slice from.written written) bytes_are
+            (adds_on before.adds (adds_on encodes.adds adds));
+        fits = fits-append limit from.written before.done done turns.before
+            (subst (λ (x : ℕ). StepsFit limit x done) before.adds.count fit);
+        flag = flag_is ∙ ap (λ b. b || any_reported done) before.flag
+            ∙ sym (any_reported-append before.done done);
+      }
+
+  -- the raw call's bytes end before the part that is kept free
+  pub in_limit : next.written ≤ limit
+  in_limit = omega (arith, encodes.call.fits, encodes.adds.count, turns.below)
+
+  -- a call that reports none
+  pub join_unreported : any_reported encodes.call.done ≡ false → reference_after result ≡ []
+      → Refers last limit from next replaced
+  join_unreported none_reported no_reference =
+      let fits = unreported_before limit now.written encodes.call.done none_reported
+      (omega (arith, encodes.call.fits, ap length encodes.call.bytes, turns.below)) in
+      join (rw no_reference (adds_none next.slice next.written
+      (omega (arith, encodes.adds.fits, same_length encodes.adds))))
+      (all_fit limit now.written encodes.call.done fits)
+      (rw none_reported (or_false replaced))
+
+-- the last step says whether a report is the last
+ends_in_report-one : (ps : List Step) (q : Step) → ends_in_report (ps ++ q ∷ []) ≡ is_some q.report
+ends_in_report-one [] q = refl
+ends_in_report-one (p ∷ []) q = refl
+ends_in_report-one (p ∷ p' ∷ ps) q = ends_in_report-one (p' ∷ ps) q
+
+-- a turn that ends in a report, and then a reference
+module _ {last : Bool} {limit : ℕ} {from now next : Place} {replaced : Bool}
+    (turns : Turns last limit from now replaced) {k : ℕ}
+    (encodes : EncodesTo last (limit - now.written) now next (Unmappable k)) where
+  abbrev report : Step
+  report = encodes.call.stops.report
+
+  abbrev before : List Step
+  before = encodes.call.stops.before
+
+  -- the raw call's bytes end where the reference begins
+  reference_begins : now.written + length (bytes_with_references before) ≡ next.written
+  reference_begins =
+      let stops = encodes.call.stops in
+      let bytes = ap length (encodes.call.bytes ∙ reported_bytes stops) in
+      rw (unreferred before stops.none_reported) (omega (arith, encodes.adds.count, bytes))
+
+  fits_before_report : AllBefore limit now.written before
+  fits_before_report =
+      let stops = encodes.call.stops in
+      unreported_before limit now.written before stops.none_reported
+      (omega (
+        arith,
+        in_limit turns encodes,
+        reference_begins,
+        ap length (unreferred before
+            stops.none_reported),
+      ))
+
+  -- the steps done, with the reference: the report is the last of them
+  pub join_report : {slice : List ℕ} {written : ℕ}
+      → Adds next.slice slice next.written written (reference k)
+      → Refers last limit from (place next.state next.rest slice written) true
+  join_report adds =
+      let stops = encodes.call.stops in
+      let at = now.written + length (bytes_with_references before) in
+      let report_fits : StepFits limit at report.report (length report.bytes) [] =
+      subst (λ (r : Option ℕ). StepFits limit at r (length report.bytes) []) (sym stops.reported)
+      (omega (arith, in_limit turns encodes, reference_begins, ap length stops.none_written)) in
+      join turns encodes adds
+      (rw stops.then_report (fits-append limit now.written before (report ∷ []) fits_before_report
+      (report_fits, tt))) (rw (is_reported stops) (or_true replaced))
+
+  pub ends_here : {slice : List ℕ} {written : ℕ}
+      (adds : Adds next.slice slice next.written written (reference k))
+      → ends_in_report (join_report adds).done ≡ true
+  unfolding join_report join
+  ends_here adds =
+      let stops = encodes.call.stops in
+      ap (λ x. ends_in_report (turns.refers.done ++ x)) stops.then_report
+      ∙ ap ends_in_report (sym (append_assoc turns.refers.done before (report ∷ [])))
+      ∙ ends_in_report-one (turns.refers.done ++ before) report ∙ ap is_some stops.reported
+
+  -- more turns may follow, if the reference ends before the part that is kept free
+  pub next_turn : {slice : List ℕ} {written : ℕ}
+      (adds : Adds next.slice slice next.written written (reference k)) → written < limit
+      → Turns last limit from (place next.state next.rest slice written) true
+  unfolding join_report join
+  next_turn adds below =
+      let stops = encodes.call.stops in
+      let at = now.written + length (bytes_with_references before) in
+      let report_fits : FitsBefore limit at report.report (length report.bytes) =
+      subst (λ (r : Option ℕ). FitsBefore limit at r (length report.bytes)) (sym stops.reported)
+      (omega (arith, adds.count, below, reference_begins, ap length stops.none_written)) in
+      record {
+        refers = join_report adds;
+        before =
+            before-append limit from.written turns.refers.done encodes.call.done turns.before
+            (rw (sym turns.refers.adds.count, stops.then_report)
+            (before-append limit now.written before (report ∷ []) fits_before_report (report_fits, tt)));
+        below = omega (arith, below);
+      }

@@ -1,0 +1,27 @@
+//! What a call of an encoder returns.
+
+use enc_units::EncoderResult;
+
+/// The outcome of a call of a raw encoder.
+#[derive(Clone, Copy)]
+pub struct RawOutcome {
+    /// Why it stopped.
+    pub result: EncoderResult,
+    /// The number of code units read.
+    pub read: usize,
+    /// The number of bytes written.
+    pub written: usize,
+}
+
+/// The outcome of a call in an error mode.
+#[derive(Clone, Copy)]
+pub struct EncoderOutcome {
+    /// Why it stopped. With references that is never at an unmappable character.
+    pub result: EncoderResult,
+    /// The number of code units read.
+    pub read: usize,
+    /// The number of bytes written.
+    pub written: usize,
+    /// Whether a reference was written.
+    pub replaced: bool,
+}
