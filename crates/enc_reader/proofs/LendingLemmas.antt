@@ -27,7 +27,8 @@ use Rattle.enc_reader.specs.Source.{IsExhausted}
 use Rattle.enc_reader.specs.Reading.{ReaderState, ReadsOwed, HandsOut, FailsToRead, owed_sequences}
 use Rattle.enc_reader.specs.Turn.{AreOwnBytes, FillsBuffer, IsOwnText}
 use Rattle.enc_reader.proofs.SourceLemmas.{ConsumesRemaining-none}
-use Rattle.enc_reader.proofs.ReadingLemmas.{ReadsOwed-none, ReadsOwed-then, before_end, left_of, handed_utf_8}
+use Rattle.enc_reader.proofs.ReadingLemmas.{over, ReadsOwed-none, ReadsOwed-then, before_end, handed_utf_8}
+use Rattle.enc_reader.proofs.TurnLemmas.{left_of}
 
 -- Each character of UTF-8, and each byte of ASCII, is a sequence by itself.
 
@@ -185,8 +186,7 @@ HandsOut-chunk source d filled at n xs ended had within_filled w within o none =
 pub handed_is_utf_8 : {t₀ t : Option (List ℕ)} {a b : ReaderState} {wrote : List ℕ}
     {had_before had_after : Bool}
     → HandsOut t₀ t a b wrote had_before had_after → IsUtf8 wrote
-handed_is_utf_8 {t₀ = t₀} {t = t} {a = a} {b = b} {wrote = wrote} hands_out =
-    handed_utf_8 t₀ t a b hands_out.bytes wrote hands_out.malformed hands_out.reads
+handed_is_utf_8 hands_out = handed_utf_8 hands_out.reads
 
 -- a chunk that can't be pulled
 pub FailsToRead-pull : {t₀ t₁ : Option (List ℕ)} {failed_before failed_after : Bool}
@@ -210,14 +210,11 @@ module _ {t₀ t₁ t₂ : Option (List ℕ)} {a b c : ReaderState} (fills_buffe
     pub HandsOut-filled : {wrote : List ℕ} {had_before had_after : Bool}
         → HandsOut t₁ t₂ b c wrote had_before had_after
         → HandsOut t₀ t₂ a c wrote had_before had_after
-    HandsOut-filled {wrote = wrote} hands_out = record {
+    HandsOut-filled hands_out = record {
       bytes = fills_buffer.bytes ++ hands_out.bytes;
       malformed = hands_out.malformed;
       reads =
-          ReadsOwed-then t₀ t₁ t₂ a b c fills_buffer.bytes hands_out.bytes [] wrote false
-          hands_out.malformed
-          fills_buffer.reads
-          hands_out.reads;
+          ReadsOwed-then (over t₀ a) (over t₁ b) (over t₂ c) fills_buffer.reads hands_out.reads;
       flag = hands_out.flag;
       exhausted = hands_out.exhausted;
     }
@@ -229,10 +226,7 @@ module _ {t₀ t₁ t₂ : Option (List ℕ)} {a b c : ReaderState} (fills_buffe
     FailsToRead-filled e fails = record {
       bytes = fills_buffer.bytes ++ fails.bytes;
       malformed = fails.malformed;
-      reads = ReadsOwed-then t₀ t₁ t₂ a b c fills_buffer.bytes fails.bytes [] [] false
-          fails.malformed
-          fills_buffer.reads
-          fails.reads;
+      reads = ReadsOwed-then (over t₀ a) (over t₁ b) (over t₂ c) fills_buffer.reads fails.reads;
       not_ended = fails.not_ended;
       not_before = sym e ∙ fails.not_before;
       why = elim fails.why [
