@@ -15,7 +15,6 @@ use Rattle.enc_units.proofs.AsciiPrefixLemmas.{text_utf8}
 use Rattle.enc_decoder.specs.Sequence.{sequence_text, any_malformed}
 use Rattle.enc_decoder.proofs.SequenceLemmas.{units-append, any_malformed-append, scalars_of-append}
 use Rattle.enc_stream.specs.Decoding.{DecoderState, has_finished, remaining_sequences}
-use Rattle.enc_stream.proofs.DecoderProgressLemmas.{nearer}
 use Rattle.enc_stream.proofs.EndOfInputLemmas.{none_left}
 use Rattle.enc_reader.specs.Source.{ConsumesRemaining}
 use Rattle.enc_reader.specs.Reading.{ReaderState, ReadsOwed, IsReaderAtEnd, owed_sequences, owed_encoding}
@@ -24,12 +23,12 @@ use Rattle.enc_reader.specs.Turn.{IsWaiting, PullsChunk, IsTurn}
 use Rattle.enc_reader.proofs.SourceLemmas.{ConsumesRemaining-none, ConsumesRemaining-then}
 
 -- A reader over a source that models these bytes.
-pub record OverSource : Type 0 where
+pub record ReaderPlace : Type 0 where
   pub remaining : Option (List ℕ)
   pub state : ReaderState
 
-abbrev pub over : Option (List ℕ) → ReaderState → OverSource
-over remaining state = record { remaining = remaining; state = state }
+abbrev pub reader_at : Option (List ℕ) → ReaderState → ReaderPlace
+reader_at remaining state = record { remaining = remaining; state = state }
 
 -- nothing yet
 pub ReadsOwed-none : (known : Option (List ℕ)) (s : ReaderState)
@@ -47,7 +46,7 @@ ReadsOwed-none known s = record {
 }
 
 -- some reads, and some more
-pub ReadsOwed-then : (a b c : OverSource) {x y w₁ w₂ : List ℕ} {m₁ m₂ : Bool}
+pub ReadsOwed-then : (a b c : ReaderPlace) {x y w₁ w₂ : List ℕ} {m₁ m₂ : Bool}
     → ReadsOwed a.remaining b.remaining a.state b.state x w₁ m₁
     → ReadsOwed b.remaining c.remaining b.state c.state y w₂ m₂
     → ReadsOwed a.remaining c.remaining a.state c.state (x ++ y) (w₁ ++ w₂) (m₁ || m₂)
@@ -163,7 +162,7 @@ PullsChunk-after {t₀ = t₀} {t₁ = t₁} {d = d} {ended = ended} {xs = xs} h
     }
 
 -- A read up to now: the text handed out, and whether it waits, after `pulls` pulls.
-pub record HasRead (start now : OverSource) (wrote : List ℕ) (replaced waits : Bool)
+pub record HasRead (start now : ReaderPlace) (wrote : List ℕ) (replaced waits : Bool)
     (pulls : ℕ) : Type 0 where
   pub bytes : List ℕ
   pub reads : ReadsOwed start.remaining now.remaining start.state now.state bytes wrote replaced
@@ -174,7 +173,7 @@ pub record HasRead (start now : OverSource) (wrote : List ℕ) (replaced waits :
 pub HasRead-turn : {known : Option (List ℕ)} {s₀ s : ReaderState} {wrote : List ℕ}
     {replaced waits : Bool}
     → IsTurn s₀ s wrote replaced waits
-    → HasRead (over known s₀) (over known s) wrote replaced waits 0
+    → HasRead (reader_at known s₀) (reader_at known s) wrote replaced waits 0
 HasRead-turn {known = known} turn =
     record {
       bytes = [];
@@ -185,7 +184,7 @@ HasRead-turn {known = known} turn =
     }
 
 -- a chunk more, and a turn
-pub HasRead-more : {start now next : OverSource} {pulled : ReaderState} {wrote : List ℕ}
+pub HasRead-more : {start now next : ReaderPlace} {pulled : ReaderState} {wrote : List ℕ}
     {r₀ r₁ waits : Bool} {pulls : ℕ} → HasRead start now [] r₀ true pulls
     → PullsChunk now.remaining next.remaining now.state pulled
     → IsTurn pulled next.state wrote r₁ waits
@@ -197,7 +196,7 @@ HasRead-more {start = start} {now = now} {next = next} {pulled = pulled} so_far 
       reads =
           rw (← append-nil pull.bytes)
           (ReadsOwed-then start now next so_far.reads
-          (ReadsOwed-then now (over next.remaining pulled) next pull.reads turn_reads));
+          (ReadsOwed-then now (reader_at next.remaining pulled) next pull.reads turn_reads));
       enough = λ w. elim (true_or_false pulled.ended) [
         | inl e ↦ absurd (false≢true (sym (turn.waiting w).not_ended ∙ (turn_reads.none_after e).1))
         | inr e ↦ (let some : 0 < length pull.bytes = pull.some e in

@@ -95,8 +95,8 @@ impl TurnOutcome {
     }
 }
 
-/// Decodes the unread part of `input`. (The buffer is passed on as it is borrowed, so that its bytes
-/// are known to stay.)
+/// Decodes the unread part of `input`. (The buffer is passed on as it is borrowed, so that its
+/// bytes are known to stay.)
 fn decode_unread(
     decoder: &mut Decoder,
     input: &mut [u8],
