@@ -23,9 +23,9 @@ use Rattle.encoding_rs.specs.Run.{DecodeRunState, DecodeRunAdvances, IsDecodeRun
 use Rattle.encoding_rs.specs.Run.{faults_from, whole_start, whole_faults, DecodeRunPart, sequences_of_parts}
 use Rattle.encoding_rs.specs.Run.{reported_faults_from, all_report_malformed, HasRunDecoding}
 use Rattle.enc_decoder.proofs.SuccessiveCallLemmas.{first_of}
-use Rattle.enc_decoder.proofs.SequenceLemmas.{sequence_bytes-append, sequence_bytes-one, sequence_text-append, units-append}
+use Rattle.enc_decoder.proofs.SequenceLemmas.{sequence_bytes-append, sequence_bytes-one, sequence_text-append}
 use Rattle.enc_decoder.proofs.SequenceLemmas.{any_malformed-append, any_malformed-one, or_false, or_assoc}
-use Rattle.enc_decoder.proofs.SequenceLemmas.{units_of_text-append}
+use Rattle.enc_decoder.proofs.SequenceLemmas.{units-append, units_of_text-append}
 use Rattle.enc_stream.proofs.EndOfInputLemmas.{fresh_sequences, none_left, fresh_open}
 use Rattle.enc_stream.proofs.WholeInputLemmas.{joined}
 use Rattle.enc_stream.proofs.DecoderProgressLemmas.{ends_read}

@@ -90,7 +90,8 @@ left_nothing (Html kept) new (c ∷ t) last room done InputEmpty s e = absurd (t
 left_nothing mode new rest last room done OutputFull s e = absurd (true≢false (sym e))
 left_nothing mode new rest last room done (Unmappable c) s e = absurd (true≢false (sym e))
 
-pub is_empty_is : (result : EncoderResult) → is_input_empty_result result ≡ true → result ≡ InputEmpty
+pub is_empty_is : (result : EncoderResult) → is_input_empty_result result ≡ true
+    → result ≡ InputEmpty
 is_empty_is InputEmpty e = refl
 is_empty_is OutputFull e = absurd (true≢false (sym e))
 is_empty_is (Unmappable c) e = absurd (true≢false (sym e))

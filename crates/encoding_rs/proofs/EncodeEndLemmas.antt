@@ -36,12 +36,6 @@ some_read : (src rest : List ℕ) (done : List Step) → src ≡ step_chars done
 some_read src rest (p ∷ done) r e l = omega arith
 some_read src rest [] r e l = absurd (omega (arith, l, ap length r, ap length e))
 
-empty_or_not : (r : EncoderResult) → ((r ≡ InputEmpty) × (is_input_empty_result r ≡ true))
-    ⊎ (r ≡ InputEmpty → ⊥)
-empty_or_not InputEmpty = inl (refl, refl)
-empty_or_not OutputFull = inr (λ e. cc)
-empty_or_not (Unmappable c) = inr (λ e. cc)
-
 more_left : (a : Bool) (b : Bool) → (a && b) ≡ false → b ≡ true → a ≡ false
 more_left true b h e = absurd (false≢true (sym h ∙ e))
 more_left false b h e = refl
@@ -77,8 +71,8 @@ module _ {b : List ℕ} {e : Encoding} {text : List ℕ} {made : EncodeCall} {ol
         (raw in_text advances).reads none_unread some
 
     some_done : 1 ≤ length done
-    some_done = elim (empty_or_not advances.result) [
-      | inl is_empty ↦ when_empty is_empty.1
+    some_done = elim (true_or_false (is_input_empty_result advances.result)) [
+      | inl is_empty ↦ when_empty is_empty
       | inr not_empty ↦ takes_step (raw_state new.encoder)
           (lawful_of new.encoder.barred new.encoder.encoding) advances.call.encodes.rest last
           made.room (encode_error_mode made.replace old.encoder)
@@ -87,7 +81,9 @@ module _ {b : List ℕ} {e : Encoding} {text : List ℕ} {made : EncodeCall} {ol
             room_for b e old.encoder made.replace in_text.encoding in_text.barred,
             further.roomy,
           ))
-          done advances.result not_empty (raw in_text advances).stops
+          done advances.result
+          (λ e. false≢true (sym not_empty ∙ ap is_input_empty_result e))
+          (raw in_text advances).stops
     ]
 
     fewer : to_come text new < to_come text old
@@ -128,6 +124,7 @@ ends b e text calls n s =
     let few : to_come text start ≤ 2 * length text + 1 =
     few_steps (raw_state start.encoder).rule true text start.encoder.set in
     ends_within (EncodeRunAdvances text) (CanEncodeMore b e) (IsInText b e text)
-    (λ (a : EncodeRunState). a.finished) (to_come text) (λ call old new advances. advances.not_finished)
+    (λ (a : EncodeRunState). a.finished) (to_come text)
+    (λ call old new advances. advances.not_finished)
     (λ call old new in_text further advances. ends_or_fewer in_text further advances) calls n
     (2 * length text + 2) start s (omega (arith, few)) (starts_in_text b e text)

@@ -16,7 +16,8 @@ returns-then-call c =
     rw c.replacing_outcome.ensures (record {
       text = sequence_text decodes.call.put;
       scalars = decodes.call.scalars;
-      is = by_utf_16 (sequence_text decodes.call.put) (ap (take made.result.2) (sym units)) c.in_ok-text.ensures
+      is = by_utf_16 (sequence_text decodes.call.put) (ap (take made.result.2) (sym units))
+          c.in_ok-text.ensures
           decodes.call.scalars decodes.call.text;
       decodes = rw decodes.call.text at decodes;
     })
@@ -33,7 +34,8 @@ returns c =
     record {
       text = sequence_text decodes.call.put;
       scalars = decodes.call.scalars;
-      is = by_utf_16 (sequence_text decodes.call.put) (ap (take made.result.2) (sym units)) c.in_ok-text-2.ensures
+      is = by_utf_16 (sequence_text decodes.call.put) (ap (take made.result.2) (sym units))
+          c.in_ok-text-2.ensures
           decodes.call.scalars decodes.call.text;
       decodes = rw decodes.call.text at decodes;
     }

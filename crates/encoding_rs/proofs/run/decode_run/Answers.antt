@@ -35,7 +35,8 @@ loop-call-preserved c =
     } in
     let in_input = stays_in_input invariant.in_input advances in
     record {
-      run = run-next _ c.args.calls.now _ _ invariant.made c.loop-call-test.true invariant.run advances;
+      run = run-next _ c.args.calls.now _ _ invariant.made c.loop-call-test.true invariant.run
+          advances;
       in_input = in_input;
       within = in_input.within;
       made = omega arith;
@@ -50,7 +51,8 @@ returns-clause-run c = (
 )
 
 pub returns-clause-beginning : goal.returns-clause-beginning
-returns-clause-beginning c = has_run _ _ c.loop-call.invariant.run (sym c.is_finished-finished.ensures)
+returns-clause-beginning c =
+    has_run _ _ c.loop-call.invariant.run (sym c.is_finished-finished.ensures)
 
 pub returns-clause-text : goal.returns-clause-text
 returns-clause-text c = λ f.
