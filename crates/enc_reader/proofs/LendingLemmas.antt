@@ -1,5 +1,5 @@
 -- Text that is handed out where it was read, and a read after a chunk was pulled.
-use Rattle.std.proofs.Common.{◌≡◌, ℕ, suc, ◌+◌, ◌-◌, ◌<◌, ◌≤◌, inl, inr, Bool, true, false, ◌||◌, List, [], ◌∷◌, ◌++◌}
+use Rattle.std.proofs.Common.{◌≡◌, ℕ, suc, ◌+◌, ◌-◌, ◌<◌, ◌≤◌, inl, inr, Bool, true, false, List, [], ◌∷◌, ◌++◌}
 use Rattle.std.proofs.Common.{length, take, drop, Option, refl, ap, ◌∙◌, sym, subst, arith, IsUtf8, append_assoc}
 use Rattle.std.proofs.Common.{length-append}
 use Rattle.std.proofs.Math.ListN.{length-drop}
@@ -16,6 +16,7 @@ use Rattle.enc_decoder.specs.Segmentation.{Rule, sequences_of}
 use Rattle.enc_decoder.specs.Taking.{IsWholeChar}
 use Rattle.enc_decoder_utf.specs.Utf8.{utf_8_rule}
 use Rattle.enc_decoder_utf.proofs.Utf8Pieces.{utf8_piece}
+use Rattle.enc_decoder.proofs.SequenceLemmas.{or_false}
 use Rattle.enc_codec.specs.Properties.{IsAsciiCompatible}
 use Rattle.enc_stream.specs.declared.encoding.Encoding.{Encoding}
 use Rattle.enc_stream.specs.LifeCycle.{phase_of, mark_in, encoding_of_mark_or, sequences_in}
@@ -27,7 +28,8 @@ use Rattle.enc_reader.specs.Source.{IsExhausted}
 use Rattle.enc_reader.specs.Reading.{ReaderState, ReadsOwed, HandsOut, FailsToRead, owed_sequences}
 use Rattle.enc_reader.specs.Turn.{AreOwnBytes, FillsBuffer, IsOwnText}
 use Rattle.enc_reader.proofs.SourceLemmas.{ConsumesRemaining-none}
-use Rattle.enc_reader.proofs.ReadingLemmas.{ReadsOwed-none, ReadsOwed-then, before_end, left_of, handed_utf_8}
+use Rattle.enc_reader.proofs.ReadingLemmas.{reader_at, ReadsOwed-none, ReadsOwed-then, before_end, handed_utf_8}
+use Rattle.enc_reader.proofs.TurnLemmas.{left_of}
 
 -- Each character of UTF-8, and each byte of ASCII, is a sequence by itself.
 
@@ -131,27 +133,9 @@ module _ (d : DecoderState) (src : List ℕ) (ended : Bool) (n : ℕ) (within : 
         );
   }
 
-or_false : (b : Bool) → b ≡ (b || false)
-or_false true = refl
-or_false false = refl
-
 -- a reader, by its decoder and the bytes that are not decoded
 abbrev reader_with : DecoderState → Bool → List ℕ → ReaderState
 reader_with d ended unread = record { decoder = d; unread = unread; ended = ended }
-
-pub HandsOut-lent : (source : Option (List ℕ)) (d : DecoderState) (src : List ℕ) (ended : Bool)
-    (n : ℕ) (had : Bool)
-    → n ≤ length src
-    → IsOwnText d (take n src) → (ended ≡ true → IsExhausted source)
-    → HandsOut source source (reader_with d ended src) (reader_with d ended (drop n src))
-    (take n src) had had
-HandsOut-lent source d src ended n had within o none = record {
-  bytes = [];
-  malformed = false;
-  reads = ReadsOwed-lent d src ended n within o source;
-  flag = or_false had;
-  exhausted = none;
-}
 
 -- the same, by places in the buffer
 pub HandsOut-chunk : (source : Option (List ℕ)) (d : DecoderState) (filled at n : ℕ) (xs : List ℕ)
@@ -175,18 +159,18 @@ HandsOut-chunk source d filled at n xs ended had within_filled w within o none =
     let place : at ≡ at + n - n = omega arith in
     let text : take n src ≡ take n (drop (at + n - n) xs) =
     take-take n (filled - at) (drop at xs) within ∙ ap (λ k. take n (drop k xs)) place in
-    subst (λ u. HandsOut source source (reader_with d ended src) (reader_with d ended u)
-    (take n (drop (at + n - n) xs)) had had)
-    (left_of filled at n xs within_filled few)
-    (subst (λ t. HandsOut source source (reader_with d ended src) (reader_with d ended (drop n src))
-    t had had)
-    text (HandsOut-lent source d src ended n had few o none))
+    rw (← text, ← left_of filled at n xs within_filled few) (record {
+      bytes = [];
+      malformed = false;
+      reads = ReadsOwed-lent d src ended n few o source;
+      flag = sym (or_false had);
+      exhausted = none;
+    })
 
 pub handed_is_utf_8 : {t₀ t : Option (List ℕ)} {a b : ReaderState} {wrote : List ℕ}
     {had_before had_after : Bool}
     → HandsOut t₀ t a b wrote had_before had_after → IsUtf8 wrote
-handed_is_utf_8 {t₀ = t₀} {t = t} {a = a} {b = b} {wrote = wrote} hands_out =
-    handed_utf_8 t₀ t a b hands_out.bytes wrote hands_out.malformed hands_out.reads
+handed_is_utf_8 hands_out = handed_utf_8 hands_out.reads
 
 -- a chunk that can't be pulled
 pub FailsToRead-pull : {t₀ t₁ : Option (List ℕ)} {failed_before failed_after : Bool}
@@ -210,14 +194,11 @@ module _ {t₀ t₁ t₂ : Option (List ℕ)} {a b c : ReaderState} (fills_buffe
     pub HandsOut-filled : {wrote : List ℕ} {had_before had_after : Bool}
         → HandsOut t₁ t₂ b c wrote had_before had_after
         → HandsOut t₀ t₂ a c wrote had_before had_after
-    HandsOut-filled {wrote = wrote} hands_out = record {
+    HandsOut-filled hands_out = record {
       bytes = fills_buffer.bytes ++ hands_out.bytes;
       malformed = hands_out.malformed;
-      reads =
-          ReadsOwed-then t₀ t₁ t₂ a b c fills_buffer.bytes hands_out.bytes [] wrote false
-          hands_out.malformed
-          fills_buffer.reads
-          hands_out.reads;
+      reads = ReadsOwed-then (reader_at t₀ a) (reader_at t₁ b) (reader_at t₂ c)
+          fills_buffer.reads hands_out.reads;
       flag = hands_out.flag;
       exhausted = hands_out.exhausted;
     }
@@ -229,10 +210,8 @@ module _ {t₀ t₁ t₂ : Option (List ℕ)} {a b c : ReaderState} (fills_buffe
     FailsToRead-filled e fails = record {
       bytes = fills_buffer.bytes ++ fails.bytes;
       malformed = fails.malformed;
-      reads = ReadsOwed-then t₀ t₁ t₂ a b c fills_buffer.bytes fails.bytes [] [] false
-          fails.malformed
-          fills_buffer.reads
-          fails.reads;
+      reads = ReadsOwed-then (reader_at t₀ a) (reader_at t₁ b) (reader_at t₂ c)
+          fills_buffer.reads fails.reads;
       not_ended = fails.not_ended;
       not_before = sym e ∙ fails.not_before;
       why = elim fails.why [

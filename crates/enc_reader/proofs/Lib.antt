@@ -1,3 +1,4 @@
 pub mod SourceLemmas
 pub mod ReadingLemmas
+pub mod TurnLemmas
 pub mod LendingLemmas

@@ -48,9 +48,30 @@ pub struct HandedText {
     lent: bool,
 }
 
-/// The result of a turn of the decoder.
+/// The bytes of the buffer that the source has returned and that are not decoded.
 #[derive(Clone, Copy)]
-struct Turn {
+struct UnreadPart {
+    /// The offset of the first of them.
+    at: usize,
+    /// The offset after the last of them.
+    filled: usize,
+}
+
+/// The outcome of a call of the decoder.
+#[derive(Clone, Copy)]
+struct CallOutcome {
+    result: CoderResult,
+    /// The number of bytes read.
+    read: usize,
+    /// The number of bytes of text written.
+    written: usize,
+    /// Whether U+FFFD was written for a malformed sequence.
+    replaced: bool,
+}
+
+/// The outcome of a turn of the decoder.
+#[derive(Clone, Copy)]
+struct TurnOutcome {
     /// The number of bytes of text written.
     written: usize,
     /// Whether U+FFFD was written for a malformed sequence.
@@ -59,14 +80,14 @@ struct Turn {
     waits: bool,
 }
 
-impl Turn {
-    /// Returns a turn that has written nothing.
-    fn without_text(replaced: bool, waits: bool) -> Turn
+impl TurnOutcome {
+    /// Returns the outcome of a turn that has written nothing.
+    fn without_text(replaced: bool, waits: bool) -> TurnOutcome
         ensures written { result.written ≡ 0 }
         ensures replaced { result.replaced ≡ replaced }
         ensures waits { result.waits ≡ waits }
     {
-        Turn {
+        TurnOutcome {
             written: 0,
             replaced,
             waits,
@@ -74,27 +95,33 @@ impl Turn {
     }
 }
 
-/// Decodes the bytes of `input` from `at` to `filled`. (The buffer is passed on as it is borrowed,
-/// so that its bytes are known to stay.)
-fn decode_between(
+/// Decodes the unread part of `input`. (The buffer is passed on as it is borrowed, so that its
+/// bytes are known to stay.)
+fn decode_unread(
     decoder: &mut Decoder,
     input: &mut [u8],
-    at: usize,
-    filled: usize,
+    unread: UnreadPart,
     dst: &mut [u8],
     last: bool,
-) -> (CoderResult, usize, usize, bool)
+) -> CallOutcome
     requires going { has_finished decoder.old ≡ false }
-    requires before { at ≤ filled }
-    requires within { filled ≤ length input.old }
+    requires before { unread.at ≤ unread.filled }
+    requires within { unread.filled ≤ length input.old }
     ensures call { AnswersDecodeReplacing encode_utf8 4 decoder.old decoder.new
-        (take (filled - at) (drop at input.old)) last (length dst.old)
-        result.0 result.1 (take result.2 dst.new) result.3 }
-    ensures written { result.2 ≤ length dst.old }
-    ensures rest { drop result.2 dst.new ≡ drop result.2 dst.old }
+        (take (unread.filled - unread.at) (drop unread.at input.old)) last (length dst.old)
+        result.result result.read (take result.written dst.new) result.replaced }
+    ensures written { result.written ≤ length dst.old }
+    ensures rest { drop result.written dst.new ≡ drop result.written dst.old }
     ensures kept { input.new ≡ input.old }
 {
-    decoder.decode_to_utf8(&input[at..filled], dst, last)
+    let src = &input[unread.at..unread.filled];
+    let (result, read, written, replaced) = decoder.decode_to_utf8(src, dst, last);
+    CallOutcome {
+        result,
+        read,
+        written,
+        replaced,
+    }
 }
 
 /// Moves the bytes of `input` from `at` to `filled` to its start.
@@ -252,7 +279,7 @@ impl<'a, R: Source> DecodeReader<'a, R> {
     }
 
     /// Decodes the unread bytes, or the end, as far as there is room.
-    fn decode(&mut self, dst: &mut [u8]) -> Turn
+    fn decode(&mut self, dst: &mut [u8]) -> TurnOutcome
         requires room { 4 ≤ length dst.old }
         ensures turn { IsTurn (state_of self.old) (state_of self.new)
             (take result.written dst.new) result.replaced result.waits }
@@ -264,28 +291,25 @@ impl<'a, R: Source> DecodeReader<'a, R> {
         ensures had_errors { self.new.had_errors ≡ self.old.had_errors }
     {
         if self.decoder.is_finished() {
-            return Turn::without_text(false, false);
+            return TurnOutcome::without_text(false, false);
         }
         if (self.at == self.filled) & !self.ended {
-            return Turn::without_text(false, true);
+            return TurnOutcome::without_text(false, true);
         }
-        let (_, read, written, replaced) = decode_between(
-            &mut self.decoder,
-            self.input,
-            self.at,
-            self.filled,
-            dst,
-            self.ended,
-        );
-        self.at += read;
-        if written > 0 {
-            return Turn {
-                written,
-                replaced,
+        let unread = UnreadPart {
+            at: self.at,
+            filled: self.filled,
+        };
+        let call = decode_unread(&mut self.decoder, self.input, unread, dst, self.ended);
+        self.at += call.read;
+        if call.written > 0 {
+            return TurnOutcome {
+                written: call.written,
+                replaced: call.replaced,
                 waits: false,
             };
         }
-        Turn::without_text(replaced, !self.decoder.is_finished())
+        TurnOutcome::without_text(call.replaced, !self.decoder.is_finished())
     }
 
     /// Writes the next text to `dst`, in UTF-8: as many whole characters as fit.

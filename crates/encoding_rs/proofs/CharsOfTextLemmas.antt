@@ -4,7 +4,7 @@ use Rattle.std.proofs.Common.{length, take, drop, nat_lt, ◌/◌, ◌%◌, cond
 use Rattle.std.proofs.Common.{length-append, length-drop}
 use Rattle.std.proofs.lemmas.List.{append_cancel_right, take-append-drop, drop-drop, drop-append-le}
 use Rattle.std.proofs.Math.ListN.{drop_of_length-le}
-use Rattle.std.proofs.Math.Seq.{take-add}
+use Rattle.std.proofs.Math.Seq.{take-add, drop-append_seam}
 use Rattle.std.specs.Char.Escape.{encode_utf16}
 use Rattle.std.specs.Char.Utf16.{utf16_lossy_chars}
 use Rattle.enc_units.proofs.UnitsLemmas.{utf_16_read_back}
@@ -29,10 +29,6 @@ begin text u =
     let none_before : 0 ≡ length text - length text = omega arith in
     record { few = omega arith; end = ap (λ n. drop n text) none_before; utf8 = u; chars = refl }
 
-past : (a x : List ℕ) → drop (length a) (a ++ x) ≡ x
-past [] x = refl
-past (y ∷ a) x = past a x
-
 pub one_more : (text rest others : List ℕ) (count c : ℕ) → IsAfter text rest count
     → rest ≡ encode_utf8 c ++ others → IsAfter text others (count + 1)
 one_more text rest others count c follows rest_is =
@@ -41,7 +37,7 @@ one_more text rest others count c follows rest_is =
     ∙ length-append (encode_utf8 c) others in
     let some : 1 ≤ width = omega (arith, length-encode c, len_utf8_bounds c) in
     let others_are : others ≡ drop width rest =
-    sym (ap (drop width) rest_is ∙ past (encode_utf8 c) others) in
+    sym (ap (drop width) rest_is ∙ drop-append_seam (encode_utf8 c) others) in
     let place_is : length text - length rest + width ≡ length text - length others =
     omega (arith, len, follows.few) in
     record {
@@ -98,10 +94,6 @@ pub none_taken : (units_of : ℕ → List ℕ) (text : List ℕ) (units : ℕ)
     → Leaves units_of text units 0 units
 none_taken units_of text units front back e u = (omega arith, u)
 
-left_of : (front back rest : List ℕ) (count : ℕ) → count ≤ length front
-    → rest ≡ drop count (front ++ back) → rest ≡ drop count front ++ back
-left_of front back rest count h e = e ∙ drop-append-le count front back h
-
 one_left : (units_of : ℕ → List ℕ) (others : List ℕ) (back more : List ℕ) (c left width : ℕ)
     → width ≡ length (units_of c) → 0 < left → left ≡ length (units_of_text units_of others)
     → c ∷ more ≡ others ++ back → (0 < length others)
@@ -123,7 +115,7 @@ takes_one units_of {text} {rest} others {count = count} {left = left} c {width} 
     let now = l front back e u in
     let rest_is : c ∷ chars others ≡ drop count front ++ back =
     sym (chars_past_char rest others c follows.utf8 r) ∙ follows.chars
-    ∙ left_of front back (drop count (chars text)) count now.0 (ap (drop count) e) in
+    ∙ ap (drop count) e ∙ drop-append-le count front back now.0 in
     let next = one_left units_of (drop count front) back (chars others) c left width w h now.1
     rest_is in (
       omega (arith, next.0, length-drop count front),
@@ -160,7 +152,7 @@ at_end_taken units_of text rest units count left b r l front back chars_are u =
     let now = l front back chars_are u in
     let none : [] ≡ drop count front ++ back =
     sym (no_chars rest r) ∙ b.chars
-    ∙ left_of front back (drop count (chars text)) count now.0 (ap (drop count) chars_are) in
+    ∙ ap (drop count) chars_are ∙ drop-append-le count front back now.0 in
     omega (
       arith,
       now.0,
@@ -180,24 +172,19 @@ pub cut_at : (text rest found : List ℕ) (reached count : ℕ) → IsAfter text
     → found ≡ rest → reached ≤ count → count ≤ reached → IsCut text found count
 cut_at text rest found reached count b e l h =
     let same : reached ≡ count = omega arith in
-    let it = subst (λ (x : List ℕ). IsAfter text x reached) (sym e) b in
-    record {
+    rw e (record {
       reached = reached;
-      follows = it;
-      chars = it.chars
-          ∙ ap (λ n. drop n (chars text)) same;
-    }
+      follows = b;
+      chars = b.chars ∙ ap (λ n. drop n (chars text)) same;
+    })
 
 pub cut_at_end : (text rest found : List ℕ) (reached count : ℕ) → IsAfter text rest reached
     → found ≡ rest → reached ≤ count → length rest ≡ 0 → IsCut text found count
-cut_at_end text rest found reached count b found_is_rest l n =
-    let it = subst (λ (x : List ℕ). IsAfter text x reached) (sym found_is_rest) b in
-    record {
-      reached = reached;
-      follows = it;
-      chars = at_end text found reached count it (ap length found_is_rest
-          ∙ n) l;
-    }
+cut_at_end text rest found reached count b found_is_rest l n = rw found_is_rest (record {
+  reached = reached;
+  follows = b;
+  chars = at_end text rest reached count b n l;
+})
 
 pub some_units : (utf16 : Bool) (c : ℕ) → 1 ≤ length (units_of_call utf16 c)
 some_units false c = omega (arith, length-encode c, len_utf8_bounds c)

@@ -1,6 +1,10 @@
 pub mod BarringLemmas
+pub mod RunLemmas
+pub mod DecodeCallLemmas
+pub mod FaultPlaceLemmas
 pub mod DecodeRunLemmas
 pub mod CharsOfTextLemmas
+pub mod EncodeCallLemmas
 pub mod EncodeRunLemmas
 pub mod RoundTripLemmas
 pub mod WellFormedLemmas

@@ -99,7 +99,7 @@ length_after (Some m) bytes = length-drop (length m.bytes) bytes
 
 module _ (handling : BomHandling) (e : Encoding) (bytes : List ℕ) (s : Sequence)
     (ss rest : List Sequence) (k : ℕ)
-    (a : AreBytes bytes) (whole : whole_sequences handling e bytes ≡ (s ∷ ss) ++ rest)
+    (whole : whole_sequences handling e bytes ≡ (s ∷ ss) ++ rest)
     (inside : k ≤ length bytes) where
   abbrev looked_for : List Mark
   looked_for = marks_looked_for handling e
@@ -141,16 +141,17 @@ module _ (handling : BomHandling) (e : Encoding) (bytes : List ℕ) (s : Sequenc
         (s ∷ ss)) (front_after found bytes k fits)
         (by_rule handling e (take k bytes) (s ∷ ss) found same mark_decided)
 
-  pub determined_whole : Determines (whole_sequences handling e) (take k bytes) (s ∷ ss)
+  pub determined_whole : AreBytes bytes
+      → Determines (whole_sequences handling e) (take k bytes) (s ∷ ss)
       ↔ ((MayBeginMark looked_for (take k bytes) → ⊥)
       × CoverLookahead rule 0 left (s ∷ ss) (k - mark_len))
-  determined_whole = (
+  determined_whole are_bytes = (
     (λ determined. let mark_decided : MayBeginMark looked_for (take k bytes)
         → ⊥ = λ i. undetermined handling e (take k bytes) s ss i determined in (
           mark_decided,
           reach_after rule (lookahead_of (encoding_of_mark_or found e)) (s ∷ ss) rest 0
               (k - mark_len) left
-              (bytes_after found bytes a) all (few mark_decided)
+              (bytes_after found bytes are_bytes) all (few mark_decided)
               ((by_front mark_decided).0 determined),
         )),
     (λ both. (by_front both.0).1

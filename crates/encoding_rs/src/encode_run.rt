@@ -51,16 +51,16 @@ pub struct EncodeReport {
     pub calls: usize,
 }
 
-/// The result of one call of a run. The number read is in code units or in characters.
+/// The outcome of one call of a run. The number read is in code units or in characters.
 #[derive(Clone, Copy)]
-struct Made {
+struct EncodeOutcome {
     result: EncoderResult,
     read: usize,
     replaced: bool,
 }
 
-/// Returns the result of a call with replacement.
-fn made_replacing(stop: CoderResult, read: usize, replaced: bool) -> Made
+/// Returns the outcome of a call with replacement.
+fn replacing_outcome(stop: CoderResult, read: usize, replaced: bool) -> EncodeOutcome
     ensures { result
         ≡ record { result = encoder_result_of stop; read = read; replaced = replaced } }
 {
@@ -68,21 +68,21 @@ fn made_replacing(stop: CoderResult, read: usize, replaced: bool) -> Made
         CoderResult::InputEmpty => EncoderResult::InputEmpty,
         CoderResult::OutputFull => EncoderResult::OutputFull,
     };
-    Made {
+    EncodeOutcome {
         result,
         read,
         replaced,
     }
 }
 
-/// Makes one call from UTF-8. Returns its result and its bytes.
+/// Makes one call from UTF-8. Returns its outcome and its bytes.
 fn call_from_utf8(
     alloc: Global,
     encoder: &mut Encoder,
     chunk: &str,
     last: bool,
     call: EncodeCall,
-) -> Result<(Made, Vec<u8>), AllocError>
+) -> Result<(EncodeOutcome, Vec<u8>), AllocError>
     ensures { IfOk result (λ done. EncodesChunk encode_utf8
         (encode_error_mode call.replace encoder.old) encoder.old encoder.new (chars chunk.now) last
         call.room done.0.result done.0.read done.1.items done.0.replaced) }
@@ -90,27 +90,27 @@ fn call_from_utf8(
     let mut bytes = Vec::with_capacity(alloc, call.room)?;
     if call.replace {
         let (stop, read, replaced) = encoder.encode_from_utf8_to_vec(chunk, &mut bytes, last);
-        return Ok((made_replacing(stop, read, replaced), bytes));
+        return Ok((replacing_outcome(stop, read, replaced), bytes));
     }
     let (result, read) = encoder.encode_from_utf8_to_vec_without_replacement(
         chunk, &mut bytes, last,
     );
-    let made = Made {
+    let outcome = EncodeOutcome {
         result,
         read,
         replaced: false,
     };
-    Ok((made, bytes))
+    Ok((outcome, bytes))
 }
 
-/// Makes one call from UTF-16. Returns its result and its bytes.
+/// Makes one call from UTF-16. Returns its outcome and its bytes.
 fn call_from_utf16(
     alloc: Global,
     encoder: &mut Encoder,
     chunk: &str,
     last: bool,
     call: EncodeCall,
-) -> Result<(Made, Vec<u8>), AllocError>
+) -> Result<(EncodeOutcome, Vec<u8>), AllocError>
     ensures { IfOk result (λ done. EncodesChunk encode_utf16
         (encode_error_mode call.replace encoder.old) encoder.old encoder.new (chars chunk.now) last
         call.room done.0.result done.0.read done.1.items done.0.replaced) }
@@ -120,28 +120,28 @@ fn call_from_utf16(
     if call.replace {
         let (stop, read, written, replaced) = encoder.encode_from_utf16(&units, &mut bytes, last);
         bytes.truncate(written);
-        return Ok((made_replacing(stop, read, replaced), bytes));
+        return Ok((replacing_outcome(stop, read, replaced), bytes));
     }
     let (result, read, written) = encoder.encode_from_utf16_without_replacement(
         &units, &mut bytes, last,
     );
     bytes.truncate(written);
-    let made = Made {
+    let outcome = EncodeOutcome {
         result,
         read,
         replaced: false,
     };
-    Ok((made, bytes))
+    Ok((outcome, bytes))
 }
 
-/// Makes one call from UTF-8 or UTF-16. Returns its result and its bytes.
+/// Makes one call from UTF-8 or UTF-16. Returns its outcome and its bytes.
 fn call_from(
     alloc: Global,
     encoder: &mut Encoder,
     chunk: &str,
     last: bool,
     call: EncodeCall,
-) -> Result<(Made, Vec<u8>), AllocError>
+) -> Result<(EncodeOutcome, Vec<u8>), AllocError>
     ensures { IfOk result (λ done. EncodesChunk (units_of_call call.utf16)
         (encode_error_mode call.replace encoder.old) encoder.old encoder.new (chars chunk.now) last
         call.room done.0.result done.0.read done.1.items done.0.replaced) }
@@ -201,29 +201,29 @@ fn reads_all(stop: EncoderResult) -> bool
 }
 
 /// Makes one call of a run, and appends the reference for an unmappable character that it reports.
-/// Returns its result, in characters, and whether it has ended the text.
+/// Returns its outcome, in characters, and whether it has ended the text.
 fn make_call(
     alloc: Global,
     encoder: &mut Encoder,
     unread: &str,
     call: EncodeCall,
     bytes: &mut Vec<u8>,
-) -> Result<(Made, bool), AllocError>
+) -> Result<(EncodeOutcome, bool), AllocError>
     ensures call { IfOk result
-        (λ made. MakesEncodeCall call encoder.old encoder.new (chars unread.now)
-        bytes.old.items bytes.new.items made.0.result made.0.read made.0.replaced) }
-    ensures ended { IfOk result (λ made. made.1
-        ≡ (nat_le (length (chars unread.now)) call.offer && is_input_empty_result made.0.result)) }
+        (λ done. MakesEncodeCall call encoder.old encoder.new (chars unread.now)
+        bytes.old.items bytes.new.items done.0.result done.0.read done.0.replaced) }
+    ensures ended { IfOk result (λ done. done.1
+        ≡ (nat_le (length (chars unread.now)) call.offer && is_input_empty_result done.0.result)) }
 {
     let (chunk, rest) = split_at_char(unread, call.offer);
     let last = rest.is_empty();
-    let (made, wrote) = call_from(alloc, encoder, chunk, last, call)?;
+    let (outcome, wrote) = call_from(alloc, encoder, chunk, last, call)?;
     bytes.extend_from_slice(&wrote)?;
-    append_reference(bytes, made.result)?;
-    let read = chars_in_units(chunk, made.read, call.utf16);
-    let ended = last & reads_all(made.result);
-    let made = Made { read, ..made };
-    Ok((made, ended))
+    append_reference(bytes, outcome.result)?;
+    let read = chars_in_units(chunk, outcome.read, call.utf16);
+    let ended = last & reads_all(outcome.result);
+    let outcome = EncodeOutcome { read, ..outcome };
+    Ok((outcome, ended))
 }
 
 /// Encodes `text` by `calls`, in turn, with a new encoder of the output encoding.

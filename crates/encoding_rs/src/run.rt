@@ -67,16 +67,16 @@ fn number() -> u8
     RunError::Memory as u8
 }
 
-/// The result of one call of a run.
+/// The outcome of one call of a run.
 #[derive(Clone, Copy)]
-struct Made {
+struct DecodeOutcome {
     result: DecoderResult,
     read: usize,
     replaced: bool,
 }
 
-/// Returns the result of a call with replacement.
-fn made_replacing(stop: CoderResult, read: usize, replaced: bool) -> Made
+/// Returns the outcome of a call with replacement.
+fn replacing_outcome(stop: CoderResult, read: usize, replaced: bool) -> DecodeOutcome
     ensures { result
         ≡ record { result = decoder_result_of stop; read = read; replaced = replaced } }
 {
@@ -84,21 +84,21 @@ fn made_replacing(stop: CoderResult, read: usize, replaced: bool) -> Made
         CoderResult::InputEmpty => DecoderResult::InputEmpty,
         CoderResult::OutputFull => DecoderResult::OutputFull,
     };
-    Made {
+    DecodeOutcome {
         result,
         read,
         replaced,
     }
 }
 
-/// Makes one call into UTF-8. Returns its result and its text.
+/// Makes one call into UTF-8. Returns its outcome and its text.
 fn call_to_utf8(
     alloc: Global,
     decoder: &mut Decoder,
     chunk: &[u8],
     last: bool,
     call: DecodeCall,
-) -> Result<(Made, String), AllocError>
+) -> Result<(DecodeOutcome, String), AllocError>
     requires { has_finished decoder.old ≡ false }
     ensures { IfOk result (λ done. AnswersDecodeCall encode_utf8 call decoder.old decoder.new
         chunk.now last done.0.result done.0.read done.0.replaced (string_bytes done.1)) }
@@ -106,25 +106,25 @@ fn call_to_utf8(
     let mut text = String::with_capacity(alloc, call.room)?;
     if call.replace {
         let (stop, read, replaced) = decoder.decode_to_string(chunk, &mut text, last);
-        return Ok((made_replacing(stop, read, replaced), text));
+        return Ok((replacing_outcome(stop, read, replaced), text));
     }
     let (result, read) = decoder.decode_to_string_without_replacement(chunk, &mut text, last);
-    let made = Made {
+    let outcome = DecodeOutcome {
         result,
         read,
         replaced: false,
     };
-    Ok((made, text))
+    Ok((outcome, text))
 }
 
-/// Makes one call into UTF-16. Returns its result and its text.
+/// Makes one call into UTF-16. Returns its outcome and its text.
 fn call_to_utf16(
     alloc: Global,
     decoder: &mut Decoder,
     chunk: &[u8],
     last: bool,
     call: DecodeCall,
-) -> Result<(Made, String), AllocError>
+) -> Result<(DecodeOutcome, String), AllocError>
     requires { has_finished decoder.old ≡ false }
     ensures { IfOk result (λ done. AnswersDecodeCall encode_utf16 call decoder.old decoder.new
         chunk.now last done.0.result done.0.read done.0.replaced (string_bytes done.1)) }
@@ -133,28 +133,28 @@ fn call_to_utf16(
     if call.replace {
         let (stop, read, written, replaced) = decoder.decode_to_utf16(chunk, &mut units, last);
         let text = String::from_utf16_lossy(alloc, &units[..written])?;
-        return Ok((made_replacing(stop, read, replaced), text));
+        return Ok((replacing_outcome(stop, read, replaced), text));
     }
     let (result, read, written) = decoder.decode_to_utf16_without_replacement(
         chunk, &mut units, last,
     );
     let text = String::from_utf16_lossy(alloc, &units[..written])?;
-    let made = Made {
+    let outcome = DecodeOutcome {
         result,
         read,
         replaced: false,
     };
-    Ok((made, text))
+    Ok((outcome, text))
 }
 
-/// Makes one call into UTF-8 or UTF-16. Returns its result and its text.
+/// Makes one call into UTF-8 or UTF-16. Returns its outcome and its text.
 fn call_to(
     alloc: Global,
     decoder: &mut Decoder,
     chunk: &[u8],
     last: bool,
     call: DecodeCall,
-) -> Result<(Made, String), AllocError>
+) -> Result<(DecodeOutcome, String), AllocError>
     requires { has_finished decoder.old ≡ false }
     ensures { IfOk result (λ done. AnswersDecodeCall (units_of_call call.utf16) call decoder.old
         decoder.new chunk.now last done.0.result done.0.read done.0.replaced
@@ -184,19 +184,20 @@ fn make_call(
     unread: &[u8],
     call: DecodeCall,
     text: &mut String,
-) -> Result<Made, AllocError>
+) -> Result<DecodeOutcome, AllocError>
     requires { has_finished decoder.old ≡ false }
-    ensures { IfOk result (λ made. MakesDecodeCall call decoder.old decoder.new unread.now
-        (string_bytes text.old) (string_bytes text.new) made.result made.read made.replaced) }
+    ensures { IfOk result (λ outcome. MakesDecodeCall call decoder.old decoder.new unread.now
+        (string_bytes text.old) (string_bytes text.new) outcome.result outcome.read
+        outcome.replaced) }
 {
     let (chunk, _) = unread.split_at(call.offer.min(unread.len()));
-    let (made, piece) = call_to(alloc, decoder, chunk, unread.len() <= call.offer, call)?;
+    let (outcome, piece) = call_to(alloc, decoder, chunk, unread.len() <= call.offer, call)?;
     text.push_str(piece.as_str())?;
-    if !reports(made.result) {
-        return Ok(made);
+    if !reports(outcome.result) {
+        return Ok(outcome);
     }
     text.push('\u{FFFD}')?;
-    Ok(made)
+    Ok(outcome)
 }
 
 /// Appends the offset and length of the malformed sequence that a call has reported, if any.

@@ -6,7 +6,8 @@ use Rattle.std.specs.Char.{encode_utf8}
 use Rattle.enc_units.specs.declared.decoder_result.DecoderResult.{DecoderResult}
 use Rattle.enc_units.specs.declared.decoder_result.DecoderResult.TheVariants as raw
 use Rattle.enc_decoder.specs.Sequence.{Sequence, is_malformed, any_malformed}
-use Rattle.encoding_rs.specs.Decoding.{DecoderState, remaining_sequences, DecodesReporting}
+use Rattle.enc_decoder.specs.Call.{DecoderStops, Fatal}
+use Rattle.encoding_rs.specs.Decoding.{DecoderState, decoder_remainder, remaining_sequences, DecodesReporting}
 use Rattle.example_callers.specs.Count.{malformed_count}
 use Rattle.example_callers.proofs.WrittenText.{drop_whole}
 
@@ -34,41 +35,6 @@ reported raw.InputEmpty = 0
 reported raw.OutputFull = 0
 reported (raw.Malformed l a) = 1
 
-one_if : (b : Bool) → b ≡ true → (if b then 1 else 0) + 0 ≡ 1
-one_if true h = refl
-one_if false h = absurd (true≢false (sym h))
-
-counts : {old new : DecoderState} {src : List ℕ} {room : ℕ} (result : DecoderResult)
-    {read : ℕ} {wrote : List ℕ}
-    → DecodesReporting encode_utf8 old new src true room result read wrote
-    → malformed_count (remaining_sequences old (src ++ []))
-    ≡ reported result + malformed_count (remaining_sequences new (drop read src ++ []))
-counts {new} {src} raw.InputEmpty {read} decodes =
-    let call = decodes.call in
-    let after = remaining_sequences new (drop read src ++ []) in
-    ap malformed_count (call.residual [] (λ _. refl))
-    ∙ malformed_count-append call.done after
-    ∙ ap (λ n. n + malformed_count after)
-    (ap malformed_count call.stops.only_put ∙ none_counted call.put call.flag)
-counts {new} {src} raw.OutputFull {read} decodes =
-    let call = decodes.call in
-    let after = remaining_sequences new (drop read src ++ []) in
-    ap malformed_count (call.residual [] (λ _. refl))
-    ∙ malformed_count-append call.done after
-    ∙ ap (λ n. n + malformed_count after)
-    (ap malformed_count call.stops.only_put ∙ none_counted call.put call.flag)
-counts {new} {src} (raw.Malformed l a) {read} decodes =
-    let call = decodes.call in
-    let last_one = call.stops.next ∷ [] in
-    let after = remaining_sequences new (drop read src ++ []) in
-    ap malformed_count (call.residual [] (λ _. refl))
-    ∙ malformed_count-append call.done after
-    ∙ ap (λ n. n + malformed_count after)
-    (ap malformed_count call.stops.then_next ∙ malformed_count-append call.put last_one
-    ∙ ap (λ n. n + malformed_count last_one) (none_counted call.put call.flag)
-    ∙ zero-add (malformed_count last_one)
-    ∙ one_if (is_malformed call.stops.next.kind) call.stops.malformed)
-
 -- The malformed sequences to come before a call are the one that it reports and those to come after
 -- it.
 pub counts_now : {old new : DecoderState} {src : List ℕ} {room : ℕ} (result : DecoderResult)
@@ -76,11 +42,29 @@ pub counts_now : {old new : DecoderState} {src : List ℕ} {room : ℕ} (result 
     → DecodesReporting encode_utf8 old new src true room result read wrote
     → malformed_count (remaining_sequences old src)
     ≡ reported result + malformed_count (remaining_sequences new (drop read src))
-counts_now {old} {new} {src} result {read} decodes =
+counts_now {old} {new} {src} {room} result {read} decodes =
+    let call = decodes.call in
+    let after = remaining_sequences new (drop read src) in
     ap (λ x. malformed_count (remaining_sequences old x)) (sym (append-nil src))
-    ∙ counts result decodes
-    ∙ ap (λ x. reported result + malformed_count (remaining_sequences new x))
-    (append-nil (drop read src))
+    ∙ ap malformed_count (call.residual [] (λ _. refl)
+    ∙ ap (λ x. call.done ++ remaining_sequences new x) (append-nil (drop read src)))
+    ∙ malformed_count-append call.done after
+    ∙ ap (λ n. n + malformed_count after) (by_result result call.stops)
+  where
+    by_result : (r : DecoderResult)
+        → DecoderStops encode_utf8 (decoder_remainder old) (decoder_remainder new) src true
+        (Fatal false) room decodes.call.put decodes.call.done read r
+        → malformed_count decodes.call.done ≡ reported r
+    by_result raw.InputEmpty stops = ap malformed_count stops.only_put
+        ∙ none_counted decodes.call.put decodes.call.flag
+    by_result raw.OutputFull stops = ap malformed_count stops.only_put
+        ∙ none_counted decodes.call.put decodes.call.flag
+    by_result (raw.Malformed l a) stops =
+        ap malformed_count stops.then_next
+        ∙ malformed_count-append decodes.call.put (stops.next ∷ [])
+        ∙ ap (λ n. n + malformed_count (stops.next ∷ []))
+        (none_counted decodes.call.put decodes.call.flag)
+        ∙ rw stops.malformed refl
 
 -- Before a call that returns `InputEmpty` none is to come.
 pub none_at_end : {old new : DecoderState} {src : List ℕ} {room : ℕ} (result : DecoderResult)

@@ -1,5 +1,5 @@
 -- Successive calls of an encoder are one call.
-use Rattle.std.proofs.Common.{◌≡◌, ℕ, Bool, true, false, ◌||◌, Option, List, [], ◌∷◌, ◌++◌, length, take, drop, refl}
+use Rattle.std.proofs.Common.{◌≡◌, ℕ, Bool, true, false, ◌||◌, Option, List, [], ◌∷◌, ◌++◌, refl}
 use Rattle.std.proofs.Common.{ap, ◌∙◌, sym, subst, append_assoc, append-nil, chars, IsUtf8}
 use Rattle.std.proofs.lemmas.Str.{encodes-chars}
 use Rattle.std.specs.Char.{encode_utf8}
@@ -12,7 +12,7 @@ use Rattle.enc_encoder.specs.declared.character_set.CharacterSet.{CharacterSet}
 use Rattle.enc_encoder.specs.declared.character_set.CharacterSet.TheVariants.{Ascii}
 use Rattle.enc_encoder.specs.Stateless.{stateless_rule}
 use Rattle.enc_encode.specs.Utf8.{utf_8_bytes}
-use Rattle.enc_encoder.specs.Text.{bytes_after_text, with_references}
+use Rattle.enc_encoder.specs.Text.{bytes_after_text, with_references, KeepsText}
 use Rattle.enc_encoder.specs.Steps.{step_chars}
 use Rattle.enc_units.specs.Results.{encoder_result_of}
 use Rattle.enc_encoder.specs.Unmappable.{any_unmappable}
@@ -21,22 +21,18 @@ use Rattle.enc_encoder.proofs.UnmappableLemmas.{any_reported_is, any_unmappable-
 use Rattle.enc_stream.specs.declared.encoding.Encoding.{Encoding}
 use Rattle.enc_stream.specs.declared.constants.TheConstants.{UTF_8}
 use Rattle.enc_stream.specs.Encodings.{output_rule}
-use Rattle.enc_stream.specs.Encoder.{EncoderState, EncodesInto, raw_state, html_mode}
+use Rattle.enc_stream.specs.Encoder.{EncoderState, EncodesChunk, raw_state, html_mode}
 use Rattle.recode_engine.specs.Sink.{AppendsContents, AppendsPrefix}
-use Rattle.recode_engine.specs.Writing.{bytes_from_state, EncodesText, HasEncoded, StopsWithin}
+use Rattle.recode_engine.specs.Writing.{bytes_from_state, bytes_to_come, TextToEncode, text_to_encode}
+use Rattle.recode_engine.specs.Writing.{EncodesText, HasEncoded, StopsWithin}
 use Rattle.recode_engine.proofs.SourceSinkLemmas.{AppendsContents-none, AppendsContents-then}
-use Rattle.enc_stream.proofs.UnreadTextLemmas.{all_read, chars_after}
 
 pub not_ended : {P : Type 0} → false ≡ true → P
 not_ended e = cc
 
-pub regroup : (a b c d : List ℕ) → (a ++ (b ++ c)) ++ d ≡ (a ++ b) ++ (c ++ d)
-regroup a b c d = simp append_assoc
-
 -- no call
-pub EncodesText-none : (s : EncoderState) (text : List ℕ) (last : Bool)
-    → EncodesText s s text text last [] false
-EncodesText-none s text last =
+pub EncodesText-none : (s : TextToEncode) (last : Bool) → EncodesText s s last [] false
+EncodesText-none s last =
     record {
       encoding = refl;
       barred = refl;
@@ -47,83 +43,114 @@ EncodesText-none s text last =
     }
 
 -- one call
-pub EncodesText-call : (old new : EncoderState) (text : List ℕ) (last : Bool)
-    (before after : List ℕ) (result : CoderResult) (read written : ℕ) (replaced : Bool)
-    (this_call : EncodesInto encode_utf8 (html_mode old) old new text last before after
-    (encoder_result_of result) read
-    written
-    replaced)
-    → EncodesText old new text this_call.encodes.rest last (take written after) replaced
-EncodesText-call old new text last before after InputEmpty read written replaced this_call =
-    let encodes = this_call.encodes.call in
+pub EncodesText-call : (old : TextToEncode) {new : EncoderState} {last : Bool} {room : ℕ}
+    (result : CoderResult) {read : ℕ} {wrote : List ℕ} {replaced : Bool}
+    (encodes : EncodesChunk encode_utf8 (html_mode old.encoder) old.encoder new old.text last room
+    (encoder_result_of result) read wrote replaced)
+    → EncodesText old (text_to_encode new encodes.rest) last wrote replaced
+EncodesText-call old {new = new} {last = last} result {wrote = wrote} encodes =
+    let call = encodes.call in
     record {
-      encoding = this_call.encodes.encoding;
-      barred = this_call.encodes.barred;
-      front = step_chars encodes.done;
-      reads = encodes.reads;
-      residual = encodes.text;
+      encoding = encodes.encoding;
+      barred = encodes.barred;
+      front = step_chars call.done;
+      reads = call.reads;
+      residual = by_result result call.text;
       flag =
-          encodes.flag ∙ any_reported_is (leaves_in_mode encodes);
+          call.flag ∙ any_reported_is (leaves_in_mode call);
     }
-EncodesText-call old new text last before after OutputFull read written replaced this_call =
-    let encodes = this_call.encodes.call in
-    record {
-      encoding = this_call.encodes.encoding;
-      barred = this_call.encodes.barred;
-      front = step_chars encodes.done;
-      reads = encodes.reads;
-      residual = encodes.text;
-      flag =
-          encodes.flag ∙ any_reported_is (leaves_in_mode encodes);
-    }
+  where
+    by_result : (r : CoderResult)
+        → KeepsText (raw_state old.encoder) (raw_state new) old.text encodes.rest last
+        (encoder_result_of r) wrote
+        → (z : List ℕ) → (last ≡ true → z ≡ [])
+        → bytes_to_come old z ≡ wrote ++ bytes_from_state new (encodes.rest ++ z)
+    by_result InputEmpty keeps_text = keeps_text
+    by_result OutputFull keeps_text = keeps_text
 
--- the flags of some calls, and of some more
-flags : (a b : EncoderState) (t₁ t₂ : List ℕ) (r₁ r₂ : Bool) → b.encoding ≡ a.encoding
-    → b.barred ≡ a.barred
-    → r₁ ≡ any_unmappable (raw_state a).rule t₁ → r₂ ≡ any_unmappable (raw_state b).rule t₂
-    → (r₁ || r₂) ≡ any_unmappable (raw_state a).rule (t₁ ++ t₂)
-flags a b t₁ t₂ r₁ r₂ e h f g =
-    ap (λ r. r || r₂) f
-    ∙ ap (λ r. any_unmappable (raw_state a).rule t₁ || r)
-    (g ∙ ap (λ e. any_unmappable (output_rule b.barred e) t₂) e
-    ∙ ap (λ l. any_unmappable (output_rule l a.encoding) t₂) h)
-    ∙ sym (any_unmappable-append (raw_state a).rule t₁ t₂)
-
--- some calls, and some more that are offered the unread text
-pub EncodesText-then : (a b c : EncoderState) (text mid unread : List ℕ) (last : Bool)
-    (w₁ w₂ : List ℕ) (r₁ r₂ : Bool)
-    → EncodesText a b text mid last w₁ r₁ → EncodesText b c mid unread last w₂ r₂
-    → EncodesText a c text unread last (w₁ ++ w₂) (r₁ || r₂)
-EncodesText-then a b c text mid unread last w₁ w₂ r₁ r₂ first then_more = record {
+-- some calls, and some more that are offered the text left
+pub EncodesText-then : {a b c : TextToEncode} {last : Bool} {w₁ w₂ : List ℕ} {r₁ r₂ : Bool}
+    → EncodesText a b last w₁ r₁ → EncodesText b c last w₂ r₂
+    → EncodesText a c last (w₁ ++ w₂) (r₁ || r₂)
+EncodesText-then {a} {b} {c} {w₁ = w₁} {w₂ = w₂} {r₂ = r₂} first then_more = record {
   encoding = then_more.encoding ∙ first.encoding;
   barred = then_more.barred ∙ first.barred;
   front = first.front ++ then_more.front;
   reads = first.reads ∙ ap (λ t. first.front ++ t) then_more.reads
-      ∙ sym (append_assoc first.front then_more.front unread);
+      ∙ sym (append_assoc first.front then_more.front c.text);
   residual = λ z ends. first.residual z ends ∙ ap (λ t. w₁ ++ t) (then_more.residual z ends)
-      ∙ sym (append_assoc w₁ w₂ (bytes_from_state c (unread ++ z)));
-  flag = flags a b first.front then_more.front r₁ r₂ first.encoding first.barred first.flag
-      then_more.flag;
+      ∙ sym (append_assoc w₁ w₂ (bytes_to_come c z));
+  flag =
+      let rule = (raw_state a.encoder).rule in
+      ap (λ r. r || r₂) first.flag
+      ∙ ap (λ r. any_unmappable rule first.front || r) (then_more.flag
+      ∙ ap (λ e. any_unmappable (output_rule b.encoder.barred e) then_more.front) first.encoding
+      ∙ ap (λ l. any_unmappable (output_rule l a.encoder.encoding) then_more.front) first.barred)
+      ∙ sym (any_unmappable-append rule first.front then_more.front);
 }
 
--- a text, and another after it
-pub EncodesText-more : (a b c : EncoderState) (t₁ t₂ : List ℕ) (last : Bool) (w₁ w₂ : List ℕ)
-    (r₁ r₂ : Bool)
-    → EncodesText a b t₁ [] false w₁ r₁ → EncodesText b c t₂ [] last w₂ r₂
-    → EncodesText a c (t₁ ++ t₂) [] last (w₁ ++ w₂) (r₁ || r₂)
-EncodesText-more a b c t₁ t₂ last w₁ w₂ r₁ r₂ first then_more = record {
-  encoding = then_more.encoding ∙ first.encoding;
-  barred = then_more.barred ∙ first.barred;
-  front = first.front ++ then_more.front;
-  reads = ap (λ t. t ++ t₂) (first.reads ∙ append-nil first.front)
-      ∙ ap (λ t. first.front ++ t) then_more.reads
-      ∙ sym (append_assoc first.front then_more.front []);
-  residual = λ z h. ap (bytes_from_state a) (append_assoc t₁ t₂ z)
-      ∙ first.residual (t₂ ++ z) (λ f. not_ended f)
-      ∙ ap (λ t. w₁ ++ t) (then_more.residual z h)
-      ∙ sym (append_assoc w₁ w₂ (bytes_from_state c z));
-  flag = flags a b first.front then_more.front r₁ r₂ first.encoding first.barred first.flag
-      then_more.flag;
+-- What a sink takes
+
+pub HasEncoded-none : (s : TextToEncode) (last : Bool) (k : Option (List ℕ))
+    → HasEncoded s s last k k false
+HasEncoded-none s last k =
+    record { wrote = []; encoded = EncodesText-none s last; taken = AppendsContents-none k }
+
+pub HasEncoded-then : {a b c : TextToEncode} {last : Bool} {k₀ k₁ k₂ : Option (List ℕ)}
+    {r₁ r₂ : Bool} → HasEncoded a b last k₀ k₁ r₁ → HasEncoded b c last k₁ k₂ r₂
+    → HasEncoded a c last k₀ k₂ (r₁ || r₂)
+HasEncoded-then {k₀ = k₀} {k₁ = k₁} {k₂ = k₂} first then_more = record {
+  wrote = first.wrote ++ then_more.wrote;
+  encoded = EncodesText-then first.encoded then_more.encoded;
+  taken = AppendsContents-then k₀ k₁ k₂ first.wrote then_more.wrote first.taken then_more.taken;
+}
+
+-- the same text, and another after it
+abbrev pub followed : TextToEncode → List ℕ → TextToEncode
+followed s t = text_to_encode s.encoder (s.text ++ t)
+
+pub HasEncoded-followed : {a b : TextToEncode} {last : Bool} {k₀ k₁ : Option (List ℕ)} {r : Bool}
+    (t : List ℕ) → HasEncoded a b false k₀ k₁ r
+    → HasEncoded (followed a t) (followed b t) last k₀ k₁ r
+HasEncoded-followed {a} {b} t has_encoded =
+    let encoded = has_encoded.encoded in
+    record {
+      wrote = has_encoded.wrote;
+      encoded = record {
+        encoding = encoded.encoding;
+        barred = encoded.barred;
+        front = encoded.front;
+        reads = ap (λ u. u ++ t) encoded.reads ∙ append_assoc encoded.front b.text t;
+        residual = λ z ends. ap (bytes_from_state a.encoder) (append_assoc a.text t z)
+            ∙ encoded.residual (t ++ z) (λ f. not_ended f)
+            ∙ ap (λ u. has_encoded.wrote ++ bytes_from_state b.encoder u)
+            (sym (append_assoc b.text t z));
+        flag = encoded.flag;
+      };
+      taken = has_encoded.taken;
+    }
+
+-- Of what is written a prefix is taken.
+pub StopsWithin-part : {a b : TextToEncode} {last : Bool} {wrote : List ℕ} {replaced : Bool}
+    {k₀ k₁ : Option (List ℕ)} → EncodesText a b last wrote replaced → AppendsPrefix k₀ k₁ wrote
+    → StopsWithin a last k₀ k₁
+StopsWithin-part {b = b} encodes taken = record {
+  wrote = taken.wrote;
+  unwritten = λ z h. taken.unwritten ++ bytes_to_come b z;
+  prefix = λ z h. encodes.residual z h ∙ ap (λ w. w ++ bytes_to_come b z) taken.prefix
+      ∙ append_assoc taken.wrote taken.unwritten (bytes_to_come b z);
+  taken = taken.taken;
+}
+
+-- A part of a text is encoded and taken, and of the rest a prefix is.
+pub StopsWithin-then : {a b : TextToEncode} {last : Bool} {k₀ k₁ k₂ : Option (List ℕ)} {r : Bool}
+    → HasEncoded a b last k₀ k₁ r → StopsWithin b last k₁ k₂ → StopsWithin a last k₀ k₂
+StopsWithin-then {k₀ = k₀} {k₁ = k₁} {k₂ = k₂} first stops = record {
+  wrote = first.wrote ++ stops.wrote;
+  unwritten = stops.unwritten;
+  prefix = λ z h. first.encoded.residual z h ∙ ap (λ x. first.wrote ++ x) (stops.prefix z h)
+      ∙ sym (append_assoc first.wrote stops.wrote (stops.unwritten z h));
+  taken = AppendsContents-then k₀ k₁ k₂ first.wrote stops.wrote first.taken stops.taken;
 }
 
 -- UTF-8 is written as it is
@@ -162,11 +189,12 @@ is_utf_8_state s e is_fresh =
 
 pub EncodesText-utf_8 : (s : EncoderState) (text : List ℕ) (last : Bool) → s.encoding ≡ UTF_8
     → (s.set ≡ Ascii) × (s.barred ≡ []) → IsUtf8 text
-    → EncodesText s s (chars text) [] last text false
+    → EncodesText (text_to_encode s (chars text)) (text_to_encode s []) last text false
 EncodesText-utf_8 s text last e f u =
     let units : units_of_text encode_utf8 (chars text) ≡ text = their_units (chars text)
     ∙ encodes-chars text u in
-    subst (λ (v : EncoderState). EncodesText v v (chars text) [] last text false)
+    subst (λ (v : EncoderState). EncodesText (text_to_encode v (chars text)) (text_to_encode v [])
+    last text false)
     (sym (is_utf_8_state s e f)) (record {
       encoding = refl;
       barred = refl;
@@ -178,92 +206,3 @@ EncodesText-utf_8 s text last e f u =
           ∙ ap (λ t. text ++ t) (sym (bytes_are_units z));
       flag = sym (all_mapped (chars text));
     })
-
--- What was written is taken, and of what is written then a beginning.
-pub StopsWithin-text : {a c : EncoderState} {text unread : List ℕ} {last : Bool}
-    {k₀ k₁ k₂ : Option (List ℕ)} {r : Bool}
-    (w₁ w₂ : List ℕ) → EncodesText a c text unread last (w₁ ++ w₂) r → AppendsContents k₀ k₁ w₁
-    → AppendsPrefix k₁ k₂ w₂ → StopsWithin (bytes_from_state a) text last k₀ k₂
-StopsWithin-text {c = c} {unread = unread} {k₀ = k₀} {k₁ = k₁} {k₂ = k₂} w₁ w₂ p m taken = record {
-  wrote = w₁ ++ taken.wrote;
-  unwritten = λ z h. taken.unwritten ++ bytes_from_state c (unread ++ z);
-  prefix = λ z h. p.residual z h
-      ∙ ap (λ w. (w₁ ++ w) ++ bytes_from_state c (unread ++ z)) taken.prefix
-      ∙ regroup w₁ taken.wrote taken.unwritten (bytes_from_state c (unread ++ z));
-  taken = AppendsContents-then k₀ k₁ k₂ w₁ taken.wrote m taken.taken;
-}
-
--- A text that is cut between characters
-
--- What a sink takes
-
-pub HasEncoded-none : (s : EncoderState) (text : List ℕ) (last : Bool) (k : Option (List ℕ))
-    → HasEncoded s s text text last k k false
-HasEncoded-none s text last k =
-    record { wrote = []; encoded = EncodesText-none s text last; taken = AppendsContents-none k }
-
-pub HasEncoded-more : (a b c : EncoderState) (t₁ t₂ : List ℕ) (last : Bool)
-    (k₀ k₁ k₂ : Option (List ℕ)) (r₁ r₂ : Bool)
-    → HasEncoded a b t₁ [] false k₀ k₁ r₁ → HasEncoded b c t₂ [] last k₁ k₂ r₂
-    → HasEncoded a c (t₁ ++ t₂) [] last k₀ k₂ (r₁ || r₂)
-HasEncoded-more a b c t₁ t₂ last k₀ k₁ k₂ r₁ r₂ first then_more = record {
-  wrote = first.wrote ++ then_more.wrote;
-  encoded = EncodesText-more a b c t₁ t₂ last first.wrote then_more.wrote r₁ r₂ first.encoded
-      then_more.encoded;
-  taken = AppendsContents-then k₀ k₁ k₂ first.wrote then_more.wrote first.taken then_more.taken;
-}
-
--- a call of an encoder that is offered the unread part of a text
-module _ {a b c : EncoderState} {text : List ℕ} {last : Bool} {k₀ k₁ : Option (List ℕ)}
-    {r₁ r₂ : Bool}
-    {before after : List ℕ} {read written : ℕ} (rest : List ℕ) (result : CoderResult)
-    (u : IsUtf8 rest) (so_far : HasEncoded a b text (chars rest) last k₀ k₁ r₁)
-    (this_call : EncodesInto encode_utf8 (html_mode b) b c (chars rest) last before after
-    (encoder_result_of result)
-    read
-    written r₂) where
-  made : EncodesText a c text this_call.encodes.rest last (so_far.wrote ++ take written after)
-      (r₁ || r₂)
-  made =
-      EncodesText-then a b c text (chars rest) this_call.encodes.rest last so_far.wrote
-      (take written after) r₁ r₂
-      so_far.encoded
-      (EncodesText-call b c (chars rest) last before after result read written r₂ this_call)
-
-  unread_is : chars (drop read rest) ≡ this_call.encodes.rest
-  unread_is =
-      chars_after rest (step_chars this_call.encodes.call.done) this_call.encodes.rest read u
-      this_call.encodes.call.reads
-      this_call.encodes.call.units
-
-  module _ {k₂ : Option (List ℕ)} where
-    taken_all : (unread : List ℕ) → unread ≡ this_call.encodes.rest
-        → AppendsContents k₁ k₂ (take written after)
-        → HasEncoded a c text unread last k₀ k₂ (r₁ || r₂)
-    taken_all unread e t = record {
-      wrote = so_far.wrote ++ take written after;
-      encoded = rw e made;
-      taken = AppendsContents-then k₀ k₁ k₂ so_far.wrote (take written after) so_far.taken t;
-    }
-
-    -- whose bytes are taken
-    pub HasEncoded-call : {unread : List ℕ} → unread ≡ drop read rest
-        → AppendsContents k₁ k₂ (take written after)
-        → HasEncoded a c text (chars unread) last k₀ k₂ (r₁ || r₂)
-    HasEncoded-call {unread = unread} e t = taken_all (chars unread) (ap chars e ∙ unread_is) t
-
-    -- and that has come to the end
-    pub HasEncoded-last : result ≡ InputEmpty → AppendsContents k₁ k₂ (take written after)
-        → HasEncoded a c text [] last k₀ k₂ (r₁ || r₂)
-    HasEncoded-last e t =
-        taken_all [] (all_read b c (chars rest) last (length before) result read
-        (take written after) r₂
-        this_call.encodes
-        e) t
-
-    -- or are taken in part
-    pub StopsWithin-encoding : AppendsPrefix k₁ k₂ (take written after)
-        → StopsWithin (bytes_from_state a) text last k₀ k₂
-    StopsWithin-encoding t =
-        StopsWithin-text so_far.wrote (take written after) made
-        so_far.taken t

@@ -14,10 +14,8 @@ use Rattle.enc_encoder.specs.Unmappable.{any_unmappable}
 use Rattle.enc_stream.specs.Encoder.{EncoderState, raw_state}
 use Rattle.enc_stream.proofs.OwnTextLemmas.{ascii_encoded, ascii_utf_8}
 use Rattle.enc_stream.proofs.ReferenceLemmas.{lawful_of}
-use Rattle.recode_engine.specs.Sink.{AppendsContents}
-use Rattle.recode_engine.specs.Writing.{bytes_from_state, EncodesText, HasEncoded, StopsWithin, WritesAsciiAsItself}
-use Rattle.recode_engine.proofs.SourceSinkLemmas.{AppendsContents-then}
-use Rattle.recode_engine.proofs.EncodingLemmas.{EncodesText-none, EncodesText-then}
+use Rattle.recode_engine.specs.Writing.{bytes_from_state, text_to_encode, EncodesText, WritesAsciiAsItself}
+use Rattle.recode_engine.proofs.EncodingLemmas.{EncodesText-none}
 
 module _ (s : EncoderState) (writes : WritesAsciiAsItself s) where
   abbrev rule : EncoderRule
@@ -101,8 +99,10 @@ module _ (text : List ℕ) (n : ℕ) (are_ascii : AreAscii (take n text)) where
 -- n bytes of a text are written as they are
 EncodesText-part : (s : EncoderState) (text : List ℕ) (n : ℕ) (last : Bool)
     → AreAscii (take n text) → (0 < n → WritesAsciiAsItself s)
-    → EncodesText s s (chars text) (chars (drop n text)) last (take n text) false
-EncodesText-part s text zero last are_ascii own = EncodesText-none s (chars text) last
+    → EncodesText (text_to_encode s (chars text)) (text_to_encode s (chars (drop n text))) last
+    (take n text) false
+EncodesText-part s text zero last are_ascii own =
+    EncodesText-none (text_to_encode s (chars text)) last
 EncodesText-part s text (suc n) last are_ascii own =
     let writes = own (omega arith) in
     let rest = chars (drop (suc n) text) in
@@ -121,31 +121,7 @@ EncodesText-part s text (suc n) last are_ascii own =
 pub EncodesText-ascii : (s : EncoderState) (text rest : List ℕ) (n : ℕ) (last : Bool)
     → AreAscii (take n text) → (0 < n → WritesAsciiAsItself s)
     → rest ≡ take (length text - n) (drop n text)
-    → EncodesText s s (chars text) (chars rest) last (take n text) false
+    → EncodesText (text_to_encode s (chars text)) (text_to_encode s (chars rest)) last
+    (take n text) false
 EncodesText-ascii s text rest n last are_ascii own is_rest =
-    subst (λ r. EncodesText s s (chars text) (chars r) last (take n text) false)
-    (sym (is_rest ∙ rest_is text n are_ascii)) (EncodesText-part s text n last are_ascii own)
-
--- a part of a text that is written, and the rest
-module _ {a b : EncoderState} {text rest : List ℕ} {last : Bool} {k₀ k₁ k₂ : Option (List ℕ)}
-    {wrote : List ℕ}
-    (first : EncodesText a b text rest last wrote false) (taken : AppendsContents k₀ k₁ wrote) where
-  pub HasEncoded-rest : {c : EncoderState} {replaced : Bool}
-      → HasEncoded b c rest [] last k₁ k₂ replaced
-      → HasEncoded a c text [] last k₀ k₂ replaced
-  HasEncoded-rest {c = c} {replaced = replaced} then_rest = record {
-    wrote = wrote ++ then_rest.wrote;
-    encoded = EncodesText-then a b c text rest [] last wrote then_rest.wrote false replaced first
-        then_rest.encoded;
-    taken = AppendsContents-then k₀ k₁ k₂ wrote then_rest.wrote taken then_rest.taken;
-  }
-
-  pub StopsWithin-rest : StopsWithin (bytes_from_state b) rest last k₁ k₂
-      → StopsWithin (bytes_from_state a) text last k₀ k₂
-  StopsWithin-rest stops = record {
-    wrote = wrote ++ stops.wrote;
-    unwritten = stops.unwritten;
-    prefix = λ z h. first.residual z h ∙ ap (λ x. wrote ++ x) (stops.prefix z h)
-        ∙ sym (append_assoc wrote stops.wrote (stops.unwritten z h));
-    taken = AppendsContents-then k₀ k₁ k₂ wrote stops.wrote taken stops.taken;
-  }
+    rw (is_rest, rest_is text n are_ascii) (EncodesText-part s text n last are_ascii own)

@@ -12,32 +12,45 @@ abbrev pub bytes_from_state : EncoderState → List ℕ → List ℕ
 bytes_from_state state text =
     bytes_of_text (raw_state state).rule state.set (with_references (raw_state state).rule text)
 
--- An encoder reads a text up to the characters `unread`. If `last`, nothing follows them.
-pub record EncodesText (old new : EncoderState) (text unread : List ℕ) (last : Bool)
-    (wrote : List ℕ) (replaced : Bool) : Type 0 where
-  pub encoding : new.encoding ≡ old.encoding
-  pub barred : new.barred ≡ old.barred
+-- An encoder, and the text that it is to encode.
+pub record TextToEncode : Type 0 where
+  pub encoder : EncoderState
+  pub text : List ℕ
+
+abbrev pub text_to_encode : EncoderState → List ℕ → TextToEncode
+text_to_encode encoder text = record { encoder = encoder; text = text }
+
+-- the bytes of such a text, and of z after it
+abbrev pub bytes_to_come : TextToEncode → List ℕ → List ℕ
+bytes_to_come s z = bytes_from_state s.encoder (s.text ++ z)
+
+-- An encoder reads a text up to the characters that are left. If `last`, nothing follows them.
+pub record EncodesText (old new : TextToEncode) (last : Bool) (wrote : List ℕ)
+    (replaced : Bool) : Type 0 where
+  pub encoding : new.encoder.encoding ≡ old.encoder.encoding
+  pub barred : new.encoder.barred ≡ old.encoder.barred
   -- the characters read
   pub front : List ℕ
-  pub reads : text ≡ front ++ unread
+  pub reads : old.text ≡ front ++ new.text
   -- The bytes to write before are those written and those still to write now.
   pub residual : (z : List ℕ) → (last ≡ true → z ≡ [])
-      → bytes_from_state old (text ++ z) ≡ wrote ++ bytes_from_state new (unread ++ z)
-  pub flag : replaced ≡ any_unmappable (raw_state old).rule front
+      → bytes_to_come old z ≡ wrote ++ bytes_to_come new z
+  pub flag : replaced ≡ any_unmappable (raw_state old.encoder).rule front
 
--- A text is encoded up to the characters `unread`, and a sink has taken the bytes.
-pub record HasEncoded (old new : EncoderState) (text unread : List ℕ) (last : Bool)
+-- A text is encoded up to the characters that are left, and a sink has taken the bytes.
+pub record HasEncoded (old new : TextToEncode) (last : Bool)
     (taken_before taken_after : Option (List ℕ)) (replaced : Bool) : Type 0 where
   pub wrote : List ℕ
-  pub encoded : EncodesText old new text unread last wrote replaced
+  pub encoded : EncodesText old new last wrote replaced
   pub taken : AppendsContents taken_before taken_after wrote
 
 -- A sink has taken a prefix of the bytes for a text, whatever follows the text.
-pub record StopsWithin (owed : List ℕ → List ℕ) (text : List ℕ) (last : Bool)
+pub record StopsWithin (old : TextToEncode) (last : Bool)
     (taken_before taken_after : Option (List ℕ)) : Type 0 where
   pub wrote : List ℕ
   pub unwritten : (z : List ℕ) → (last ≡ true → z ≡ []) → List ℕ
-  pub prefix : (z : List ℕ) (h : last ≡ true → z ≡ []) → owed (text ++ z) ≡ wrote ++ unwritten z h
+  pub prefix : (z : List ℕ) (h : last ≡ true → z ≡ [])
+      → bytes_to_come old z ≡ wrote ++ unwritten z h
   pub taken : AppendsContents taken_before taken_after wrote
 
 -- An encoder writes each ASCII character as its byte, with no escape sequence before it.

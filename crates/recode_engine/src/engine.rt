@@ -7,7 +7,7 @@ ghost use Rattle.enc_stream.specs.declared.constants.TheConstants.{UTF_8};
 ghost use Rattle.enc_stream.specs.Encoder.{fresh_encoder};
 ghost use Rattle.recode_engine.specs.Sink.{AppendsContents, AppendsPrefix};
 ghost use Rattle.enc_units.specs.Validity.{AreAscii};
-ghost use Rattle.recode_engine.specs.Writing.{CanWrite, HasEncoded, StopsWithin, bytes_from_state};
+ghost use Rattle.recode_engine.specs.Writing.{CanWrite, HasEncoded, StopsWithin, text_to_encode};
 ghost use Rattle.recode_engine.specs.Writing.{WritesAsciiAsItself};
 ghost use Rattle.recode_engine.specs.Run.{IsRecodeRun, side};
 
@@ -74,12 +74,12 @@ fn push_encoded<W: Sink>(
 ) -> Result<bool, RecodeFault>
     requires going { W.has_failed writer.old ≡ false }
     requires room { 14 ≤ length output.old }
-    ensures ok { IfOk result (HasEncoded encoder.old encoder.new (chars text.now) [] last
-        (W.contents writer.old) (W.contents writer.new)) }
+    ensures ok { IfOk result (HasEncoded (text_to_encode encoder.old (chars text.now))
+        (text_to_encode encoder.new []) last (W.contents writer.old) (W.contents writer.new)) }
     ensures ended { OnOk result (last ≡ true → encoder.new.set ≡ Ascii) }
     ensures kept { OnOk result (W.has_failed writer.new ≡ W.has_failed writer.old) }
     ensures room_kept { length output.new ≡ length output.old }
-    ensures err { OnErr result (StopsWithin (bytes_from_state encoder.old) (chars text.now) last
+    ensures err { OnErr result (StopsWithin (text_to_encode encoder.old (chars text.now)) last
         (W.contents writer.old) (W.contents writer.new)) }
     ensures failed { OnErr result (W.has_failed writer.new ≡ true) }
     ensures fault { IfErr result (λ fault. fault ≡ RecodeFault.Write) }
@@ -133,12 +133,12 @@ fn push_text<W: Sink>(
     requires going { W.has_failed writer.old ≡ false }
     requires utf8 { IsUtf8 text.now }
     requires room { CanWrite encoder.old (length output.old) }
-    ensures ok { IfOk result (HasEncoded encoder.old encoder.new (chars text.now) [] last
-        (W.contents writer.old) (W.contents writer.new)) }
+    ensures ok { IfOk result (HasEncoded (text_to_encode encoder.old (chars text.now))
+        (text_to_encode encoder.new []) last (W.contents writer.old) (W.contents writer.new)) }
     ensures ended { OnOk result (last ≡ true → encoder.new.set ≡ Ascii) }
     ensures kept { OnOk result (W.has_failed writer.new ≡ W.has_failed writer.old) }
     ensures room_kept { OnOk result (CanWrite encoder.new (length output.new)) }
-    ensures err { OnErr result (StopsWithin (bytes_from_state encoder.old) (chars text.now) last
+    ensures err { OnErr result (StopsWithin (text_to_encode encoder.old (chars text.now)) last
         (W.contents writer.old) (W.contents writer.new)) }
     ensures failed { OnErr result (W.has_failed writer.new ≡ true) }
     ensures fault { IfErr result (λ fault. fault ≡ RecodeFault.Write) }
@@ -158,37 +158,34 @@ fn push_text<W: Sink>(
     )
 }
 
-/// Does [`run`] through three buffers: for the bytes read, for their text, and for the bytes to
-/// write. The last may be empty if UTF-8 is written.
+/// Does [`run`] with two sides that have not failed, through three buffers: for the bytes read, for
+/// their text, and for the bytes to write.
 fn run_through<R: Source, W: Sink>(
     reader: &mut R,
     writer: &mut W,
     from: Encoding,
     to: Encoding,
-    input: &mut [u8],
-    text: &mut [u8],
-    output: &mut [u8],
 ) -> Result<bool, RecodeFault>
     requires reader { R.has_failed reader.old ≡ false }
     requires writer { W.has_failed writer.old ≡ false }
-    requires some { 0 < length input.old }
-    requires text_room { 4 ≤ length text.old }
-    requires room { CanWrite (fresh_encoder [] to) (length output.old) }
     ensures { IsRecodeRun from to (side (R.remaining reader.old) (R.has_failed reader.old))
         (side (R.remaining reader.new) (R.has_failed reader.new))
         (side (W.contents writer.old) (W.has_failed writer.old))
         (side (W.contents writer.new) (W.has_failed writer.new)) result }
 {
-    let mut decoding = DecodeReader::new(reader, Some(from), input);
+    let mut input = [0u8; 65536];
+    let mut text = [0u8; 65536];
+    let mut output = [0u8; 65536];
+    let mut decoding = DecodeReader::new(reader, Some(from), &mut input);
     let mut encoder = to.new_encoder();
     let mut replaced = false;
     'reads: for _ in 0..u64::MAX {
-        let Ok(handed) = decoding.read_or_lend(text) else {
+        let Ok(handed) = decoding.read_or_lend(&mut text) else {
             return Err(RecodeFault::Read);
         };
-        let piece = decoding.text(text, handed);
+        let piece = decoding.text(&text, handed);
         let last = piece.is_empty();
-        replaced |= push_text(&mut encoder, writer, piece, output, last)?;
+        replaced |= push_text(&mut encoder, writer, piece, &mut output, last)?;
         if last {
             return Ok(decoding.had_errors() | replaced);
         }
@@ -229,8 +226,5 @@ pub fn run<R: Source, W: Sink>(
     if writer.failed() {
         return Err(RecodeFault::Write);
     }
-    let mut input = [0u8; 65536];
-    let mut text = [0u8; 65536];
-    let mut output = [0u8; 65536];
-    run_through(reader, writer, from, to, &mut input, &mut text, &mut output)
+    run_through(reader, writer, from, to)
 }

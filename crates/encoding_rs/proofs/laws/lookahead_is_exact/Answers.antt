@@ -4,7 +4,7 @@ use Rattle.encoding_rs.proofs.laws.lookahead_is_exact.Goals as goal
 
 pub returns-clause-determined : goal.returns-clause-determined
 returns-clause-determined c = λ bytes s ss rest k a w l.
-    determined_whole c.args.handling c.args.encoding bytes s ss rest k a w l
+    determined_whole c.args.handling c.args.encoding bytes s ss rest k w l a
 
 pub returns-clause-some : goal.returns-clause-some
 returns-clause-some c = λ set b z. looks_or_ends c.args.encoding set b z

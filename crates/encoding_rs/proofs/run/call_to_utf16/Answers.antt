@@ -1,21 +1,41 @@
-use Rattle.std.proofs.Common.{◌≡◌, ◌∙◌, ap, sym, length, take, rules}
-use Rattle.encoding_rs.proofs.DecodeRunLemmas.{answers, replaces, reporting, refilled, by_utf_16}
+use Rattle.std.proofs.Common.{◌≡◌, ◌∙◌, ap, sym, false, length, take, rules}
+use Rattle.enc_decoder.specs.Call.{Replacement, Fatal}
+use Rattle.enc_decoder.specs.Replacing.{decode_error_mode}
+use Rattle.enc_decoder.specs.Sequence.{sequence_text}
+use Rattle.encoding_rs.proofs.DecodeCallLemmas.{refilled, by_utf_16}
 use Rattle.encoding_rs.proofs.run.call_to_utf16.Goals as goal
 
 pub returns-then-call : goal.returns-then-call
 returns-then-call c =
-    let room : length c.deref_mut.result.now ≡ c.args.call.room = search rules in
     let made = c.decode_to_utf16-stop in
+    let mode : Replacement ≡ decode_error_mode c.args.call.replace =
+    sym (ap decode_error_mode c.if-call.true) in
+    let room : length c.deref_mut.result.now ≡ c.args.call.room = search rules in
+    let decodes = rw (mode, room) at made.ensures.call.decodes in
     let units = refilled _ _ _ _ c.deref.ensures.value (made.auto.dst ∙ c.deref_mut.ensures.len) in
-    rw c.made_replacing.ensures
-    (answers (replaces c.args.call c.if-call.true) room made.ensures.call.decodes
-    (by_utf_16 _ _ _ (ap (take made.result.2) (sym units)) c.in_ok-text.ensures))
+    rw c.replacing_outcome.ensures (record {
+      text = sequence_text decodes.call.put;
+      scalars = decodes.call.scalars;
+      is = by_utf_16 (sequence_text decodes.call.put) (ap (take made.result.2) (sym units))
+          c.in_ok-text.ensures
+          decodes.call.scalars decodes.call.text;
+      decodes = rw decodes.call.text at decodes;
+    })
 
 pub returns : goal.returns
 returns c =
-    let room : length c.deref_mut-2.result.now ≡ c.args.call.room = search rules in
     let made = c.decode_to_utf16_without_replacement-result in
+    let mode : Fatal false ≡ decode_error_mode c.args.call.replace =
+    sym (ap decode_error_mode c.if-call.false) in
+    let room : length c.deref_mut-2.result.now ≡ c.args.call.room = search rules in
+    let decodes = rw (mode, room) at made.ensures.call.decodes in
     let units = refilled _ _ _ _ c.deref-2.ensures.value
     (made.auto.dst ∙ c.deref_mut-2.ensures.len) in
-    answers (reporting c.args.call c.if-call.false) room made.ensures.call.decodes
-    (by_utf_16 _ _ _ (ap (take made.result.2) (sym units)) c.in_ok-text-2.ensures)
+    record {
+      text = sequence_text decodes.call.put;
+      scalars = decodes.call.scalars;
+      is = by_utf_16 (sequence_text decodes.call.put) (ap (take made.result.2) (sym units))
+          c.in_ok-text-2.ensures
+          decodes.call.scalars decodes.call.text;
+      decodes = rw decodes.call.text at decodes;
+    }

@@ -2,9 +2,8 @@ use Rattle.std.proofs.Common.{rules, ◌≡◌, ◌-◌, [], length, take, drop,
 use Rattle.std.proofs.lemmas.Result.{IfOk-weaker, on_err_weaker}
 use Rattle.enc_stream.specs.declared.constants.TheConstants.{UTF_8}
 use Rattle.enc_reader.proofs.SourceLemmas.{on_err}
-use Rattle.recode_engine.proofs.SourceSinkLemmas.{AppendsContents-none}
-use Rattle.recode_engine.proofs.EncodingLemmas.{EncodesText-utf_8, StopsWithin-text}
-use Rattle.recode_engine.proofs.UnencodedLemmas.{EncodesText-ascii, HasEncoded-rest, StopsWithin-rest, rest_is_utf_8}
+use Rattle.recode_engine.proofs.EncodingLemmas.{EncodesText-utf_8, HasEncoded-then, StopsWithin-part, StopsWithin-then}
+use Rattle.recode_engine.proofs.UnencodedLemmas.{EncodesText-ascii, rest_is_utf_8}
 use Rattle.recode_engine.proofs.engine.push_text.Goals as goal
 
 pub returns-in_err-push_all-clause-err : goal.returns-in_err-push_all-clause-err
@@ -13,8 +12,7 @@ returns-in_err-push_all-clause-err g c =
     let made = EncodesText-utf_8 c.args.encoder.now c.args.text.now c.args.last is_utf_8
     (c.requires.room.utf_8 is_utf_8) c.requires.utf8 in
     on_err c.from_residual.result _
-    (StopsWithin-text [] c.args.text.now made (AppendsContents-none _)
-    c.in_err-push_all.ensures.err)
+    (StopsWithin-part made c.in_err-push_all.ensures.err)
 
 pub returns-then-eq-clause-ok : goal.returns-then-eq-clause-ok
 returns-then-eq-clause-ok g c =
@@ -38,8 +36,7 @@ returns-in_err-push_all-2-clause-err g c =
     let first = EncodesText-ascii c.args.encoder.now text (take (length text - len) (drop len text))
     len c.args.last c.unencoded_len-len.ensures.ascii c.unencoded_len-len.ensures.own refl in
     on_err c.from_residual-in_err-push_all-2.result _
-    (StopsWithin-text [] (take len text) first (AppendsContents-none _)
-    c.in_err-push_all-2.ensures.err)
+    (StopsWithin-part first c.in_err-push_all-2.ensures.err)
 
 pub returns-clause-ok : goal.returns-clause-ok
 returns-clause-ok g c =
@@ -50,7 +47,8 @@ returns-clause-ok g c =
     let first = EncodesText-ascii c.args.encoder.now text rest len c.args.last
     c.unencoded_len-len.ensures.ascii c.unencoded_len-len.ensures.own is_rest in
     IfOk-weaker c.push_encoded.result _ _
-    (λ replaced then_rest. HasEncoded-rest first c.in_ok-push_all-2.ensures.ok then_rest)
+    (λ replaced then_rest. HasEncoded-then
+    (record { wrote = _; encoded = first; taken = c.in_ok-push_all-2.ensures.ok }) then_rest)
     c.push_encoded.ensures.ok
 
 pub returns-clause-err : goal.returns-clause-err
@@ -62,5 +60,6 @@ returns-clause-err g c =
     let first = EncodesText-ascii c.args.encoder.now text rest len c.args.last
     c.unencoded_len-len.ensures.ascii c.unencoded_len-len.ensures.own is_rest in
     on_err_weaker c.push_encoded.result
-    (λ stops. StopsWithin-rest first c.in_ok-push_all-2.ensures.ok stops)
+    (λ stops. StopsWithin-then
+    (record { wrote = _; encoded = first; taken = c.in_ok-push_all-2.ensures.ok }) stops)
     c.push_encoded.ensures.err

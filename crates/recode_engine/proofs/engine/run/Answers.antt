@@ -1,5 +1,5 @@
 use Rattle.std.proofs.Common.{rules}
-use Rattle.recode_engine.proofs.RunLemmas.{IsRecodeRun-failed_source, IsRecodeRun-failed_sink}
+use Rattle.recode_engine.proofs.RunOutcomeLemmas.{IsRecodeRun-failed_source, IsRecodeRun-failed_sink}
 use Rattle.recode_engine.proofs.engine.run.Goals as goal
 
 pub returns-then-failed : goal.returns-then-failed

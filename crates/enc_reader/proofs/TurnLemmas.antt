@@ -1,0 +1,201 @@
+-- What a turn of the decoder hands out.
+use Rattle.std.proofs.Common.{◌≡◌, ℕ, ◌+◌, ◌-◌, ◌*◌, ◌<◌, ◌≤◌, min, inl, inr, Bool, true, false, List, []}
+use Rattle.std.proofs.Common.{length, take, drop, Option, refl, ap, ◌∙◌, sym, subst, arith}
+use Rattle.std.proofs.Common.{◌&&◌, not, nat_eq, drop-drop}
+use Rattle.std.proofs.Math.ListN.{length-drop}
+use Rattle.std.proofs.Math.Seq.{drop-length}
+use Rattle.std.proofs.lemmas.List.{drop-take, length-take}
+use Rattle.std.proofs.lemmas.Bool.{false≢true}
+use Rattle.enc_decoder.proofs.FirstSequenceLemmas.{true_or_false}
+use Rattle.std.specs.Char.{encode_utf8}
+use Rattle.enc_units.specs.Output.{AreScalars, units_of_text}
+use Rattle.enc_decoder.specs.Sequence.{sequence_text, any_malformed}
+use Rattle.enc_decoder.specs.Call.{Replacement}
+use Rattle.enc_units.specs.declared.coder_result.CoderResult.{CoderResult}
+use Rattle.enc_units.specs.declared.coder_result.CoderResult.TheVariants.{InputEmpty, OutputFull}
+use Rattle.enc_units.specs.Results.{decoder_result_of}
+use Rattle.enc_stream.specs.Decoding.{DecoderState, has_finished, DecodesReplacing}
+use Rattle.enc_stream.proofs.WholeEncodingLemmas.{still_ahead}
+use Rattle.enc_stream.proofs.DecoderProgressLemmas.{nearer, ends_read}
+use Rattle.enc_stream.proofs.EndOfInputLemmas.{finishes, only_put}
+use Rattle.enc_stream.proofs.OutputFullLemmas.{four_bytes, some_written}
+use Rattle.enc_units.proofs.UnitsLemmas.{utf_8_determines}
+use Rattle.enc_reader.specs.Reading.{ReaderState, ReadsOwed}
+use Rattle.enc_reader.specs.Reading.{distance_to_end}
+use Rattle.enc_reader.specs.Turn.{IsWaiting, IsTurn}
+use Rattle.enc_reader.proofs.ReadingLemmas.{ReadsOwed-none, ended_at, before_end, not_all}
+use Rattle.enc_reader.proofs.SourceLemmas.{ConsumesRemaining-none}
+
+-- What a reader decodes next: its decoder is not finished, a byte is unread or the end is seen, and
+-- there is room for any character.
+pub record CanDecode (s : ReaderState) (room : ℕ) : Type 0 where
+  pub going : has_finished s.decoder ≡ false
+  pub some : s.ended ≡ false → 1 ≤ length s.unread
+  pub roomy : 4 ≤ room
+
+-- a call of the decoder with the unread bytes
+module _ (before : ReaderState) {new : DecoderState} {room : ℕ} (result : CoderResult) {read : ℕ}
+    {wrote : List ℕ} {replaced : Bool}
+    (decodes : DecodesReplacing encode_utf8 before.decoder new before.unread before.ended room
+    result read wrote replaced)
+    (can_decode : CanDecode before room) where
+  abbrev after : ReaderState
+  after = record { decoder = new; unread = drop read before.unread; ended = before.ended }
+
+  comes_nearer : distance_to_end after + min 1 (length wrote) ≤ distance_to_end before + 2 * 0
+  comes_nearer = elim (true_or_false (has_finished new)) [
+    | inl f ↦ omega (arith, ended_at after f, before_end before can_decode.going)
+    | inr unfinished ↦ elim (nearer encode_utf8 utf_8_determines 4 four_bytes Replacement
+        before.decoder new before.unread before.ended room can_decode.roomy read wrote replaced
+        (decoder_result_of result) decodes can_decode.some) [
+          | inl finished ↦ absurd (false≢true (sym unfinished ∙ finished))
+          | inr less ↦ omega (
+            arith,
+            less,
+            before_end after unfinished,
+            before_end before can_decode.going,
+            length-drop read before.unread,
+          )
+        ]
+  ]
+
+  reads_owed : (known : Option (List ℕ)) → ReadsOwed known known before after [] wrote replaced
+  reads_owed known =
+      let all_put = only_put before.decoder new before.unread before.ended room result read wrote
+      replaced decodes in
+      record {
+        given = ConsumesRemaining-none known;
+        none_after = λ f. (refl, f);
+        done = decodes.call.done;
+        residual = decodes.call.residual;
+        encoding = λ z none. still_ahead encode_utf8 Replacement before.decoder new before.unread
+            before.ended room (decoder_result_of result) read wrote replaced decodes z none;
+        scalars = subst (λ ss. AreScalars (sequence_text ss)) all_put decodes.call.scalars;
+        text = decodes.call.text
+            ∙ ap (λ ss. units_of_text encode_utf8 (sequence_text ss)) all_put;
+        flag = decodes.call.flag ∙ ap any_malformed all_put;
+        nearer = comes_nearer;
+      }
+
+  -- Without text and without the end it has read all unread bytes.
+  waits_for_more : wrote ≡ [] → has_finished new ≡ false → IsWaiting after
+  waits_for_more none going = by_result result decodes
+    where
+      by_result : (r : CoderResult)
+          → DecodesReplacing encode_utf8 before.decoder new before.unread before.ended room r read
+          wrote replaced → IsWaiting after
+      by_result InputEmpty at_empty = record {
+        unread = ap (λ n. drop n before.unread) at_empty.call.stops.all_read
+            ∙ drop-length before.unread;
+        not_ended = sym (finishes before.decoder new before.unread before.ended room InputEmpty
+            read wrote replaced at_empty) ∙ going;
+        going = going;
+      }
+      by_result OutputFull at_full =
+          let some = some_written encode_utf8 utf_8_determines Replacement before.decoder new
+          before.unread before.ended room read wrote replaced at_full 4 four_bytes
+          can_decode.roomy in
+          absurd (omega (arith, some, ap length none))
+
+  pub IsTurn-call : (waits : Bool) {unread : List ℕ} → drop read before.unread ≡ unread
+      → (waits ≡ true → (wrote ≡ []) × (has_finished new ≡ false))
+      → (waits ≡ false → wrote ≡ [] → has_finished new ≡ true)
+      → IsTurn before (record { decoder = new; unread = unread; ended = before.ended }) wrote
+      replaced waits
+  IsTurn-call waits rest_is without_text text_or_end = rw (← rest_is) (record {
+    reads = reads_owed;
+    waiting = λ w. waits_for_more (without_text w).0 (without_text w).1;
+    text_or_end = text_or_end;
+  })
+
+-- turns that decode nothing
+pub IsTurn-waits : (s : ReaderState) → IsWaiting s → IsTurn s s [] false true
+IsTurn-waits s w =
+    record {
+      reads = λ known. ReadsOwed-none known s;
+      waiting = λ _. w;
+      text_or_end = λ f e. absurd (false≢true (sym f));
+    }
+
+pub IsTurn-ended : (s : ReaderState) → has_finished s.decoder ≡ true → IsTurn s s [] false false
+IsTurn-ended s f =
+    record {
+      reads = λ known. ReadsOwed-none known s;
+      waiting = λ t. absurd (false≢true t);
+      text_or_end = λ _ _. f;
+    }
+
+-- The chunk in the buffer: how much of it is left after a call, and that some is left where it is
+-- not all decoded.
+
+pub left_of : (filled at read : ℕ) (xs : List ℕ) → at ≤ filled
+    → read ≤ length (take (filled - at) (drop at xs))
+    → drop read (take (filled - at) (drop at xs))
+    ≡ take (filled - (at + read)) (drop (at + read) xs)
+left_of filled at read xs h r =
+    let read_and_left : filled - at ≡ read + (filled - (at + read)) =
+    omega (arith, h, r, length-take (filled - at) (drop at xs)) in
+    ap (λ n. drop read (take n (drop at xs))) read_and_left
+    ∙ drop-take read (filled - (at + read)) (drop at xs)
+    ∙ ap (take (filled - (at + read))) (drop-drop read at xs)
+
+pub chunk_can_decode : {d : DecoderState} (filled at : ℕ) (xs : List ℕ) {ended : Bool} {room : ℕ}
+    → has_finished d ≡ false → at ≤ filled → filled ≤ length xs
+    → (nat_eq at filled && not ended) ≡ false → 4 ≤ room
+    → CanDecode (record {
+      decoder = d;
+      unread = take (filled - at) (drop at xs);
+      ended = ended;
+    }) room
+chunk_can_decode filled at xs {ended = ended} going decoded within tested roomy = record {
+  going = going;
+  some = λ not_ended.
+      let other = not_all at filled (some_left (nat_eq at filled) ended tested not_ended) in
+      omega (
+        arith,
+        other,
+        decoded,
+        within,
+        length-take (filled - at) (drop at xs),
+        length-drop at xs,
+      );
+  roomy = roomy;
+}
+  where
+    some_left : (all ended : Bool) → (all && not ended) ≡ false → ended ≡ false → all ≡ false
+    some_left true true tested not_ended = absurd (false≢true (sym not_ended))
+    some_left true false tested not_ended = tested
+    some_left false ended tested not_ended = refl
+
+pub some_text : (n : ℕ) (xs : List ℕ) → 0 < n → n ≤ length xs → take n xs ≡ [] → ⊥
+some_text n xs h w e = omega (arith, h, w, ap length e, length-take n xs)
+
+-- Where all bytes are decoded the buffer has room.
+pub room_left : (filled at : ℕ) (xs : List ℕ) → at ≤ filled → filled ≤ length xs → 0 < length xs
+    → take (filled - at) (drop at xs) ≡ [] → filled - at < length xs
+room_left filled at xs h w some none = omega (
+  arith,
+  h,
+  w,
+  some,
+  ap length none,
+  length-take (filled - at) (drop at xs),
+  length-drop at xs,
+)
+
+pub opposite : (a b : Bool) → not a ≡ b → a ≡ not b
+opposite true b negated = ap not negated
+opposite false b negated = ap not negated
+
+-- a call reads no more than the chunk has, and only the end of the source ends its decoder
+
+pub all_read : (filled at read : ℕ) (xs : List ℕ) → at ≤ filled
+    → read ≤ length (take (filled - at) (drop at xs)) → at + read ≤ filled
+all_read filled at read xs h r = omega (arith, h, r, length-take (filled - at) (drop at xs))
+
+pub only_at_end : {old new : DecoderState} {src : List ℕ} {last : Bool} {room read : ℕ}
+    (result : CoderResult) {wrote : List ℕ} {replaced : Bool}
+    → DecodesReplacing encode_utf8 old new src last room result read wrote replaced
+    → has_finished new ≡ true → last ≡ true
+only_at_end {old = old} {new = new} {src = src} {last = last} {room = room} result decodes
+    finished = (ends_read encode_utf8 Replacement old new src last room _ _ _ _ decodes finished).0

@@ -1,0 +1,128 @@
+-- What one call of a run of an encoder reports, and what it leaves.
+use Rattle.std.proofs.Common.{◌≡◌, ℕ, ◌≤◌, Bool, true, false, true≢false, ◌==◌, ◌↔◌, chars, List, [], ◌∷◌, ◌++◌, Option}
+use Rattle.std.proofs.Common.{Some, is_some, length, refl, ap, ◌∙◌, sym, arith, ◌||◌, ◌&&◌, nat_le, append-nil}
+use Rattle.std.proofs.Common.{if◌then◌else◌}
+use Rattle.std.proofs.lemmas.Bool.Decides.{nat_tests}
+use Rattle.std.proofs.lemmas.List.{length-append}
+use Rattle.std.proofs.Math.ListN.{drop_of_length-le}
+use Rattle.std.proofs.lemmas.Str.{encodes-chars, length-encode, len_utf8_bounds}
+use Rattle.std.specs.Prelude.{drop}
+use Rattle.std.specs.Char.{encode_utf8}
+use Rattle.std.specs.Str.{IsUtf8, encode_utf8_all}
+use Rattle.enc_units.specs.declared.encoder_result.EncoderResult.{EncoderResult}
+use Rattle.enc_units.specs.declared.encoder_result.EncoderResult.TheVariants.{InputEmpty, OutputFull, Unmappable}
+use Rattle.enc_encoder.specs.EncoderRule.{RawEncoderState}
+use Rattle.enc_encoder.specs.Steps.{Step, any_reported}
+use Rattle.enc_encoder.specs.Call.{EncoderStops}
+use Rattle.enc_encoder.proofs.StepLemmas.{any_reported-append}
+use Rattle.enc_encoder.proofs.TextLemmas.{parted}
+use Rattle.enc_encoder.specs.ErrorMode.{EncodeErrorMode, Fatal, Html, is_html_mode, StopsInMode}
+use Rattle.enc_encoder.proofs.UnmappableLemmas.{reports_by, reports_in, reports_in-append}
+use Rattle.enc_stream.specs.Encoder.{EncoderState, room_kept_for_references}
+use Rattle.enc_decoder.proofs.SequenceLemmas.{or_false}
+use Rattle.encoding_rs.proofs.DecodeCallLemmas.{reaches}
+use Rattle.encoding_rs.specs.EncodeRun.{encode_error_mode, reported_character, is_unmappable_result}
+use Rattle.encoding_rs.specs.EncodeRun.{is_input_empty_result}
+
+-- the characters that a call has reported
+
+none_in : (ps : List Step) → any_reported ps ≡ false → reports_in ps ≡ []
+none_in [] e = refl
+none_in (p ∷ ps) e =
+    let both = parted p.report (any_reported ps) e in
+    ap (λ r. reports_by r ++ reports_in ps) both.0 ∙ none_in ps both.1
+
+one_in : (r : Option ℕ) (c : ℕ) → r ≡ Some c → reports_by r ≡ c ∷ []
+one_in r c e = ap reports_by e
+
+-- the steps of a call without replacement
+report_is : (new : RawEncoderState) (rest : List ℕ) (last : Bool) (room : ℕ) (done : List Step)
+    (result : EncoderResult) → EncoderStops new rest last room done result
+    → (reported_character result ≡ reports_in done)
+    × (is_unmappable_result result ≡ any_reported done)
+report_is new rest last room done InputEmpty stops =
+    (sym (none_in done stops.none_reported), sym stops.none_reported)
+report_is new rest last room done OutputFull stops =
+    (sym (none_in done stops.none_reported), sym stops.none_reported)
+report_is new rest last room done (Unmappable c) stops =
+    let last_step = stops.report in (
+      sym (ap reports_in stops.then_report ∙ reports_in-append stops.before (last_step ∷ [])
+          ∙ ap (λ t. t ++ (reports_by last_step.report ++ []))
+          (none_in stops.before stops.none_reported)
+          ∙ append-nil (reports_by last_step.report) ∙ one_in last_step.report c stops.reported),
+      sym (ap any_reported stops.then_report ∙ any_reported-append stops.before (last_step ∷ [])
+          ∙ ap (λ b. b || (is_some last_step.report || false)) stops.none_reported
+          ∙ ap (λ r. is_some r || false) stops.reported),
+    )
+
+-- the steps of a call with replacement
+none_reported_in_mode : (kept : ℕ) (new : RawEncoderState) (rest : List ℕ) (last : Bool) (room : ℕ)
+    (done : List Step)
+    (result : EncoderResult) → StopsInMode (Html kept) new rest last room done result
+    → (reported_character result ≡ []) × (is_unmappable_result result ≡ false)
+none_reported_in_mode kept new rest last room done InputEmpty s = (refl, refl)
+none_reported_in_mode kept new rest last room done OutputFull s = (refl, refl)
+none_reported_in_mode kept new rest last room done (Unmappable c) s = absurd s
+
+-- the character that a call reports and its flag, by its steps
+pub report_of_call : (replace : Bool) (v : EncoderState) (new : RawEncoderState) (rest : List ℕ)
+    (last : Bool) (room : ℕ) (done : List Step) (result : EncoderResult) (replaced : Bool)
+    → replaced ≡ (is_html_mode (encode_error_mode replace v) && any_reported done)
+    → StopsInMode (encode_error_mode replace v) new rest last room done result
+    → (reported_character result ≡ (if replace then [] else reports_in done))
+    × ((replaced || is_unmappable_result result) ≡ any_reported done)
+report_of_call true v new rest last room done result replaced f s =
+    let none = none_reported_in_mode (room_kept_for_references v.barred v.encoding) new rest last
+    room done result s in
+    (none.0, ap (λ b. replaced || b) none.1 ∙ or_false replaced ∙ f)
+report_of_call false v new rest last room done result replaced f s =
+    let report_holds = report_is new rest last room done result s in
+    (report_holds.0, ap (λ b. b || is_unmappable_result result) f ∙ report_holds.1)
+
+-- after a call that ends the text, nothing is left
+pub left_nothing : (mode : EncodeErrorMode) (new : RawEncoderState) (rest : List ℕ) (last : Bool)
+    (room : ℕ) (done : List Step) (result : EncoderResult)
+    → StopsInMode mode new rest last room done result
+    → is_input_empty_result result ≡ true → rest ≡ []
+left_nothing Fatal new rest last room done InputEmpty s e = s.all_read
+left_nothing (Html kept) new [] last room done InputEmpty s e = refl
+left_nothing (Html kept) new (c ∷ t) last room done InputEmpty s e = absurd (true≢false (sym s))
+left_nothing mode new rest last room done OutputFull s e = absurd (true≢false (sym e))
+left_nothing mode new rest last room done (Unmappable c) s e = absurd (true≢false (sym e))
+
+pub is_empty_is : (result : EncoderResult) → is_input_empty_result result ≡ true
+    → result ≡ InputEmpty
+is_empty_is InputEmpty e = refl
+is_empty_is OutputFull e = absurd (true≢false (sym e))
+is_empty_is (Unmappable c) e = absurd (true≢false (sym e))
+
+-- no characters follow the offer of a call that reaches the end
+pub nothing_later : (unread : List ℕ) (offer : ℕ) → nat_le (length unread) offer ≡ true
+    → drop offer unread ≡ []
+nothing_later unread offer l = drop_of_length-le unread (reaches (length unread) offer l)
+
+-- a text has no more characters than bytes
+pub few_chars : (text : List ℕ) → IsUtf8 text → length (chars text) ≤ length text
+few_chars text u = omega (arith, few (chars text), ap length (encodes-chars text u))
+  where
+    few : (t : List ℕ) → length t ≤ length (encode_utf8_all t)
+    few [] = omega arith
+    few (c ∷ t) = omega (
+      arith,
+      few t,
+      length-append (encode_utf8 c) (encode_utf8_all t),
+      length-encode c,
+      len_utf8_bounds c,
+    )
+
+leb_by : (n m : ℕ) (b : Bool) → (b ≡ true → n ≤ m) → (n ≤ m → b ≡ true) → b ≡ nat_le n m
+leb_by n m true h k = grind (arith, nat_tests, h refl)
+leb_by n m false h k = grind (arith, nat_tests, λ (l : n ≤ m). true≢false (sym (k l)))
+
+-- the offer is all of the rest
+pub is_last : (n m offer : ℕ) (last : Bool) → last ≡ (n == 0) → (n ≡ 0) ↔ (m ≤ offer)
+    → last ≡ nat_le m offer
+is_last n m offer last last_is reaches_end =
+    leb_by m offer last (λ e. reaches_end.0 (grind (arith, nat_tests, sym last_is ∙ e)))
+    (λ e. last_is
+    ∙ grind (arith, nat_tests, reaches_end.1 e))

@@ -1,0 +1,65 @@
+-- The offsets and lengths of the malformed sequences that the parts of a run report.
+use Rattle.std.proofs.Common.{◌≡◌, ℕ, ◌+◌, Bool, true, false, List, [], ◌∷◌, ◌++◌, map, length, refl, ap, ◌∙◌, sym}
+use Rattle.std.proofs.Common.{arith}
+use Rattle.std.proofs.lemmas.Bool.{and_parts, not-true}
+use Rattle.std.proofs.lemmas.List.{length-append}
+use Rattle.std.specs.Prelude.{if◌then◌else◌}
+use Rattle.enc_decoder.specs.Sequence.{Sequence, sequence_bytes, is_malformed, any_malformed}
+use Rattle.encoding_rs.specs.declared.run.DecodeCall.{DecodeCall}
+use Rattle.encoding_rs.specs.Run.{faults_from, DecodeRunPart, sequences_of_parts, reported_faults_from}
+use Rattle.encoding_rs.specs.Run.{all_report_malformed}
+use Rattle.enc_stream.proofs.EndOfInputLemmas.{first_open, others_open}
+
+pub no_faults : (at : ℕ) (ss : List Sequence) → any_malformed ss ≡ false → faults_from at ss ≡ []
+no_faults at [] none_malformed = refl
+no_faults at (s ∷ ss) none_malformed =
+    rw (first_open (is_malformed s.kind) (any_malformed ss) none_malformed)
+    (no_faults (at + length s.bytes) ss
+    (others_open (is_malformed s.kind) (any_malformed ss) none_malformed))
+
+if_front : {A : Type 0} (b : Bool) (x : A) (xs ys : List A)
+    → (if b then x ∷ (xs ++ ys) else xs ++ ys) ≡ (if b then x ∷ xs else xs) ++ ys
+if_front true x xs ys = refl
+if_front false x xs ys = refl
+
+faults-append : (at : ℕ) (ss ts : List Sequence) → faults_from at (ss ++ ts)
+    ≡ faults_from at ss ++ faults_from (at + length (sequence_bytes ss)) ts
+faults-append at [] ts =
+    ap (λ n. faults_from n ts) (let at_start : at ≡ at + 0 = omega arith in at_start)
+faults-append at (s ∷ ss) ts =
+    let offset : at + length s.bytes + length (sequence_bytes ss)
+    ≡ at + length (s.bytes ++ sequence_bytes ss) =
+    omega (arith, length-append s.bytes (sequence_bytes ss)) in
+    ap (λ x. if is_malformed s.kind then (at, length s.bytes) ∷ x else x)
+    (faults-append (at + length s.bytes) ss ts
+    ∙ ap (λ n. faults_from (at + length s.bytes) ss ++ faults_from n ts) offset)
+    ∙ if_front (is_malformed s.kind) (at, length s.bytes) (faults_from (at + length s.bytes) ss)
+    (faults_from (at + length (s.bytes ++ sequence_bytes ss)) ts)
+
+-- A malformed sequence after others is the only fault.
+pub last_fault : (at : ℕ) (ss : List Sequence) (s : Sequence) → any_malformed ss ≡ false
+    → is_malformed s.kind ≡ true
+    → faults_from at (ss ++ s ∷ []) ≡ (at + length (sequence_bytes ss), length s.bytes) ∷ []
+last_fault at ss s none_malformed malformed =
+    faults-append at ss (s ∷ [])
+    ∙ ap (λ x. x ++ faults_from (at + length (sequence_bytes ss)) (s ∷ []))
+    (no_faults at ss none_malformed)
+    ∙ rw malformed refl
+
+-- If all calls report, the faults are those of all sequences.
+pub all_reported : (at : ℕ) (parts : List DecodeRunPart) (calls : List DecodeCall)
+    → map (λ (p : DecodeRunPart). p.replaces) parts ≡ map (λ (c : DecodeCall). c.replace) calls
+    → all_report_malformed calls ≡ true
+    → reported_faults_from at parts ≡ faults_from at (sequences_of_parts parts)
+all_reported at [] calls same_modes all_report = refl
+all_reported at (p ∷ ps) [] same_modes all_report = absurd (let no : ⊥ = cc in no)
+all_reported at (p ∷ ps) (c ∷ cs) same_modes all_report =
+    let same_mode : p.replaces ≡ c.replace = cc in
+    let same_rest : map (λ (q : DecodeRunPart). q.replaces) ps
+    ≡ map (λ (d : DecodeCall). d.replace) cs = cc in
+    let both = and_parts _ _ all_report in
+    let reports : p.replaces ≡ false = same_mode ∙ not-true c.replace both.0 in
+    rw reports
+    (ap (λ x. faults_from at p.done ++ x)
+    (all_reported (at + length (sequence_bytes p.done)) ps cs same_rest both.1)
+    ∙ sym (faults-append at p.done (sequences_of_parts ps)))
