@@ -7,8 +7,6 @@ use Rattle.enc_decoder.specs.declared.byte_codec.HandlerResult.TheVariants.{Emit
 use Rattle.enc_decoder_iso_2022_jp.specs.declared.character_set.CharacterSet.{CharacterSet}
 use Rattle.enc_decoder_iso_2022_jp.specs.declared.escape.Intermediate.{Intermediate}
 use Rattle.enc_decoder_iso_2022_jp.specs.declared.escape.Escape.{Escape}
-use Rattle.enc_decoder_iso_2022_jp.specs.declared.escape.Escape.TheVariants.{ToAscii, ToRoman, ToKatakana}
-use Rattle.enc_decoder_iso_2022_jp.specs.declared.escape.Escape.TheVariants.{ToJis0208Of1978, ToJis0208Of1983}
 use Rattle.enc_decoder_iso_2022_jp.specs.declared.iso_2022_jp.Held.{Held}
 use Rattle.enc_decoder_iso_2022_jp.specs.declared.iso_2022_jp.Held.TheVariants.{GivenBack, Lead, Whole, Started}
 use Rattle.enc_decoder.specs.Segmentation.{sequences_of, one_byte_head}

@@ -1,7 +1,7 @@
 -- Characters of ISO-2022-JP are pieces, and a run may begin with an escape sequence.
 use Rattle.std.proofs.Common.{◌≡◌, ℕ, ◌+◌, ◌<◌, true, false, eqb, Option, Some, None, List, [], ◌∷◌, ◌++◌, length, take}
 use Rattle.std.proofs.Common.{drop, get_or, refl, ap, ◌∙◌, sym, subst, arith, append_assoc, length-drop, take-add}
-use Rattle.std.proofs.Common.{drop-cons, inl, inr}
+use Rattle.std.proofs.Common.{drop-cons}
 use Rattle.std.proofs.lemmas.List.{take-append-drop}
 use Rattle.std.proofs.lemmas.Bool.{lt-ltb, ne_eqb}
 use Rattle.std.specs.Prelude.{◌≢◌}
@@ -17,8 +17,6 @@ use Rattle.enc_decoder_iso_2022_jp.specs.declared.character_set.CharacterSet.{Ch
 use Rattle.enc_decoder_iso_2022_jp.specs.declared.character_set.CharacterSet.TheVariants.{Ascii, Roman, Katakana, Jis0208}
 use Rattle.enc_decoder_iso_2022_jp.specs.declared.escape.Intermediate.{Intermediate}
 use Rattle.enc_decoder_iso_2022_jp.specs.declared.escape.Escape.{Escape}
-use Rattle.enc_decoder_iso_2022_jp.specs.declared.escape.Escape.TheVariants.{ToAscii, ToRoman, ToKatakana}
-use Rattle.enc_decoder_iso_2022_jp.specs.declared.escape.Escape.TheVariants.{ToJis0208Of1978, ToJis0208Of1983}
 use Rattle.enc_decoder.specs.Sequence.{Sequence}
 use Rattle.enc_decoder.specs.Segmentation.{sequences_of}
 use Rattle.enc_decoder_iso_2022_jp.specs.Iso2022Jp.{set_number, designated_set, is_lead_byte, one_byte_char}
@@ -30,7 +28,6 @@ use Rattle.enc_decoder.specs.Taking.{TakesSequences, TakesRun, IsWholeChar, IsRe
 use Rattle.enc_decoder.proofs.SegmentationLemmas.{sequences_of-head}
 use Rattle.enc_decoder.proofs.TakingLemmas.{front, follows_second, takes_both, takes_none}
 use Rattle.enc_decoder.proofs.PieceLemmas.{takes_pieces, takes_replaced, three_of}
-use Rattle.enc_decoder.proofs.FirstSequenceLemmas.{true_or_false}
 use Rattle.enc_decoder_iso_2022_jp.proofs.Iso2022JpLemmas.{found_for_other, has_escape_bytes, skipped_escape}
 use Rattle.enc_decoder_iso_2022_jp.proofs.EscapeLookahead.{other_front}
 use Rattle.enc_decoder_iso_2022_jp.proofs.Iso2022JpComes.{alone, pair}

@@ -2,12 +2,10 @@
 -- was given back.
 use Rattle.std.proofs.Common.{◌≡◌, ℕ, Some, None, List, [], ◌∷◌, ◌++◌, refl, append-nil}
 use Rattle.enc_decoder_iso_2022_jp.specs.declared.character_set.CharacterSet.{CharacterSet}
-use Rattle.enc_decoder_iso_2022_jp.specs.declared.character_set.CharacterSet.TheVariants.{Ascii, Roman, Katakana, Jis0208}
+use Rattle.enc_decoder_iso_2022_jp.specs.declared.character_set.CharacterSet.TheVariants.{Ascii, Jis0208}
 use Rattle.enc_decoder_iso_2022_jp.specs.declared.escape.Intermediate.{Intermediate}
 use Rattle.enc_decoder_iso_2022_jp.specs.declared.escape.Intermediate.TheVariants.{Parenthesis, Dollar}
 use Rattle.enc_decoder_iso_2022_jp.specs.declared.escape.Escape.{Escape}
-use Rattle.enc_decoder_iso_2022_jp.specs.declared.escape.Escape.TheVariants.{ToAscii, ToRoman, ToKatakana}
-use Rattle.enc_decoder_iso_2022_jp.specs.declared.escape.Escape.TheVariants.{ToJis0208Of1978, ToJis0208Of1983}
 use Rattle.enc_decoder_iso_2022_jp.specs.declared.iso_2022_jp.Held.{Held}
 use Rattle.enc_decoder_iso_2022_jp.specs.declared.iso_2022_jp.Held.TheVariants.{GivenBack, Lead, Whole, Start, Started}
 use Rattle.enc_decoder.specs.Segmentation.{sequences_of}

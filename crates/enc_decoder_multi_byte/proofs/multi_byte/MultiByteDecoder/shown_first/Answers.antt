@@ -1,9 +1,8 @@
 use Rattle.std.proofs.Common.{[], ◌∷◌, ◌++◌, ap, sym, ◌∙◌, refl, arith, drop}
 use Rattle.std.proofs.lemmas.List.{length-append}
 use Rattle.enc_decoder.specs.Pending.{bytes_of_pending}
-use Rattle.enc_decoder_multi_byte.specs.MultiByte.{multi_byte_state}
 use Rattle.enc_decoder_multi_byte.proofs.MultiByteLemmas.{settles_complete, settles_malformed}
-use Rattle.enc_decoder_multi_byte.proofs.MultiByteComes.{at_most_three, first_and_rest, shows_pending}
+use Rattle.enc_decoder_multi_byte.proofs.MultiByteComes.{shows_pending}
 use Rattle.enc_decoder_multi_byte.proofs.multi_byte.MultiByteDecoder.shown_first.Goals as goal
 
 pub returns-in-Complete-clause-shown : goal.returns-in-Complete-clause-shown
