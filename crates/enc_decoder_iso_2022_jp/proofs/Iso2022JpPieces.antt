@@ -14,7 +14,8 @@ use Rattle.enc_units.specs.Mappings.{AreWrittenAsThemselves}
 use Rattle.enc_units.specs.Validity.{AreIso2022JpAscii}
 use Rattle.enc_decoder.specs.declared.byte_codec.Kind.TheVariants.{Skipped}
 use Rattle.enc_decoder_iso_2022_jp.specs.declared.character_set.CharacterSet.{CharacterSet}
-use Rattle.enc_decoder_iso_2022_jp.specs.declared.character_set.CharacterSet.TheVariants.{Ascii, Roman, Katakana, Jis0208}
+use Rattle.enc_decoder_iso_2022_jp.specs.declared.character_set.CharacterSet.TheVariants.{Ascii, Roman, Katakana}
+use Rattle.enc_decoder_iso_2022_jp.specs.declared.character_set.CharacterSet.TheVariants.{Jis0208}
 use Rattle.enc_decoder_iso_2022_jp.specs.declared.escape.Intermediate.{Intermediate}
 use Rattle.enc_decoder_iso_2022_jp.specs.declared.escape.Escape.{Escape}
 use Rattle.enc_decoder.specs.Sequence.{Sequence}
@@ -52,14 +53,16 @@ pub alone_piece : (s : CharacterSet) (b c : ℕ) → one_byte_char s b ≡ Some 
     → IsWholeChar jp_rule (set_number s) (b ∷ []) c
 alone_piece s b c is_char no_lead y =
     sequences_of-head jp_rule (set_number s) b y _
-    (alone s b (Some c) (sym is_char) no_lead (found_for_other (one_byte_char s) b c (none_alone s) is_char) y)
+    (alone s b (Some c) (sym is_char) no_lead
+    (found_for_other (one_byte_char s) b c (none_alone s) is_char) y)
 
 pub pair_piece : (s : CharacterSet) (lead b c : ℕ) → two_byte_char lead b ≡ Some c
     → is_lead_byte s lead ≡ true
     → IsWholeChar jp_rule (set_number s) (lead ∷ b ∷ []) c
 pair_piece s lead b c is_char leads y =
     sequences_of-head jp_rule (set_number s) lead (b ∷ y) _
-    (pair s lead b (Some c) (sym is_char) leads (found_for_other (two_byte_char lead) b c (none_after lead) is_char) y)
+    (pair s lead b (Some c) (sym is_char) leads
+    (found_for_other (two_byte_char lead) b c (none_after lead) is_char) y)
 
 -- bytes that stand for themselves in ASCII
 
@@ -158,7 +161,8 @@ pub takes_escape : (units_of : ℕ → List ℕ) (c n : Iso2022JpState) (e : Esc
     → StandsAlone src e → 0 < more
     → PutsPieces units_of (IsWholeChar jp_rule (set_number n.set)) before after rest more
     → TakesRun units_of jp_state c n src (3 + more) before after
-takes_escape units_of c n e {src} {rest} {more} {before} {after} none_held next_is rest_is is_alone some puts =
+takes_escape units_of c n e {src} {rest} {more} {before} {after} none_held next_is rest_is is_alone
+    some puts =
     let pieces_taken = takes_pieces units_of jp_state n rest more before after
     (ap (λ (s : Iso2022JpState). bytes_of_held s.held) next_is) puts in
     let run_taken = subst (λ (m : Iso2022JpState). TakesRun units_of jp_state m n rest more before

@@ -12,7 +12,8 @@ returns-in-Complete-clause-shown g c =
     let is_len = c.len-len.ensures in
     rw c.complete.ensures.is (
       shows_pending g.E.MultiByte.prefix c.laws.ensures (λ d. d.pending) c.args.self
-          c.complete.result.next front _ c.loop-byte.invariant.0 (sym c.first.ensures ∙ c.in-Some.is)
+          c.complete.result.next front _ c.loop-byte.invariant.0
+          (sym c.first.ensures ∙ c.in-Some.is)
           c.loop-byte.invariant.1
           (settles_complete g.E.MultiByte.prefix (front ++ c.in-Some.byte ∷ []) c.in-Complete.text
           (omega (arith, one_longer)) (sym c.classify.ensures ∙ c.in-Complete.is))
