@@ -1,5 +1,5 @@
 -- Which bytes show whether an escape sequence begins.
-use Rattle.std.proofs.Common.{◌≡◌, ℕ, ◌≤◌, suc, true, false, eqb, Some, None, List, [], ◌∷◌, ◌++◌, length, take, refl}
+use Rattle.std.proofs.Common.{◌≡◌, ℕ, ◌≤◌, suc, false, eqb, Some, None, List, [], ◌∷◌, ◌++◌, length, take, refl}
 use Rattle.std.proofs.Common.{◌∙◌, sym, arith, subst, ◌⊎◌, inl, inr}
 use Rattle.enc_decoder_iso_2022_jp.specs.declared.character_set.CharacterSet.{CharacterSet}
 use Rattle.enc_decoder_iso_2022_jp.specs.declared.character_set.CharacterSet.TheVariants.{Ascii, Jis0208}

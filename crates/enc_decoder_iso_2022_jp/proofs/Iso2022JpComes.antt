@@ -7,8 +7,6 @@ use Rattle.enc_decoder.specs.declared.byte_codec.HandlerResult.TheVariants.{Emit
 use Rattle.enc_decoder_iso_2022_jp.specs.declared.character_set.CharacterSet.{CharacterSet}
 use Rattle.enc_decoder_iso_2022_jp.specs.declared.escape.Intermediate.{Intermediate}
 use Rattle.enc_decoder_iso_2022_jp.specs.declared.escape.Escape.{Escape}
-use Rattle.enc_decoder_iso_2022_jp.specs.declared.escape.Escape.TheVariants.{ToAscii, ToRoman, ToKatakana}
-use Rattle.enc_decoder_iso_2022_jp.specs.declared.escape.Escape.TheVariants.{ToJis0208Of1978, ToJis0208Of1983}
 use Rattle.enc_decoder_iso_2022_jp.specs.declared.iso_2022_jp.Held.{Held}
 use Rattle.enc_decoder_iso_2022_jp.specs.declared.iso_2022_jp.Held.TheVariants.{GivenBack, Lead, Whole, Started}
 use Rattle.enc_decoder.specs.Segmentation.{sequences_of, one_byte_head}
@@ -23,7 +21,8 @@ use Rattle.enc_decoder.proofs.SegmentationLemmas.{sequences_of-head}
 use Rattle.enc_decoder.proofs.EmissionLemmas.{shows_with, shows_before}
 use Rattle.enc_decoder_iso_2022_jp.proofs.Iso2022JpLemmas.{set_of_number, lead_first, alone_first, lead_alone}
 use Rattle.enc_decoder_iso_2022_jp.proofs.Iso2022JpLemmas.{lead_and_trail, skipped_escape, repeated_escape}
-use Rattle.enc_decoder_iso_2022_jp.proofs.Iso2022JpLemmas.{designated_by, has_escape_bytes, high_is_none, high_leads_none}
+use Rattle.enc_decoder_iso_2022_jp.proofs.Iso2022JpLemmas.{designated_by, has_escape_bytes, high_is_none}
+use Rattle.enc_decoder_iso_2022_jp.proofs.Iso2022JpLemmas.{high_leads_none}
 use Rattle.enc_decoder_iso_2022_jp.proofs.Iso2022JpLemmas.{high_is_no_escape}
 use Rattle.enc_decoder_iso_2022_jp.proofs.Iso2022JpUndetermined.{undetermined}
 
@@ -81,7 +80,8 @@ pub alone : (s : CharacterSet) (b : ℕ) (found : Option ℕ) → found ≡ one_
     → (y : List ℕ) → jp_rule (set_number s) b y ≡ one_byte_head (set_number s) found
 alone s b found is_char no_lead no_escape y =
     alone_first (set_number s) b y (rw set_of_number no_lead) no_escape
-    ∙ ap (one_byte_head (set_number s)) (ap (λ t. one_byte_char t b) (set_of_number s) ∙ sym is_char)
+    ∙ ap (one_byte_head (set_number s))
+    (ap (λ t. one_byte_char t b) (set_of_number s) ∙ sym is_char)
 
 pub shows_given_back : (s : CharacterSet) (b : ℕ) (found : Option ℕ) → found ≡ one_byte_char s b
     → CanHold s (Some (GivenBack b))
@@ -165,7 +165,8 @@ shows_pair s lead b (Some d) is_char leads no_escape =
 another_designates : (f : Escape) (i : Intermediate) (b : ℕ)
     → escape_bytes f ≡ 0x1B ∷ intermediate_byte i ∷ b ∷ []
     → (y : List ℕ) → designated_set (0x1B ∷ intermediate_byte i ∷ b ∷ y) ≡ Some (escape_set f)
-another_designates f i b is_escape y = ap (λ x. designated_set (x ++ y)) (sym is_escape) ∙ designated_by f y
+another_designates f i b is_escape y =
+    ap (λ x. designated_set (x ++ y)) (sym is_escape) ∙ designated_by f y
 
 pub shows_repeated : (s : CharacterSet) (e f : Escape) (i : Intermediate) (b : ℕ)
     → escape_bytes f ≡ 0x1B ∷ intermediate_byte i ∷ b ∷ []

@@ -1,11 +1,12 @@
 -- What holds of each form of the first sequence by ISO-2022-JP's rule holds of the first sequence.
 -- It is within the bytes that are there, and has a small text.
 use Rattle.std.proofs.Common.{◌≡◌, ℕ, ◌<◌, ◌≤◌, Bool, true, false, eqb, Option, Some, None, List, [], ◌∷◌, length, take}
-use Rattle.std.proofs.Common.{drop, refl, ◌∙◌, sym, subst, arith, ◌⊎◌, inl, inr}
+use Rattle.std.proofs.Common.{refl, ◌∙◌, sym, subst, arith, ◌⊎◌, inl, inr}
 use Rattle.std.proofs.lemmas.Bool.Decides.{nat_tests}
 use Rattle.std.specs.Option.{is_some}
 use Rattle.enc_decoder_iso_2022_jp.specs.declared.character_set.CharacterSet.{CharacterSet}
-use Rattle.enc_decoder_iso_2022_jp.specs.declared.character_set.CharacterSet.TheVariants.{Ascii, Roman, Katakana, Jis0208}
+use Rattle.enc_decoder_iso_2022_jp.specs.declared.character_set.CharacterSet.TheVariants.{Ascii, Roman, Katakana}
+use Rattle.enc_decoder_iso_2022_jp.specs.declared.character_set.CharacterSet.TheVariants.{Jis0208}
 use Rattle.enc_decoder.specs.Segmentation.{Head, one_byte_head, malformed_head}
 use Rattle.enc_decoder.specs.RuleLaws.{IsSmallText}
 use Rattle.enc_decoder.specs.Need.{IsBmpText}

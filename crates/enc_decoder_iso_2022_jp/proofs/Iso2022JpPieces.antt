@@ -1,7 +1,7 @@
 -- Characters of ISO-2022-JP are pieces, and a run may begin with an escape sequence.
 use Rattle.std.proofs.Common.{◌≡◌, ℕ, ◌+◌, ◌<◌, true, false, eqb, Option, Some, None, List, [], ◌∷◌, ◌++◌, length, take}
 use Rattle.std.proofs.Common.{drop, get_or, refl, ap, ◌∙◌, sym, subst, arith, append_assoc, length-drop, take-add}
-use Rattle.std.proofs.Common.{drop-cons, inl, inr}
+use Rattle.std.proofs.Common.{drop-cons}
 use Rattle.std.proofs.lemmas.List.{take-append-drop}
 use Rattle.std.proofs.lemmas.Bool.{lt-ltb, ne_eqb}
 use Rattle.std.specs.Prelude.{◌≢◌}
@@ -14,11 +14,10 @@ use Rattle.enc_units.specs.Mappings.{AreWrittenAsThemselves}
 use Rattle.enc_units.specs.Validity.{AreIso2022JpAscii}
 use Rattle.enc_decoder.specs.declared.byte_codec.Kind.TheVariants.{Skipped}
 use Rattle.enc_decoder_iso_2022_jp.specs.declared.character_set.CharacterSet.{CharacterSet}
-use Rattle.enc_decoder_iso_2022_jp.specs.declared.character_set.CharacterSet.TheVariants.{Ascii, Roman, Katakana, Jis0208}
+use Rattle.enc_decoder_iso_2022_jp.specs.declared.character_set.CharacterSet.TheVariants.{Ascii, Roman, Katakana}
+use Rattle.enc_decoder_iso_2022_jp.specs.declared.character_set.CharacterSet.TheVariants.{Jis0208}
 use Rattle.enc_decoder_iso_2022_jp.specs.declared.escape.Intermediate.{Intermediate}
 use Rattle.enc_decoder_iso_2022_jp.specs.declared.escape.Escape.{Escape}
-use Rattle.enc_decoder_iso_2022_jp.specs.declared.escape.Escape.TheVariants.{ToAscii, ToRoman, ToKatakana}
-use Rattle.enc_decoder_iso_2022_jp.specs.declared.escape.Escape.TheVariants.{ToJis0208Of1978, ToJis0208Of1983}
 use Rattle.enc_decoder.specs.Sequence.{Sequence}
 use Rattle.enc_decoder.specs.Segmentation.{sequences_of}
 use Rattle.enc_decoder_iso_2022_jp.specs.Iso2022Jp.{set_number, designated_set, is_lead_byte, one_byte_char}
@@ -30,7 +29,6 @@ use Rattle.enc_decoder.specs.Taking.{TakesSequences, TakesRun, IsWholeChar, IsRe
 use Rattle.enc_decoder.proofs.SegmentationLemmas.{sequences_of-head}
 use Rattle.enc_decoder.proofs.TakingLemmas.{front, follows_second, takes_both, takes_none}
 use Rattle.enc_decoder.proofs.PieceLemmas.{takes_pieces, takes_replaced, three_of}
-use Rattle.enc_decoder.proofs.FirstSequenceLemmas.{true_or_false}
 use Rattle.enc_decoder_iso_2022_jp.proofs.Iso2022JpLemmas.{found_for_other, has_escape_bytes, skipped_escape}
 use Rattle.enc_decoder_iso_2022_jp.proofs.EscapeLookahead.{other_front}
 use Rattle.enc_decoder_iso_2022_jp.proofs.Iso2022JpComes.{alone, pair}
@@ -55,14 +53,16 @@ pub alone_piece : (s : CharacterSet) (b c : ℕ) → one_byte_char s b ≡ Some 
     → IsWholeChar jp_rule (set_number s) (b ∷ []) c
 alone_piece s b c is_char no_lead y =
     sequences_of-head jp_rule (set_number s) b y _
-    (alone s b (Some c) (sym is_char) no_lead (found_for_other (one_byte_char s) b c (none_alone s) is_char) y)
+    (alone s b (Some c) (sym is_char) no_lead
+    (found_for_other (one_byte_char s) b c (none_alone s) is_char) y)
 
 pub pair_piece : (s : CharacterSet) (lead b c : ℕ) → two_byte_char lead b ≡ Some c
     → is_lead_byte s lead ≡ true
     → IsWholeChar jp_rule (set_number s) (lead ∷ b ∷ []) c
 pair_piece s lead b c is_char leads y =
     sequences_of-head jp_rule (set_number s) lead (b ∷ y) _
-    (pair s lead b (Some c) (sym is_char) leads (found_for_other (two_byte_char lead) b c (none_after lead) is_char) y)
+    (pair s lead b (Some c) (sym is_char) leads
+    (found_for_other (two_byte_char lead) b c (none_after lead) is_char) y)
 
 -- bytes that stand for themselves in ASCII
 
@@ -161,7 +161,8 @@ pub takes_escape : (units_of : ℕ → List ℕ) (c n : Iso2022JpState) (e : Esc
     → StandsAlone src e → 0 < more
     → PutsPieces units_of (IsWholeChar jp_rule (set_number n.set)) before after rest more
     → TakesRun units_of jp_state c n src (3 + more) before after
-takes_escape units_of c n e {src} {rest} {more} {before} {after} none_held next_is rest_is is_alone some puts =
+takes_escape units_of c n e {src} {rest} {more} {before} {after} none_held next_is rest_is is_alone
+    some puts =
     let pieces_taken = takes_pieces units_of jp_state n rest more before after
     (ap (λ (s : Iso2022JpState). bytes_of_held s.held) next_is) puts in
     let run_taken = subst (λ (m : Iso2022JpState). TakesRun units_of jp_state m n rest more before

@@ -1,8 +1,8 @@
 -- Bytes in ASCII in error mode "replacement", and the tables of their texts.
-use Rattle.std.proofs.Common.{◌≡◌, ◌∙◌, ℕ, zero, suc, ◌+◌, ◌<◌, Bool, true, ◌&&◌, ◌==◌, eqb, Option, Some, None, List}
+use Rattle.std.proofs.Common.{◌≡◌, ◌∙◌, ℕ, ◌<◌, true, eqb, Option, Some, None, List}
 use Rattle.std.proofs.Common.{[]}
-use Rattle.std.proofs.Common.{◌∷◌, length, take, drop, get_or, refl, sym, subst, arith, inl, inr, eqb-true, false}
-use Rattle.std.proofs.lemmas.Bool.{and_parts, cond-true, cond-false}
+use Rattle.std.proofs.Common.{◌∷◌, length, take, drop, get_or, refl, sym, subst, arith, inl, inr, false}
+use Rattle.std.proofs.lemmas.Bool.{cond-true, cond-false}
 use Rattle.std.specs.Char.{IsScalar}
 use Rattle.enc_index.specs.Grid.{HasWord}
 use Rattle.enc_index.proofs.ByteEntries.{fits, bytes_fit, word_at, unit_at}

@@ -209,7 +209,8 @@ determined : (set b : ℕ) (z : List ℕ) → IsDeterminedSoonWith set b z (jp_r
 determined set = holds_of_first {Holds = IsDeterminedSoonWith set} (record {
   no_escape = λ z none. inr (λ valid. cc, none_is_bounded set z none);
   escape = λ b c s z names_set.
-      inr (escape_not_valid set s (is_some (designated_set z)), escape_is_bounded set b c s z names_set);
+      let another = is_some (designated_set z) in
+      inr (escape_not_valid set s another, escape_is_bounded set b c s z names_set);
   lead = λ b z leads cut. inr (λ valid. cc, lead_is_bounded set b z leads cut);
   pair = λ b c z leads trails. inl (pair_determined set b c z leads trails);
   alone = λ b z no_lead no_escape. inl (alone_determined set b z no_lead no_escape);

@@ -7,7 +7,7 @@ use Rattle.enc_decoder_iso_2022_jp.specs.declared.character_set.CharacterSet.{Ch
 use Rattle.enc_decoder.specs.Sequence.{Sequence, sequence_bytes, set_after}
 use Rattle.enc_decoder.specs.Segmentation.{Head, head_sequence, sequences_of, one_byte_head, malformed_head}
 use Rattle.enc_decoder_iso_2022_jp.specs.Iso2022Jp.{set_number, set_of, set_of_escape_bytes, designated_set}
-use Rattle.enc_decoder_iso_2022_jp.specs.Iso2022Jp.{escape_head, is_lead_byte, one_byte_char, two_byte_char}
+use Rattle.enc_decoder_iso_2022_jp.specs.Iso2022Jp.{escape_head, one_byte_char, two_byte_char}
 use Rattle.enc_decoder_iso_2022_jp.specs.Iso2022Jp.{two_byte_head, iso_2022_jp_rule as jp_rule}
 use Rattle.enc_decoder_iso_2022_jp.specs.Iso2022JpLaws.{later_set_or, last_designated_set, set_number_or}
 use Rattle.enc_decoder_iso_2022_jp.specs.Iso2022JpLaws.{SetsAreOfLastEscapes}

@@ -2,12 +2,10 @@
 -- was given back.
 use Rattle.std.proofs.Common.{◌≡◌, ℕ, Some, None, List, [], ◌∷◌, ◌++◌, refl, append-nil}
 use Rattle.enc_decoder_iso_2022_jp.specs.declared.character_set.CharacterSet.{CharacterSet}
-use Rattle.enc_decoder_iso_2022_jp.specs.declared.character_set.CharacterSet.TheVariants.{Ascii, Roman, Katakana, Jis0208}
+use Rattle.enc_decoder_iso_2022_jp.specs.declared.character_set.CharacterSet.TheVariants.{Ascii, Jis0208}
 use Rattle.enc_decoder_iso_2022_jp.specs.declared.escape.Intermediate.{Intermediate}
 use Rattle.enc_decoder_iso_2022_jp.specs.declared.escape.Intermediate.TheVariants.{Parenthesis, Dollar}
 use Rattle.enc_decoder_iso_2022_jp.specs.declared.escape.Escape.{Escape}
-use Rattle.enc_decoder_iso_2022_jp.specs.declared.escape.Escape.TheVariants.{ToAscii, ToRoman, ToKatakana}
-use Rattle.enc_decoder_iso_2022_jp.specs.declared.escape.Escape.TheVariants.{ToJis0208Of1978, ToJis0208Of1983}
 use Rattle.enc_decoder_iso_2022_jp.specs.declared.iso_2022_jp.Held.{Held}
 use Rattle.enc_decoder_iso_2022_jp.specs.declared.iso_2022_jp.Held.TheVariants.{GivenBack, Lead, Whole, Start, Started}
 use Rattle.enc_decoder.specs.Segmentation.{sequences_of}
@@ -15,7 +13,8 @@ use Rattle.enc_decoder.specs.Remainder.{IsUndetermined}
 use Rattle.enc_decoder.specs.CodecState.{remainder_of}
 use Rattle.enc_decoder.specs.RuleLaws.{IsDeterminedByEnd}
 use Rattle.enc_decoder_iso_2022_jp.specs.Iso2022Jp.{set_number, iso_2022_jp_rule as jp_rule}
-use Rattle.enc_decoder_iso_2022_jp.specs.Iso2022JpState.{state_with_held, escape_bytes, escape_set, intermediate_byte, CanHold}
+use Rattle.enc_decoder_iso_2022_jp.specs.Iso2022JpState.{state_with_held, escape_bytes, escape_set}
+use Rattle.enc_decoder_iso_2022_jp.specs.Iso2022JpState.{intermediate_byte, CanHold}
 use Rattle.enc_decoder_iso_2022_jp.specs.Iso2022JpState.{iso_2022_jp_state as jp_state}
 use Rattle.enc_decoder.proofs.FirstSequenceLemmas.{undetermined_by_end}
 use Rattle.enc_decoder_iso_2022_jp.proofs.Iso2022JpLemmas.{set_of_number, has_escape_bytes}
@@ -26,7 +25,8 @@ use Rattle.enc_decoder_iso_2022_jp.proofs.Iso2022JpRule.{begun_by_end, escape_by
 -- bytes that only the end makes a sequence
 by_end : (set b : ℕ) (z : List ℕ) → IsDeterminedByEnd jp_rule set b z
     → IsUndetermined (λ y. sequences_of jp_rule set (b ∷ (z ++ y)))
-by_end set b z is_by_end = undetermined_by_end jp_rule set b z (λ y. (has_form set b y).within) is_by_end
+by_end set b z is_by_end =
+    undetermined_by_end jp_rule set b z (λ y. (has_form set b y).within) is_by_end
 
 -- an escape sequence, and what may begin another
 after_escape : (set : ℕ) (e : Escape) (z : List ℕ) → MayBegin z
@@ -49,7 +49,8 @@ undetermined set (Whole e) can_hold not_restored =
     rw (← append-nil (escape_bytes e)) (after_escape (set_number set) e [] nothing_begins)
 undetermined set (Start None) can_hold not_restored =
     by_end (set_number set) 0x1B [] (begun_by_end (set_number set) [] one_begins)
-undetermined set (Start (Some e)) can_hold not_restored = after_escape (set_number set) e (0x1B ∷ []) one_begins
+undetermined set (Start (Some e)) can_hold not_restored =
+    after_escape (set_number set) e (0x1B ∷ []) one_begins
 undetermined set (Started None i) can_hold not_restored =
     by_end (set_number set) 0x1B (intermediate_byte i ∷ [])
     (begun_by_end (set_number set) (intermediate_byte i ∷ [])

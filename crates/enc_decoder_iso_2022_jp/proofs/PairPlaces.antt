@@ -37,7 +37,8 @@ pub bytes_place : (a b : ℕ) {row_of column_of place : ℕ}
     → IsPlaceOf jis0208_shape (IsJis0208Pair a b) place
 unfolding two_byte_char
 bytes_place a b r k p =
-    pair_place jis0208_shape has_no_more (is_jis0208_byte a) (is_jis0208_byte b) (a - 0x21) (b - 0x21)
+    pair_place jis0208_shape has_no_more (is_jis0208_byte a) (is_jis0208_byte b) (a - 0x21)
+    (b - 0x21)
     (r ∙ row a) (k ∙ column b) p (few a) (small b)
     (λ c lead trail has. (
       lead,

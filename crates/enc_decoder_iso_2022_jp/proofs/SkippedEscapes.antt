@@ -44,7 +44,8 @@ IsNotAlone set b z h = h.kind ≡ Skipped → IsDeterminedWithin jp_rule set b z
 not_alone : (set b : ℕ) (z : List ℕ) → IsNotAlone set b z (jp_rule set b z)
 not_alone set = holds_of_first {Holds = IsNotAlone set} (record {
   no_escape = λ z _ skipped _. cc;
-  escape = λ b c s z names_set. escape_not_alone set b c s z (is_some (designated_set z)) names_set refl;
+  escape = λ b c s z names_set.
+      escape_not_alone set b c s z (is_some (designated_set z)) names_set refl;
   lead = λ b z _ _ skipped _. cc;
   pair = λ b c z _ _ skipped _. two_bytes_not_skipped set (two_byte_char b c) skipped;
   alone = λ b z _ _ skipped _. one_byte_not_skipped set (one_byte_char (set_of set) b) skipped;

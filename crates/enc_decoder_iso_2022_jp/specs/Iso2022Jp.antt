@@ -4,7 +4,8 @@ use Rattle.std.specs.Prelude.{ℕ, ◌+◌, ◌-◌, ◌*◌, Bool, true, false,
 use Rattle.std.specs.Prelude.{◌≡◌, None, is_some, List, [], ◌∷◌, drop, if◌then◌else◌}
 use Rattle.enc_decoder.specs.declared.byte_codec.Kind.TheVariants.{Skipped, RepeatedEscape}
 use Rattle.enc_decoder_iso_2022_jp.specs.declared.character_set.CharacterSet.{CharacterSet}
-use Rattle.enc_decoder_iso_2022_jp.specs.declared.character_set.CharacterSet.TheVariants.{Ascii, Roman, Katakana, Jis0208}
+use Rattle.enc_decoder_iso_2022_jp.specs.declared.character_set.CharacterSet.TheVariants.{Ascii, Roman, Katakana}
+use Rattle.enc_decoder_iso_2022_jp.specs.declared.character_set.CharacterSet.TheVariants.{Jis0208}
 use Rattle.enc_decoder.specs.Segmentation.{Head, Rule, one_byte_head, character_head, malformed_head}
 use Rattle.enc_index.specs.Runs.{jis0208_at}
 

@@ -78,7 +78,8 @@ module _ (prefix : List ℕ → Prefix) (laws : ArePrefixes prefix) {C : Type 0}
       let few = at_most_three (pending c) in
       let left_length = ap length left_is in
       let others = drop 1 rest in
-      let with_first : p ≡ w ++ x ∷ others = parts ∙ ap (λ z. w ++ z) (first_and_rest rest x begins) in
+      let with_first : p ≡ w ++ x ∷ others =
+      parts ∙ ap (λ z. w ++ z) (first_and_rest rest x begins) in
       let front_and_rest : p ≡ (w ++ x ∷ []) ++ others =
       with_first ∙ sym (append_assoc w (x ∷ []) others) in
       let lengths : length p ≡ length (w ++ x ∷ []) + length others =

@@ -1,5 +1,6 @@
 -- The words and the code units of bytes that stand alone.
-use Rattle.std.proofs.Common.{◌≡◌, ℕ, ◌+◌, ◌-◌, ◌<◌, Bool, true, false, cond, nat_lt, Option, Some, None, [], ◌∷◌, length}
+use Rattle.std.proofs.Common.{◌≡◌, ℕ, ◌+◌, ◌-◌, ◌<◌, Bool, true, false, cond, nat_lt, Option, Some, None, [], ◌∷◌}
+use Rattle.std.proofs.Common.{length}
 use Rattle.std.proofs.Common.{get_or, refl, arith}
 use Rattle.std.specs.Char.{IsScalar}
 use Rattle.enc_index.specs.Grid.{HasWord}

@@ -1,5 +1,5 @@
 -- The decoder of whole inputs, by the first sequence and the bytes after it.
-use Rattle.std.proofs.Common.{◌≡◌, ℕ, ◌+◌, ◌-◌, ◌<◌, ◌≤◌, zero, suc, Bool, true, false, List, [], ◌∷◌, ◌++◌, length}
+use Rattle.std.proofs.Common.{◌≡◌, ℕ, ◌+◌, ◌-◌, ◌<◌, ◌≤◌, suc, Bool, true, false, List, [], ◌∷◌, ◌++◌, length}
 use Rattle.std.proofs.Common.{get_or, take, drop, refl, ap, ◌∙◌, sym, eqb, cond, arith, append_assoc, append-nil, ◌||◌}
 use Rattle.std.proofs.Common.{drop-drop}
 use Rattle.std.proofs.Math.ListN.{drop_of_length-le}
@@ -9,7 +9,7 @@ use Rattle.enc_decoder.specs.declared.byte_codec.Kind.TheVariants.{Valid, Malfor
 use Rattle.enc_units.specs.Output.{units_of_text}
 use Rattle.enc_decoder.specs.Sequence.{Sequence, sequence_text, is_malformed, any_malformed}
 use Rattle.enc_decoder.specs.Segmentation.{Head, head_sequence, sequences_of}
-use Rattle.enc_decoder_utf.specs.Utf8.{sequence_len, is_second_byte, is_continuation, continuations, continuing_len}
+use Rattle.enc_decoder_utf.specs.Utf8.{sequence_len, is_second_byte, is_continuation, continuing_len}
 use Rattle.enc_decoder_utf.specs.Utf8.{well_formed_tail_len, scalar_of, utf_8_rule}
 use Rattle.enc_decoder.proofs.SequenceLemmas.{or_assoc, or_false}
 use Rattle.enc_decoder.proofs.SegmentationLemmas.{sequences_of-cons, sequences_of-nil}

@@ -99,7 +99,8 @@ module _ (units_of : ℕ → List ℕ) (each : ℕ) (most : ℕ → ℕ) (one : 
         arith,
         first_is_within set b z extra unit,
         rest,
-        units-both units_of (head_sequence head b z ∷ []) (sequences_after rule head.set head.more z),
+        units-both units_of (head_sequence head b z ∷ [])
+            (sequences_after rule head.set head.more z),
         units-one units_of (head_sequence head b z) head.text refl,
       )
 

@@ -1,7 +1,7 @@
 -- The laws of UTF-16's rule. The own bytes of a sequence determine it. A lead surrogate that no
 -- trail follows is determined by the next code unit, and the last bytes of a code unit or a pair
 -- that is cut off by the end.
-use Rattle.std.proofs.Common.{◌≡◌, ℕ, ◌<◌, Bool, true, false, List, [], ◌∷◌, length, refl, ap, ◌∙◌, sym, arith, subst}
+use Rattle.std.proofs.Common.{◌≡◌, ℕ, ◌<◌, Bool, true, false, List, [], ◌∷◌, refl, ap, ◌∙◌, sym, arith, subst}
 use Rattle.std.proofs.Common.{◌⊎◌, inl, inr}
 use Rattle.enc_decoder.specs.declared.byte_codec.Kind.TheVariants.{Valid}
 use Rattle.enc_decoder.specs.Segmentation.{Head}

@@ -15,7 +15,8 @@ pub undetermined : (big : Bool) (p : Pending) → IsTrue (begins_with_lead big p
     → IsUndetermined (remainder_of (utf_16_state (with_pending big p))).sequences
 undetermined big Nothing lead_first = nothing_pending (utf_16_state (with_pending big Nothing)) refl
 undetermined big (One a) lead_first =
-    undetermined_by_end (utf_16_rule big) 0 a [] (λ y. (has_form big 0 a y).within) (one_by_end big 0 a)
+    undetermined_by_end (utf_16_rule big) 0 a [] (λ y. (has_form big 0 a y).within)
+    (one_by_end big 0 a)
 undetermined big (Two a b) lead_first =
     undetermined_by_end (utf_16_rule big) 0 a (b ∷ []) (λ y. (has_form big 0 a y).within)
     (lead_by_end big 0 a b lead_first)

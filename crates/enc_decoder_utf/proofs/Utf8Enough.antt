@@ -19,7 +19,7 @@ use Rattle.enc_decoder.proofs.FirstSequenceLemmas.{true_or_false}
 use Rattle.enc_decoder.proofs.NeedLemmas.{units, units-both, units-one}
 use Rattle.enc_decoder.proofs.EnoughLemmas.{plus_is, sum_is, thrice_is, never_passes, HasFewUnits, few_by_single_bytes}
 use Rattle.enc_decoder.proofs.EnoughLemmas.{utf_8_bounded, utf_16_bounded, basic_by}
-use Rattle.enc_decoder_utf.specs.Utf8.{sequence_len, is_second_byte, is_continuation, continuations, continuing_len}
+use Rattle.enc_decoder_utf.specs.Utf8.{sequence_len, is_second_byte, is_continuation, continuations}
 use Rattle.enc_decoder_utf.specs.Utf8.{well_formed_tail_len, scalar_of, utf_8_rule}
 use Rattle.enc_decoder_utf.proofs.Utf8Rule.{utf_8_is_lawful}
 use Rattle.enc_decoder_utf.proofs.Utf8Lemmas.{well_formed_tail_len-within, well_formed_tail_len-end}

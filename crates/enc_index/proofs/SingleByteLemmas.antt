@@ -11,7 +11,6 @@ use Rattle.enc_index.specs.declared.data.single_byte_words.TheConstants.{SINGLE_
 use Rattle.enc_index.specs.Grid.{HasWord}
 use Rattle.enc_index.specs.Index.{entry_character, index_at}
 use Rattle.enc_index.specs.Runs.{single_byte_runs}
-use Rattle.enc_index.specs.Search.{are_ascending_runs}
 use Rattle.enc_index.specs.SingleByteTables.{table_number}
 use Rattle.enc_index.proofs.GridEntries.{grid_tests, is_word, is_unit, word_found, unit_found}
 use Rattle.enc_index.proofs.GridTests.{after_drop, rows_ok-at, entry_ok, byte_ok, places_ok, places_ok-byte}

@@ -1,7 +1,7 @@
 -- The pages of pointers give each character's pointer in the single-byte indexes, and the table of
 -- the first characters has their bytes.
 use Rattle.std.proofs.Common.{◌≡◌, ℕ, ◌+◌, ◌-◌, ◌*◌, ◌<◌, ◌≤◌, Bool, true, ◌&&◌, refl, sym, ap, ◌∙◌, subst, List}
-use Rattle.std.proofs.Common.{get_or, length, slice_range, Some, arith, lt-ltb}
+use Rattle.std.proofs.Common.{get_or, slice_range, Some, arith, lt-ltb}
 use Rattle.std.proofs.lemmas.Bool.{and_parts, cond-true}
 use Rattle.enc_index.specs.declared.table.Planes.TheVariants.{Basic}
 use Rattle.enc_index.specs.declared.single_byte_index.SingleByteIndex.{SingleByteIndex}

@@ -13,7 +13,8 @@ use Rattle.enc_decoder_multi_byte.specs.EucJp.{euc_jp_triple_char, euc_jp_prefix
 use Rattle.enc_decoder_multi_byte.proofs.DoubleByteLemmas.{first_is_basic, ascii_is_basic, char_is_text, first_is_text}
 use Rattle.enc_decoder_multi_byte.proofs.DoubleByteLemmas.{first_alone}
 use Rattle.enc_decoder_multi_byte.proofs.DoubleByteLemmas.{first_malformed, trail_text, trail_malformed, trail_finished}
-use Rattle.enc_decoder_multi_byte.proofs.DoubleByteLemmas.{malformed_with_ff, trail_can_be_malformed, unless_complete, unless_malformed}
+use Rattle.enc_decoder_multi_byte.proofs.DoubleByteLemmas.{malformed_with_ff, trail_can_be_malformed}
+use Rattle.enc_decoder_multi_byte.proofs.DoubleByteLemmas.{unless_complete, unless_malformed}
 
 texts : (front : List ℕ) (text : Text) → euc_jp_prefix front ≡ Complete text → IsPairText text
 texts [] text complete = cc

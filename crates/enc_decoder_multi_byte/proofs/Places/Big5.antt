@@ -46,7 +46,8 @@ pub place : (a b : ℕ) {row column place : ℕ}
     → IsPlaceOf big5_shape (IsLeadPair is_big5_lead big5_pair_text a b) place
 place a b r k p =
     pair_place big5_shape has_no_more (is_big5_lead a) (is_big5_trail b) (a - 0x81) (big5_number b)
-    (r ∙ range_number 0x81 0xFE a 126) (k ∙ big5_column b) p (number_below 0x81 0xFE 126 a (omega arith)) (big5_small b)
+    (r ∙ range_number 0x81 0xFE a 126) (k ∙ big5_column b) p
+    (number_below 0x81 0xFE 126 a (omega arith)) (big5_small b)
     (λ c lead trail has. (
       lead,
       cond-true (is_big5_trail b) (big5_pointer_text (big5_pair_pointer a b)) None trail

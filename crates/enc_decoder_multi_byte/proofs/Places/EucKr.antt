@@ -1,9 +1,8 @@
 -- Two bytes of EUC-KR have the place of their character in the index, by the numbers of lead bytes and
 -- of trail bytes.
 -- Written by scripts/make-sources from data/templates: change the text there, and not this file.
-use Rattle.std.proofs.Common.{◌≡◌, ◌∙◌, ℕ, ◌+◌, ◌-◌, ◌*◌, ◌<◌, true, cond, None, ap, arith}
+use Rattle.std.proofs.Common.{◌≡◌, ◌∙◌, ℕ, ◌+◌, ◌-◌, ◌*◌, None, ap, arith}
 use Rattle.std.proofs.lemmas.Bool.{cond-true}
-use Rattle.std.proofs.lemmas.Bool.Decides.{nat_tests}
 use Rattle.enc_index.specs.DoubleByteIndexes.{euc_kr_shape}
 use Rattle.enc_index.specs.Grid.{IsPlaceOf}
 use Rattle.enc_index.specs.Runs.{euc_kr_at}

@@ -45,5 +45,6 @@ pub place : (a b : ℕ) {row column place : ℕ}
     → IsPlaceOf gb18030_shape (IsCharPair gb18030_prefix a b) place
 place a b r k p =
     pair_place gb18030_shape has_no_more (is_gb18030_lead a) (is_gb18030_trail b) (a - 0x81)
-    (trail_number b) (r ∙ range_number 0x81 0xFE a 126) (k ∙ gb18030_column b) p (number_below 0x81 0xFE 126 a (omega arith))
+    (trail_number b) (r ∙ range_number 0x81 0xFE a 126) (k ∙ gb18030_column b) p
+    (number_below 0x81 0xFE 126 a (omega arith))
     (gb18030_small b) (gb18030_pair a b)

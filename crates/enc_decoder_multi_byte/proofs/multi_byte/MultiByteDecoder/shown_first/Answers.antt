@@ -1,9 +1,8 @@
 use Rattle.std.proofs.Common.{[], ◌∷◌, ◌++◌, ap, sym, ◌∙◌, refl, arith, drop}
 use Rattle.std.proofs.lemmas.List.{length-append}
 use Rattle.enc_decoder.specs.Pending.{bytes_of_pending}
-use Rattle.enc_decoder_multi_byte.specs.MultiByte.{multi_byte_state}
 use Rattle.enc_decoder_multi_byte.proofs.MultiByteLemmas.{settles_complete, settles_malformed}
-use Rattle.enc_decoder_multi_byte.proofs.MultiByteComes.{at_most_three, first_and_rest, shows_pending}
+use Rattle.enc_decoder_multi_byte.proofs.MultiByteComes.{shows_pending}
 use Rattle.enc_decoder_multi_byte.proofs.multi_byte.MultiByteDecoder.shown_first.Goals as goal
 
 pub returns-in-Complete-clause-shown : goal.returns-in-Complete-clause-shown
@@ -13,7 +12,8 @@ returns-in-Complete-clause-shown g c =
     let is_len = c.len-len.ensures in
     rw c.complete.ensures.is (
       shows_pending g.E.MultiByte.prefix c.laws.ensures (λ d. d.pending) c.args.self
-          c.complete.result.next front _ c.loop-byte.invariant.0 (sym c.first.ensures ∙ c.in-Some.is)
+          c.complete.result.next front _ c.loop-byte.invariant.0
+          (sym c.first.ensures ∙ c.in-Some.is)
           c.loop-byte.invariant.1
           (settles_complete g.E.MultiByte.prefix (front ++ c.in-Some.byte ∷ []) c.in-Complete.text
           (omega (arith, one_longer)) (sym c.classify.ensures ∙ c.in-Complete.is))

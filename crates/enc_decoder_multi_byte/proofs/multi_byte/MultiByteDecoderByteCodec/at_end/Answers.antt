@@ -1,7 +1,6 @@
 use Rattle.std.proofs.Common.{ap, refl}
 use Rattle.enc_decoder.specs.Pending.{bytes_of_pending}
-use Rattle.enc_decoder_multi_byte.specs.MultiByte.{multi_byte_state}
-use Rattle.enc_decoder_multi_byte.proofs.MultiByteComes.{at_most_three, some_pending, left_over}
+use Rattle.enc_decoder_multi_byte.proofs.MultiByteComes.{some_pending, left_over}
 use Rattle.enc_decoder_multi_byte.proofs.multi_byte.MultiByteDecoderByteCodec.at_end.Goals as goal
 
 pub returns-in_default-pending : goal.returns-in_default-pending

@@ -1,9 +1,8 @@
 use Rattle.std.proofs.Common.{[], ◌∷◌, ◌++◌, ap, sym, ◌∙◌, refl, arith}
 use Rattle.std.proofs.lemmas.List.{length-append}
 use Rattle.enc_decoder.specs.Pending.{bytes_of_pending}
-use Rattle.enc_decoder_multi_byte.specs.MultiByte.{multi_byte_state}
 use Rattle.enc_decoder_multi_byte.proofs.MultiByteLemmas.{settles_complete, settles_malformed}
-use Rattle.enc_decoder_multi_byte.proofs.MultiByteComes.{at_most_three, shows_byte_with, shows_byte, waits}
+use Rattle.enc_decoder_multi_byte.proofs.MultiByteComes.{shows_byte_with, shows_byte, waits}
 use Rattle.enc_decoder_multi_byte.proofs.multi_byte.MultiByteDecoderByteCodec.next_step.Goals as goal
 
 pub returns-in-Complete : goal.returns-in-Complete

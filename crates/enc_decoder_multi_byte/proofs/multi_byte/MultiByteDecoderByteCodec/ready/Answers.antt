@@ -1,6 +1,3 @@
-use Rattle.std.proofs.Common.{refl}
-use Rattle.enc_decoder.specs.Pending.{bytes_of_pending}
-use Rattle.enc_decoder_multi_byte.specs.MultiByte.{multi_byte_state}
 use Rattle.enc_decoder_multi_byte.proofs.MultiByteComes.{ready_by}
 use Rattle.enc_decoder_multi_byte.proofs.multi_byte.MultiByteDecoderByteCodec.ready.Goals as goal
 
