@@ -1,8 +1,8 @@
 -- Lanes of ASCII bytes.
 use Rattle.std.proofs.Common.{◌≡◌, ℕ, zero, suc, ◌+◌, ◌%◌, ◌^◌, ◌<◌, Bool, true, false, cond, eqb, leb, List, [], ◌∷◌}
 use Rattle.std.proofs.Common.{map, length, get_or, replicate, take, drop, refl, ap, ◌∙◌, sym, subst, arith, eqb-true}
-use Rattle.std.proofs.Common.{leb-false, take-add, drop-cons, append_assoc, drop-drop, length-append, length-take}
-use Rattle.std.proofs.Common.{length-drop, ◌++◌, ◌-◌, ◌≤◌, inl, inr}
+use Rattle.std.proofs.Common.{leb-false, take-add, drop-cons, append_assoc, drop-drop}
+use Rattle.std.proofs.Common.{◌++◌, ◌-◌, ◌≤◌, inl, inr}
 use Rattle.std.proofs.lemmas.Bool.{cases_lt}
 use Rattle.std.proofs.lemmas.Bool.Decides.{nat_tests}
 use Rattle.std.proofs.lemmas.List.{length-take-le, length-map, take_more, take_all, get_or-take, get_or-drop}

@@ -1,6 +1,6 @@
 -- ASCII among 64 bytes, by the mask of those that are not.
 use Rattle.std.proofs.Common.{◌≡◌, ◌∙◌, ℕ, ◌+◌, ◌-◌, ◌/◌, ◌%◌, ◌^◌, ◌≤◌, cond, leb, leb-false, List, map, length}
-use Rattle.std.proofs.Common.{take, drop, replicate, ap, subst, arith, length-drop, w8}
+use Rattle.std.proofs.Common.{take, drop, replicate, ap, subst, arith, w8}
 use Rattle.std.proofs.lemmas.List.{drop-map, drop-take, take-take}
 use lib.Count.{count_trailing_zeros}
 use lib.Lanes.{zip2, mask_l, top}

@@ -1,6 +1,6 @@
 -- Runs of ASCII in front of what fits, and what was gathered apart.
 use Rattle.std.proofs.Common.{◌≡◌, ℕ, suc, ◌+◌, ◌<◌, ◌≤◌, List, [], ◌∷◌, ◌++◌, length, get_or, take, refl, ap, ◌∙◌, sym}
-use Rattle.std.proofs.Common.{subst, arith, length-take, inl, inr}
+use Rattle.std.proofs.Common.{subst, arith, inl, inr}
 use Rattle.std.proofs.lemmas.Bool.{cases_lt, lt-ltb}
 use Rattle.std.proofs.lemmas.List.{take-take, get_or-take}
 use Rattle.std.specs.Prelude.{min}

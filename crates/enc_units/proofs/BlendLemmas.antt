@@ -2,7 +2,7 @@
 use Rattle.enc_units.proofs.LengthLemmas.{lengths}
 use Rattle.std.proofs.Common.{◌≡◌, ℕ, zero, suc, ◌+◌, ◌≤◌, cond, ltb, List, [], ◌∷◌, ◌++◌, map, length, take, drop}
 use Rattle.std.proofs.Common.{replicate, lt-ltb, le-ltb, refl, ap, ◌∙◌, sym, arith, append_assoc, drop-drop}
-use Rattle.std.proofs.Common.{length-append, length-drop, length-take, take-append-drop, w8}
+use Rattle.std.proofs.Common.{take-append-drop, w8}
 use Rattle.std.proofs.lemmas.List.{drop-append-le}
 use Rattle.std.proofs.lemmas.Simd.{put_chunk_is, tops_compared, zip2_splat}
 use Rattle.std.specs.List.{range_with_len}

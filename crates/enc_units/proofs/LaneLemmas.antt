@@ -1,7 +1,7 @@
 -- How many of sixteen lanes come before the first that passes a test.
 use Rattle.std.proofs.Common.{◌≡◌, ℕ, zero, suc, ◌+◌, ◌-◌, ◌*◌, ◌/◌, ◌%◌, ◌^◌, ◌<◌, ◌≤◌, ◌≢◌, Bool, true, false, not}
 use Rattle.std.proofs.Common.{◌||◌, take-add, leb, cond, eqb, List, [], ◌∷◌, map, length, get_or}
-use Rattle.std.proofs.Common.{replicate, take, drop, ap, ◌∙◌, sym, subst, arith, length-take, inl, inr}
+use Rattle.std.proofs.Common.{replicate, take, drop, ap, ◌∙◌, sym, subst, arith, inl, inr}
 use Rattle.std.specs.Prelude.{All}
 use Rattle.std.specs.List.{prefix_len}
 use Rattle.std.proofs.lemmas.Bool.Decides.{nat_tests}
@@ -17,7 +17,7 @@ use lib.Lanes.{zip2, mask_l, top}
 use mir.Syntax.{Width}
 use mir.Val.{bits, hbits}
 use Rattle.enc_units.proofs.LengthLemmas.{lengths}
-use Rattle.enc_units.specs.Validity.{AreIso2022JpAscii, IsLongestPrefix}
+use Rattle.enc_units.specs.Validity.{AreIso2022JpAscii}
 use Rattle.enc_units.proofs.Utf8Lanes.{IsFlags, at_least, equal_to, either, none_set}
 
 module _ (p : ℕ → Bool) (xs : List ℕ) (long : length xs ≡ 16) (mask : ℕ)
@@ -162,17 +162,3 @@ unshifted_one i xs a h b =
     one : AreIso2022JpAscii (get_or xs i 0 ∷ [])
     one zero d l = b
     one (suc k) d l = absurd (omega arith)
-
--- the longest prefix ends before the first that is none of them
-pub unshifted_longest : (i : ℕ) (xs : List ℕ) → AreIso2022JpAscii (take i xs) → i ≤ length xs
-    → (i < length xs → (get_or xs i 0 < 0x80) × (get_or xs i 0 ≢ 0x0E) × (get_or xs i 0 ≢ 0x0F)
-    × (get_or xs i 0 ≢ 0x1B) → ⊥)
-    → IsLongestPrefix AreIso2022JpAscii xs i
-unshifted_longest i xs a within stops = record {
-  within = within;
-  has = a;
-  longest = λ m more fits has.
-      stops (omega arith)
-      (subst (λ b. (b < 0x80) × (b ≢ 0x0E) × (b ≢ 0x0F) × (b ≢ 0x1B)) (get_or-take m xs i 0 more)
-      (has i 0 (omega (arith, lengths))));
-}

@@ -2,7 +2,7 @@
 use Rattle.std.proofs.Common.{◌≡◌, ℕ, zero, suc, ◌+◌, ◌-◌, ◌*◌, ◌/◌, ◌%◌, ◌<◌, ◌≤◌, Bool, true, ◌&&◌, eqb, ltb, List}
 use Rattle.std.proofs.Common.{[], ◌∷◌, ◌++◌}
 use Rattle.std.proofs.Common.{w8, w16, map, length, get_or, take, drop, refl, ap, ◌∙◌, sym, subst, arith, eqb-true}
-use Rattle.std.proofs.Common.{ltb-true, length-take, length-drop, drop-drop, drop-cons}
+use Rattle.std.proofs.Common.{ltb-true, drop-drop, drop-cons}
 use Rattle.std.proofs.lemmas.Bool.{and_parts}
 use Rattle.std.proofs.lemmas.Grind.{same_number_lists}
 use Rattle.std.proofs.lemmas.List.{length-map, get_or-map, get_or-take, take-take}

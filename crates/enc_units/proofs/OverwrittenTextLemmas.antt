@@ -22,10 +22,10 @@ abbrev AreContinuations : List ℕ → Type 0
 AreContinuations [] = Unit {0}
 AreContinuations (b ∷ bs) = ((0x80 ≤ b) × (b < 0xC0)) × AreContinuations bs
 
-dropped : (n : ℕ) (bs : List ℕ) → AreContinuations bs → AreContinuations (drop n bs)
-dropped zero bs continue = continue
-dropped (suc n) [] continue = tt
-dropped (suc n) (b ∷ bs) continue = dropped n bs continue.1
+AreContinuations-drop : (n : ℕ) (bs : List ℕ) → AreContinuations bs → AreContinuations (drop n bs)
+AreContinuations-drop zero bs continue = continue
+AreContinuations-drop (suc n) [] continue = tt
+AreContinuations-drop (suc n) (b ∷ bs) continue = AreContinuations-drop n bs continue.1
 
 abbrev is_continuation : ℕ → Bool
 is_continuation b = nat_le 0x80 b && nat_lt b 0xC0
@@ -52,25 +52,25 @@ all_cleared (b ∷ bs) z continue utf8 =
     (IsUtf8-append (encode_utf8 0) rest (IsUtf8-encode 0 refl) (all_cleared bs z continue.1 utf8)))
 
 -- what begins with a character stays
-stays_by : (c : ℕ) (z : List ℕ) → Form c
+char_stays : (c : ℕ) (z : List ℕ) → Form c
     → without_continuations (encode_utf8 c ++ z) ≡ encode_utf8 c ++ z
-stays_by c z (One low code) =
+char_stays c z (One low code) =
     let test : is_continuation c ≡ false = grind (arith, nat_tests, low) in
     subst (λ x. without_continuations (x ++ z) ≡ x ++ z) (sym code) (cond_no _ _ _ test)
-stays_by c z (Two from below code) =
+char_stays c z (Two from below code) =
     let test : is_continuation (192 + c / 64) ≡ false = grind (arith, nat_tests) in
     subst (λ x. without_continuations (x ++ z) ≡ x ++ z) (sym code) (cond_no _ _ _ test)
-stays_by c z (Three from below code) =
+char_stays c z (Three from below code) =
     let test : is_continuation (224 + c / 4096) ≡ false = grind (arith, nat_tests) in
     subst (λ x. without_continuations (x ++ z) ≡ x ++ z) (sym code) (cond_no _ _ _ test)
-stays_by c z (Four from code) =
+char_stays c z (Four from code) =
     let test : is_continuation (240 + c / 262144) ≡ false = grind (arith, nat_tests) in
     subst (λ x. without_continuations (x ++ z) ≡ x ++ z) (sym code) (cond_no _ _ _ test)
 
-stays : (text : List ℕ) → all_scalars text ≡ true
+text_stays : (text : List ℕ) → all_scalars text ≡ true
     → without_continuations (encode_utf8_all text) ≡ encode_utf8_all text
-stays [] scalars = refl
-stays (c ∷ text) scalars = stays_by c (encode_utf8_all text) (form_of c)
+text_stays [] scalars = refl
+text_stays (c ∷ text) scalars = char_stays c (encode_utf8_all text) (form_of c)
 
 -- the bytes of a character after the first
 tail_by : (c : ℕ) → Form c → AreContinuations (drop 1 (encode_utf8 c))
@@ -87,12 +87,12 @@ tail_by c (Four from code) =
 -- the rest of a character after its first bytes, and other text
 rest_by : (c n : ℕ) (z : List ℕ) → IsUtf8 (encode_utf8 c ++ z) → IsUtf8 (without_continuations z)
     → IsUtf8 (without_continuations (drop n (encode_utf8 c) ++ z))
-rest_by c zero z utf8 rest_utf8 = subst IsUtf8 (sym (stays_by c z (form_of c))) utf8
+rest_by c zero z utf8 rest_utf8 = subst IsUtf8 (sym (char_stays c z (form_of c))) utf8
 rest_by c (suc n) z utf8 rest_utf8 =
     let place : 1 + n ≡ suc n = omega arith in
     let tail = drop-drop n 1 (encode_utf8 c) ∙ ap (λ k. drop k (encode_utf8 c)) place in
     subst (λ x. IsUtf8 (without_continuations (x ++ z))) tail
-    (all_cleared _ z (dropped n (drop 1 (encode_utf8 c)) (tail_by c (form_of c))) rest_utf8)
+    (all_cleared _ z (AreContinuations-drop n (drop 1 (encode_utf8 c)) (tail_by c (form_of c))) rest_utf8)
 
 drop_nil : (n : ℕ) → ◌≡◌ {A = List ℕ} (drop n []) []
 drop_nil zero = refl
@@ -110,7 +110,7 @@ rest_of (c ∷ text) n scalars =
           subst (λ x. IsUtf8 (without_continuations x))
           (sym (drop-append-le n (encode_utf8 c) rest (omega arith)))
           (rest_by c n rest (c ∷ text, (scalars, refl))
-          (subst IsUtf8 (sym (stays text parts.1)) (text, (parts.1, refl))))
+          (subst IsUtf8 (sym (text_stays text parts.1)) (text, (parts.1, refl))))
       | inr beyond ↦
           let further = n - length (encode_utf8 c) in
           let count : n ≡ length (encode_utf8 c) + further = omega arith in

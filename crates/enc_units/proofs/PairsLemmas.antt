@@ -1,6 +1,6 @@
 -- Characters of one byte or two.
 use Rattle.std.proofs.Common.{◌≡◌, ◌∙◌, ℕ, suc, ◌+◌, ◌-◌, ◌/◌, ◌%◌, ◌^◌, ◌≤◌, Bool, true, false, List, []}
-use Rattle.std.proofs.Common.{◌∷◌, length, take, drop, get_or, ap, sym, subst, arith, length-drop, drop-cons}
+use Rattle.std.proofs.Common.{◌∷◌, length, take, drop, get_or, ap, sym, subst, arith, drop-cons}
 use Rattle.std.proofs.Common.{eqb-true, refl}
 use Rattle.std.proofs.lemmas.Bool.{eqb-false}
 use Rattle.std.proofs.lemmas.List.{get_or-drop, get_or-take}

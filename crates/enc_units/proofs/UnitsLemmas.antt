@@ -103,10 +103,6 @@ alone c l s = elim (scalar_range c s) [
   | inr is_above ↦ rw (le-leb 0xD800 c (omega (arith, is_above.0)), le-ltb c 0xE000 is_above.0) refl
 ]
 
-lossy-cons : (o : Option ℕ) (os : List (Option ℕ))
-    → map (λ p. unwrap_or p 0xFFFD) (o ∷ os) ≡ unwrap_or o 0xFFFD ∷ map (λ p. unwrap_or p 0xFFFD) os
-lossy-cons o os = refl
-
 one_back : (c : ℕ) (us : List ℕ) → IsScalar c
     → utf16_lossy_chars (encode_utf16 c ++ us) ≡ c ∷ utf16_lossy_chars us
 one_back c us scalar = elim (cases_lt c 0x1_0000) [

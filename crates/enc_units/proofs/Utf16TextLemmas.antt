@@ -1,6 +1,6 @@
 -- UTF-16 that is written as UTF-8.
 use Rattle.std.proofs.Common.{◌≡◌, ℕ, ◌+◌, ◌-◌, ◌≤◌, false, List, [], ◌∷◌, ◌++◌, length, take, drop, refl, ap, ◌∙◌, sym}
-use Rattle.std.proofs.Common.{arith, subst, nat_le, nat_lt, ◌&&◌, append_assoc, append-nil, length-drop, drop-drop}
+use Rattle.std.proofs.Common.{arith, subst, nat_le, nat_lt, ◌&&◌, append_assoc, append-nil, drop-drop}
 use Rattle.std.proofs.Common.{take-append-drop}
 use Rattle.std.proofs.lemmas.Bool.{and_parts}
 use Rattle.std.proofs.lemmas.Bool.Decides.{nat_tests}

@@ -1,6 +1,6 @@
 -- How many code units the last bytes of a text in UTF-8 give.
 use Rattle.std.proofs.Common.{◌≡◌, ℕ, suc, ◌+◌, ◌-◌, ◌*◌, ◌<◌, ◌≤◌, List, [], ◌∷◌, ◌++◌, inl, inr}
-use Rattle.std.proofs.Common.{refl, length, take, ap, ◌∙◌, sym, subst, arith, length-take}
+use Rattle.std.proofs.Common.{refl, length, take, ap, ◌∙◌, sym, subst, arith}
 use Rattle.std.proofs.lemmas.Bool.{and_parts, cases_lt}
 use Rattle.std.specs.Char.{encode_utf8}
 use Rattle.std.specs.Char.Escape.{encode_utf16}

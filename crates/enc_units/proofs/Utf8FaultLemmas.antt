@@ -2,7 +2,7 @@
 use Rattle.std.proofs.Common.{◌≡◌, ℕ, suc, ◌+◌, ◌-◌, ◌*◌, ◌/◌, ◌%◌, ◌^◌, ◌<◌, ◌≤◌, ◌⊎◌, Bool, true, false, not}
 use Rattle.std.proofs.Common.{◌&&◌, cond, eqb, leb, ltb, le-leb, eqb-true}
 use Rattle.std.proofs.Common.{eq-eqb, List, map, length, get_or, replicate, take, bit_and, bit_or, bit_xor, refl, ap}
-use Rattle.std.proofs.Common.{◌∙◌, sym, subst, arith, inl, inr, ◌∷◌, ◌++◌, drop, length-drop, length-append}
+use Rattle.std.proofs.Common.{◌∙◌, sym, subst, arith, inl, inr, ◌∷◌, ◌++◌, drop}
 use Rattle.std.proofs.lemmas.Bool.{and_parts, cases_lt, not-false}
 use Rattle.std.proofs.lemmas.Bool.Decides.{nat_tests}
 use Rattle.std.proofs.lemmas.List.{get_or-replicate, get_or-drop, get_or-take, take_all}

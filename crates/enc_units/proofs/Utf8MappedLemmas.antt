@@ -71,9 +71,9 @@ module _ (text : List ℕ) (utf8 : IsUtf8 text) (front : Front text) where
             ∙ ap (λ z. front.char ∷ chars z) (sym after);
       }
 
-  given : {code : List ℕ} → 0x80 ≤ front.char → encode_utf8 front.char ≡ code → (d : ℕ)
+  is_first_by : {code : List ℕ} → 0x80 ≤ front.char → encode_utf8 front.char ≡ code → (d : ℕ)
       → front.char ≡ d → IsFirst text d (length code)
-  given {code} beyond code_is d same =
+  is_first_by {code} beyond code_is d same =
       subst (λ x. IsFirst text x (length code)) same
       (record { scalar = front.scalar; beyond = beyond; first = first_is code_is })
 
@@ -84,7 +84,7 @@ module _ (text : List ℕ) (utf8 : IsUtf8 text) (front : Front text) where
   found_by (Two from below code) first second third fourth beyond =
       let lead = byte_at code 0 in
       record {
-        two = λ _. given from code _ (omega (arith, lead, byte_at code 1));
+        two = λ _. is_first_by from code _ (omega (arith, lead, byte_at code 1));
         three = λ high _. absurd (omega (arith, lead));
         four = λ high. absurd (omega (arith, lead));
       }
@@ -92,7 +92,7 @@ module _ (text : List ℕ) (utf8 : IsUtf8 text) (front : Front text) where
       let lead = byte_at code 0 in
       record {
         two = λ low. absurd (omega (arith, lead));
-        three = λ _ _. given (omega arith) code _
+        three = λ _ _. is_first_by (omega arith) code _
             (omega (arith, lead, byte_at code 1, byte_at code 2));
         four = λ high. absurd (omega (arith, lead));
       }
@@ -102,7 +102,7 @@ module _ (text : List ℕ) (utf8 : IsUtf8 text) (front : Front text) where
       record {
         two = λ low. absurd (omega (arith, lead));
         three = λ _ low. absurd (omega (arith, lead));
-        four = λ _. given (omega arith) code _
+        four = λ _. is_first_by (omega arith) code _
             (omega (arith, lead, byte_at code 1, byte_at code 2, byte_at code 3));
       }
 
@@ -138,8 +138,8 @@ module _ (text : List ℕ) (utf8 : IsUtf8 text) (front : Front text) where
 
 -- at a place of a slice
 module _ (src : List ℕ) (at : ℕ) (utf8 : IsUtf8 (drop at src)) (inside : at < length src) where
-  found : Front (drop at src)
-  found = front (drop at src) utf8 (omega (arith, lengths))
+  front_at : Front (drop at src)
+  front_at = front (drop at src) utf8 (omega (arith, lengths))
 
   at_place : get_or (drop at src) 0 0 ≡ get_or src at 0
   at_place = get_or-drop at src 0 0 ∙ ap (λ k. get_or src k 0) (omega arith)
@@ -147,13 +147,13 @@ module _ (src : List ℕ) (at : ℕ) (utf8 : IsUtf8 (drop at src)) (inside : at 
   pub found_at : 0x80 ≤ get_or src at 0
       → FoundBy (drop at src) (get_or src at 0) (get_or src (at + 1) 0) (get_or src (at + 2) 0)
       (get_or src (at + 3) 0)
-  found_at = found_by (drop at src) utf8 found (form_of found.char) at_place
+  found_at = found_by (drop at src) utf8 front_at (form_of front_at.char) at_place
       (get_or-drop at src 1 0) (get_or-drop at src 2 0) (get_or-drop at src 3 0)
 
   pub short_at : short_unit (get_or src at 0) (get_or src (at + 1) 0) < 0x800
       → IsFirstUtf8Char (drop at src) (short_unit (get_or src at 0) (get_or src (at + 1) 0))
       (1 + lead_bit (get_or src at 0))
-  short_at = short_by (drop at src) utf8 found (form_of found.char) at_place
+  short_at = short_by (drop at src) utf8 front_at (form_of front_at.char) at_place
       (get_or-drop at src 1 0)
 
   -- its bytes are within the slice

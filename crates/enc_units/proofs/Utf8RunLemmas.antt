@@ -1,6 +1,6 @@
 -- Bytes that follow one another as in well-formed UTF-8 are well-formed.
 use Rattle.std.proofs.Common.{◌≡◌, ℕ, zero, suc, ◌+◌, ◌-◌, ◌<◌, ◌≤◌, ◌⊎◌, List, [], ◌∷◌, length, get_or, take, drop}
-use Rattle.std.proofs.Common.{sym, ap, subst, arith, ◌∙◌, inl, inr, take-add, drop-drop, length-take, length-drop}
+use Rattle.std.proofs.Common.{sym, ap, subst, arith, ◌∙◌, inl, inr, take-add, drop-drop}
 use Rattle.std.proofs.lemmas.Bool.{cases_lt, cases_eq}
 use Rattle.std.proofs.lemmas.List.{take_all}
 use Rattle.std.proofs.lemmas.Simd.{get_or-chunk}

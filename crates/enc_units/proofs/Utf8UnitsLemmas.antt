@@ -13,12 +13,12 @@ use Rattle.enc_units.specs.Utf8Units.{gives_unit, code_unit_of_byte, byte_two_be
 use Rattle.enc_units.specs.Utf8Units.{marked_places, marked_code_units}
 use Rattle.enc_units.proofs.LengthLemmas.{lengths}
 
--- whether a byte gives a code unit, and which
-abbrev gives : List ℕ → ℕ → Bool
-gives src at = gives_unit (byte_two_before src at) (get_or src at 0)
+-- whether the byte at a place gives a code unit, and which
+abbrev gives_unit_at : List ℕ → ℕ → Bool
+gives_unit_at src at = gives_unit (byte_two_before src at) (get_or src at 0)
 
-abbrev given : List ℕ → ℕ → ℕ
-given src at =
+abbrev code_unit_at : List ℕ → ℕ → ℕ
+code_unit_at src at =
     code_unit_of_byte (get_or src at 0) (get_or src (suc at) 0) (get_or src (suc (suc at)) 0)
 
 abbrev pub if_one : Bool → ℕ → List ℕ
@@ -37,7 +37,7 @@ few_one false u = omega arith
 pub units_few : (src : List ℕ) (at n : ℕ) → length (units_from src at n) ≤ n
 units_few src at zero = omega arith
 units_few src at (suc n) =
-    omega (arith, lengths, few_one (gives src at) (given src at), units_few src (suc at) n)
+    omega (arith, lengths, few_one (gives_unit_at src at) (code_unit_at src at), units_few src (suc at) n)
 
 -- the units of a bytes and of b more, at `place`, are those of all
 pub units_then : (src : List ℕ) (at a b : ℕ) {place all : ℕ} → place ≡ at + a → all ≡ a + b
@@ -214,7 +214,7 @@ module _ (src : List ℕ) (at : ℕ) where
         let next : at + k + 1 ≡ suc (at + k) = omega arith in
         let second : at + k + 2 ≡ suc (suc (at + k)) = omega arith in
         ap (λ i. if_one (marks / 2 ^ k % 2 == 1) (get_or units i 0)) lane
-        ∙ one_marked (gives src (at + k))
+        ∙ one_marked (gives_unit_at src (at + k))
         (bits k below ∙ ap (λ z. cond (gives_unit z (get_or (chunk at 16 src) k 0)) 1 0) before
         ∙ ap (λ x. cond (gives_unit (byte_two_before src (at + k)) x) 1 0)
         (get_or-chunk at 16 src k 0 below))

@@ -1,6 +1,6 @@
 -- Characters of an input, UTF-8 or UTF-16, that a loop writes one after another.
 use Rattle.std.proofs.Common.{◌≡◌, ℕ, ◌+◌, ◌-◌, ◌≤◌, List, ◌∷◌, ◌++◌, length, take, drop, ap, ◌∙◌, sym, subst, arith}
-use Rattle.std.proofs.Common.{length-drop, drop-drop}
+use Rattle.std.proofs.Common.{drop-drop}
 use Rattle.std.proofs.lemmas.List.{length-take-le, take_all}
 use lib.Lanes.{put_chunk}
 use Rattle.enc_units.proofs.LengthLemmas.{lengths}

@@ -22,6 +22,6 @@ ArePlaces StandsFor n places leads first second =
 abbrev pub IsPlace : (ℕ → List ℕ → Type 0) → ℕ → Type 0
 IsPlace StandsFor place = (bytes : List ℕ) × StandsFor place bytes
 
--- Bytes are looked up at each of the first n places.
-abbrev pub EachIsPlace : (ℕ → List ℕ → Type 0) → ℕ → List ℕ → Type 0
-EachIsPlace StandsFor n places = (i : ℕ) → i < n → IsPlace StandsFor (slice_index places i)
+-- Bytes are looked up at each of sixteen places.
+abbrev pub EachIsPlace : (ℕ → List ℕ → Type 0) → List ℕ → Type 0
+EachIsPlace StandsFor places = (i : ℕ) → i < 16 → IsPlace StandsFor (slice_index places i)

@@ -25,9 +25,17 @@ pub(crate) fn ends_of(leads: u64) -> [u8; 4]
     ENDS[(leads % 0x100) as usize]
 }
 
+/// Where characters begin among sixteen places.
+#[derive(Clone, Copy)]
+struct Start {
+    /// The number of the place of the first.
+    from: usize,
+    /// A bit for each lead of a pair from there on, that of the first in the lowest.
+    leads: u64,
+}
+
 /// Stores four characters, or those before one that is not known, after the first `at` code units
-/// of a buffer. They are looked up at the first of `places`, and the bit of the first is the lowest
-/// of `leads`.
+/// of a buffer.
 ///
 /// Returns how many bytes the characters have, the end of their code units, and whether they are
 /// four.
@@ -36,27 +44,28 @@ fn store_four<B: BufferUnit, P: Pieces>(
     pieces: P,
     buffer: &mut [B],
     at: usize,
-    places: &[u16],
-    leads: u64,
+    places: &[u16; 16],
+    start: Start,
 ) -> (usize, usize, bool)
-    requires long { 8 ≤ length places.now }
-    requires places { EachIsPlace (P.stands_for pieces) 8 places.now }
+    requires from { start.from ≤ 8 }
+    requires places { EachIsPlace (P.stands_for pieces) places.now }
     requires room { at + 16 ≤ length (B.units buffer.old) }
     ensures read { result.0 ≤ 8 }
     ensures bound { result.1 ≤ at + 16 }
     ensures len { length (B.units buffer.new) ≡ length (B.units buffer.old) }
     ensures gathers { (src : List ℕ) → 8 ≤ length src
-        → ArePlaces (P.stands_for pieces) 8 places.now leads src (drop 1 src)
+        → ArePlaces (P.stands_for pieces) 8 (drop start.from places.now) start.leads src
+        (drop 1 src)
         → GathersChars B.units_of (P.means pieces) src result.0
         (take at (B.units buffer.old)) (take result.1 (B.units buffer.new)) }
 {
-    let ends = ends_of(leads);
+    let ends = ends_of(start.leads);
     let mut read = 0;
     let mut end = at;
     let mut count = 0;
     while count < 4 {
         let next = ends[count] as usize;
-        let Some(stored) = B::store_place(buffer, end, pieces, places[read]) else {
+        let Some(stored) = B::store_place(buffer, end, pieces, places[start.from + read]) else {
             return (read, end, false);
         };
         end = stored;
@@ -75,7 +84,7 @@ fn store_eight<B: BufferUnit, P: Pieces>(
     places: &[u16; 16],
     leads: u64,
 ) -> (usize, usize)
-    requires places { EachIsPlace (P.stands_for pieces) 16 places.now }
+    requires places { EachIsPlace (P.stands_for pieces) places.now }
     requires room { at + 32 ≤ length (B.units buffer.old) }
     ensures read { result.0 ≤ 16 }
     ensures bound { result.1 ≤ at + 32 }
@@ -85,12 +94,16 @@ fn store_eight<B: BufferUnit, P: Pieces>(
         → GathersChars B.units_of (P.means pieces) src result.0
         (take at (B.units buffer.old)) (take result.1 (B.units buffer.new)) }
 {
-    let (first, end, is_whole) = store_four(pieces, buffer, at, places, leads);
+    let start = Start { from: 0, leads };
+    let (first, end, is_whole) = store_four(pieces, buffer, at, places, start);
     if !is_whole {
         return (first, end);
     }
-    let (_, rest) = places.split_at(first);
-    let (second, end, _) = store_four(pieces, buffer, end, rest, leads >> first as u64);
+    let rest = Start {
+        from: first,
+        leads: leads >> first as u64,
+    };
+    let (second, end, _) = store_four(pieces, buffer, end, places, rest);
     (first + second, end)
 }
 

@@ -1,4 +1,4 @@
-use Rattle.std.proofs.Common.{◌-◌, length, drop, subst, arith, length-drop}
+use Rattle.std.proofs.Common.{◌-◌, length, drop, subst, arith}
 use Rattle.std.proofs.lemmas.List.{take_all}
 use Rattle.enc_units.proofs.LengthLemmas.{lengths}
 use Rattle.enc_units.specs.Validity.{AreAscii}

@@ -1,4 +1,4 @@
-use Rattle.std.proofs.Common.{◌∙◌, arith, drop, length-drop}
+use Rattle.std.proofs.Common.{◌∙◌, arith, drop}
 use Rattle.enc_units.proofs.LengthLemmas.{lengths}
 use Rattle.enc_units.proofs.PairsLemmas.{places_of_rest}
 use Rattle.enc_units.proofs.GatherLemmas.{gathers_then, gathers_kept_ascii, gathers_one}

@@ -1,5 +1,5 @@
 -- The well-formed bytes in front, and the longest prefix of the rest.
-use Rattle.std.proofs.Common.{◌-◌, List, ℕ, length, drop, subst, arith, length-drop}
+use Rattle.std.proofs.Common.{◌-◌, List, ℕ, length, drop, subst, arith}
 use Rattle.std.proofs.lemmas.List.{take_all}
 use Rattle.enc_units.proofs.LengthLemmas.{lengths}
 use Rattle.enc_units.specs.Validity.{IsLongestPrefix, IsWellFormedUtf8}

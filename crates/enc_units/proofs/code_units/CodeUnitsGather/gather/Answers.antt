@@ -1,4 +1,4 @@
-use Rattle.std.proofs.Common.{◌≤◌, ◌∙◌, ◌++◌, ap, arith, length, take, drop, length-drop}
+use Rattle.std.proofs.Common.{◌≤◌, ◌∙◌, ◌++◌, ap, arith, length, take, drop}
 use Rattle.enc_units.proofs.LengthLemmas.{lengths}
 use Rattle.enc_units.proofs.GatherLemmas.{gathers_then, gathers_one}
 use Rattle.enc_units.proofs.CodeUnitsLemmas.{gathers_units}

@@ -1,4 +1,4 @@
-use Rattle.std.proofs.Common.{◌∙◌, ◌+◌, ◌++◌, ap, arith, take, length-drop}
+use Rattle.std.proofs.Common.{◌∙◌, ◌+◌, ◌++◌, ap, arith, take}
 use Rattle.enc_units.proofs.LengthLemmas.{lengths}
 use Rattle.enc_units.proofs.Utf8SliceLemmas.{ascii_units}
 use Rattle.enc_units.proofs.GatherLemmas.{gathers_then, gathers_own, gathers_one}

@@ -1,4 +1,4 @@
-use Rattle.std.proofs.Common.{refl, ap, arith, rules, length, length-take}
+use Rattle.std.proofs.Common.{refl, ap, arith, rules, length}
 use Rattle.enc_units.proofs.LengthLemmas.{lengths}
 use Rattle.enc_units.proofs.PiecesLemmas.{then_rest}
 use Rattle.enc_units.proofs.AsciiPrefixLemmas.{gathered_utf8, appends_gathered}

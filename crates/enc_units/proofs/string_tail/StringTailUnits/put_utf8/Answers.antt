@@ -1,4 +1,4 @@
-use Rattle.std.proofs.Common.{◌≤◌, ◌∙◌, ap, arith, length, length-take, subst, take}
+use Rattle.std.proofs.Common.{◌≤◌, ◌∙◌, ap, arith, length, subst, take}
 use Rattle.std.proofs.lemmas.List.{take-take}
 use Rattle.enc_units.proofs.LengthLemmas.{lengths}
 use Rattle.enc_units.specs.Validity.{IsWellFormedUtf8}
