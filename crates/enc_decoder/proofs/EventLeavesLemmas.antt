@@ -145,8 +145,8 @@ module _ {C : Type 0} (state : C → CodecState) (c : C) (stage : Stage) where
             }
             by_kind false clean = record {
               not_shown = inl (clean refl);
-              shown_next = λ more. determines_by_more now.sequences (unread stage) 1 2 (emitted ∷ [])
-                  (bytes-drop stage.read stage.src bytes) (omega arith)
+              shown_next = λ more. determines_by_more now.sequences (unread stage) 1 2
+                  (emitted ∷ []) (bytes-drop stage.read stage.src bytes) (omega arith)
                   (shown_next (emits.1 takes).0);
             }
 
@@ -178,7 +178,8 @@ module _ {C : Type 0} (state : C → CodecState) (c : C) (stage : Stage) where
       pub output_full : {units_of : ℕ → List ℕ} {mode : DecodeErrorMode} {room : ℕ}
           → (keeps_room mode ≡ false → is_malformed s.kind ≡ false)
           → room < length (units_of_text units_of (text_chars s.text))
-          → RawDecoderCall units_of now now (unread stage) stage.last mode room OutputFull 0 [] false
+          → RawDecoderCall units_of now now (unread stage) stage.last mode room OutputFull 0 []
+          false
       output_full not_reported full = nothing_done (record {
         only_put = refl;
         next = emitted;
@@ -193,8 +194,8 @@ module _ {C : Type 0} (state : C → CodecState) (c : C) (stage : Stage) where
       -- it is malformed, and is reported
       abbrev pub reported : {units_of : ℕ → List ℕ} {mode : DecodeErrorMode} {room n a : ℕ}
           → AreBytes stage.src → LeadsOn (state c) (state s.next) stage n (emitted ∷ [])
-          → ReadsToReported (is_repeated_escape s.kind) now.sequences (unread stage) (emitted ∷ []) n
-          (state s.next).pending
+          → ReadsToReported (is_repeated_escape s.kind) now.sequences (unread stage)
+          (emitted ∷ []) n (state s.next).pending
           → is_replacement_mode mode ≡ false → is_malformed s.kind ≡ true
           → a ≡ length (state s.next).pending
           → (keeps_room mode ≡ true → length (units_of 0xFFFD) ≤ room)

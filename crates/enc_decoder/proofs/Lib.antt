@@ -15,7 +15,6 @@ pub mod NeedLemmas
 pub mod EnoughLemmas
 pub mod LookaheadLemmas
 pub mod ReplacingLemmas
-pub mod ShiftedInputLemmas
 pub mod StageLemmas
 pub mod InnerInputLemmas
 pub mod InnerCallLemmas

@@ -183,7 +183,7 @@ module _ {e : Encoding} {life : LifeCycle} {v : CodecState} {src : List ℕ} {la
         call_outside
         (bytes-append held src (bytes_unread life (length v.pending)) text.bytes)
         (shifts text call) nothing_written
-        (same_mode (start_stage src last mode before.room) call stop refl made.call)
+        (same_mode (start_stage src last mode before.room) call stop (omega arith) made.call)
         (reads_on text call reads_held refl) made.call matches in
         record {
           wrote = made.wrote;

@@ -209,8 +209,7 @@ pub converts : {units_of : ℕ → List ℕ} {least : ℕ} {old new : DecoderSta
     c.replaced
 converts {units_of} c determine takes are_held going decodes = record {
   decodes = decodes;
-  need = meets_need units_of _ _ c.src c.last c.mode c.room c.result c.read c.wrote c.replaced
-      decodes.call;
+  need = meets_need c decodes.call;
   unchanged = λ full none_read none_written. as_before determine are_held going c
       (rw (full, none_read, none_written) at decodes);
   same = λ full none_read none_written. just_the_same determine are_held going c
