@@ -11,15 +11,16 @@ use Rattle.std.specs.Char.{encode_utf8}
 use Rattle.enc_units.specs.Output.{AreScalars, units_of_text}
 use Rattle.enc_decoder.specs.Sequence.{sequence_text, any_malformed}
 use Rattle.enc_decoder.specs.Call.{Replacement}
+use Rattle.enc_decoder.specs.CallRecord.{Call}
 use Rattle.enc_units.specs.declared.coder_result.CoderResult.{CoderResult}
 use Rattle.enc_units.specs.declared.coder_result.CoderResult.TheVariants.{InputEmpty, OutputFull}
 use Rattle.enc_units.specs.Results.{decoder_result_of}
 use Rattle.enc_stream.specs.Decoding.{DecoderState, has_finished, DecodesReplacing}
 use Rattle.enc_stream.proofs.WholeEncodingLemmas.{still_ahead}
 use Rattle.enc_stream.proofs.DecoderProgressLemmas.{nearer, ends_read}
-use Rattle.enc_stream.proofs.EndOfInputLemmas.{finishes, only_put}
+use Rattle.enc_stream.proofs.DecoderCallLemmas.{only_put}
+use Rattle.enc_stream.proofs.EndOfInputLemmas.{finishes}
 use Rattle.enc_stream.proofs.OutputFullLemmas.{four_bytes, some_written}
-use Rattle.enc_units.proofs.UnitsLemmas.{utf_8_determines}
 use Rattle.enc_reader.specs.Reading.{ReaderState, ReadsOwed}
 use Rattle.enc_reader.specs.Reading.{distance_to_end}
 use Rattle.enc_reader.specs.Turn.{IsWaiting, IsTurn}
@@ -42,12 +43,23 @@ module _ (before : ReaderState) {new : DecoderState} {room : ℕ} (result : Code
   abbrev after : ReaderState
   after = record { decoder = new; unread = drop read before.unread; ended = before.ended }
 
+  abbrev call : CoderResult → Call
+  call r = record {
+    src = before.unread;
+    last = before.ended;
+    mode = Replacement;
+    room = room;
+    result = decoder_result_of r;
+    read = read;
+    wrote = wrote;
+    replaced = replaced;
+  }
+
   comes_nearer : distance_to_end after + min 1 (length wrote) ≤ distance_to_end before + 2 * 0
   comes_nearer = elim (true_or_false (has_finished new)) [
     | inl f ↦ omega (arith, ended_at after f, before_end before can_decode.going)
-    | inr unfinished ↦ elim (nearer encode_utf8 utf_8_determines 4 four_bytes Replacement
-        before.decoder new before.unread before.ended room can_decode.roomy read wrote replaced
-        (decoder_result_of result) decodes can_decode.some) [
+    | inr unfinished ↦ elim (nearer four_bytes (call result) can_decode.roomy decodes
+        can_decode.some) [
           | inl finished ↦ absurd (false≢true (sym unfinished ∙ finished))
           | inr less ↦ omega (
             arith,
@@ -61,8 +73,7 @@ module _ (before : ReaderState) {new : DecoderState} {room : ℕ} (result : Code
 
   reads_owed : (known : Option (List ℕ)) → ReadsOwed known known before after [] wrote replaced
   reads_owed known =
-      let all_put = only_put before.decoder new before.unread before.ended room result read wrote
-      replaced decodes in
+      let all_put = only_put (call result) decodes refl in
       record {
         given = ConsumesRemaining-none known;
         none_after = λ f. (refl, f);
@@ -87,14 +98,11 @@ module _ (before : ReaderState) {new : DecoderState} {room : ℕ} (result : Code
       by_result InputEmpty at_empty = record {
         unread = ap (λ n. drop n before.unread) at_empty.call.stops.all_read
             ∙ drop-length before.unread;
-        not_ended = sym (finishes before.decoder new before.unread before.ended room InputEmpty
-            read wrote replaced at_empty) ∙ going;
+        not_ended = sym (finishes InputEmpty at_empty) ∙ going;
         going = going;
       }
       by_result OutputFull at_full =
-          let some = some_written encode_utf8 utf_8_determines Replacement before.decoder new
-          before.unread before.ended room read wrote replaced at_full 4 four_bytes
-          can_decode.roomy in
+          let some = some_written four_bytes (call OutputFull) can_decode.roomy at_full in
           absurd (omega (arith, some, ap length none))
 
   pub IsTurn-call : (waits : Bool) {unread : List ℕ} → drop read before.unread ≡ unread

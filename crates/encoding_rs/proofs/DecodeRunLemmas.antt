@@ -133,7 +133,16 @@ module _ {handling : BomHandling} {e : Encoding} {bytes : List ℕ} {made : Deco
       in_input.within,
     );
     all_read = λ finished.
-        let ends = ends_read _ _ _ _ chunk last _ _ _ _ _ decodes finished in
+        let ends = ends_read (record {
+          src = chunk;
+          last = last;
+          mode = decode_error_mode made.replace;
+          room = made.room;
+          result = advances.result;
+          read = advances.more;
+          wrote = _;
+          replaced = advances.replaced;
+        }) decodes finished in
         omega (
           arith,
           advances.read,
