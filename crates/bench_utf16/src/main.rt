@@ -7,7 +7,7 @@
 //! within a code unit.
 #![tactic(auto)]
 
-ghost use Rattle.std.specs.Prelude.{◌≡◌, ◌≤◌, false, length, OnOk};
+ghost use Rattle.std.specs.Prelude.{◌≡◌, ◌≤◌, false, length, nat_eq, OnOk};
 ghost use Rattle.encoding_rs.specs.Decoding.{has_finished};
 
 use encoding_rs::{CoderResult, Decoder, Encoder, Encoding};
@@ -112,20 +112,21 @@ fn bytes_of(units: &[u16], bytes: &mut [u8]) -> usize
     2 * count
 }
 
-/// Decodes a chunk, and writes its code units in as many pieces as it takes. A call decodes into
-/// `units`, and `bytes` takes their bytes. Returns whether a sequence was malformed.
+/// Decodes a chunk, which is the last if it is empty, and writes its code units in as many pieces
+/// as it takes. A call decodes into `units`, and `bytes` takes their bytes. Returns whether a
+/// sequence was malformed.
 fn decode<W: Write>(
     decoder: &mut Decoder,
     chunk: &[u8],
-    last: bool,
     units: &mut [u16],
     bytes: &mut [u8],
     out: &mut W,
 ) -> io::Result<bool>
     requires unfinished { has_finished decoder.old ≡ false }
     requires room { 2 ≤ length units.old }
-    ensures { OnOk result (has_finished decoder.new ≡ last) }
+    ensures { OnOk result (has_finished decoder.new ≡ nat_eq (length chunk.now) 0) }
 {
+    let last = chunk.is_empty();
     let mut unread = chunk;
     let mut had_errors = false;
     'pieces: loop {
@@ -153,14 +154,7 @@ fn decode_all<R: Read, W: Write>(
     let mut had_errors = false;
     'chunks: for _ in 0..u64::MAX {
         let len = input.read(&mut chunk)?;
-        had_errors |= decode(
-            &mut decoder,
-            &chunk[..len],
-            len == 0,
-            &mut units,
-            &mut bytes,
-            out,
-        )?;
+        had_errors |= decode(&mut decoder, &chunk[..len], &mut units, &mut bytes, out)?;
         if len == 0 {
             return Ok(had_errors);
         }

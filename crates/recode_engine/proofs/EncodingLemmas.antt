@@ -1,6 +1,6 @@
 -- Successive calls of an encoder are one call.
 use Rattle.std.proofs.Common.{◌≡◌, ℕ, Bool, true, false, ◌||◌, Option, List, [], ◌∷◌, ◌++◌, refl}
-use Rattle.std.proofs.Common.{ap, ◌∙◌, sym, subst, append_assoc, append-nil, chars, IsUtf8}
+use Rattle.std.proofs.Common.{ap, ◌∙◌, sym, append_assoc, append-nil, chars, IsUtf8}
 use Rattle.std.proofs.lemmas.Str.{encodes-chars}
 use Rattle.std.specs.Char.{encode_utf8}
 use Rattle.enc_units.specs.declared.coder_result.CoderResult.{CoderResult}
@@ -8,7 +8,6 @@ use Rattle.enc_units.specs.declared.coder_result.CoderResult.TheVariants.{InputE
 use Rattle.enc_units.specs.Output.{units_of_text}
 use Rattle.enc_units.proofs.Utf8CharsLemmas.{their_units}
 use Rattle.enc_decoder.proofs.SequenceLemmas.{units_of_text-append}
-use Rattle.enc_encoder.specs.declared.character_set.CharacterSet.{CharacterSet}
 use Rattle.enc_encoder.specs.declared.character_set.CharacterSet.TheVariants.{Ascii}
 use Rattle.enc_encoder.specs.Stateless.{stateless_rule}
 use Rattle.enc_encode.specs.Utf8.{utf_8_bytes}
@@ -18,11 +17,10 @@ use Rattle.enc_units.specs.Results.{encoder_result_of}
 use Rattle.enc_encoder.specs.Unmappable.{any_unmappable}
 use Rattle.enc_encoder.proofs.LeavesLemmas.{leaves_in_mode}
 use Rattle.enc_encoder.proofs.UnmappableLemmas.{any_reported_is, any_unmappable-append}
-use Rattle.enc_stream.specs.declared.encoding.Encoding.{Encoding}
 use Rattle.enc_stream.specs.declared.constants.TheConstants.{UTF_8}
 use Rattle.enc_stream.specs.Encodings.{output_rule}
 use Rattle.enc_stream.specs.Encoder.{EncoderState, EncodesChunk, raw_state, html_mode}
-use Rattle.recode_engine.specs.Sink.{AppendsContents, AppendsPrefix}
+use Rattle.recode_engine.specs.Sink.{AppendsPrefix}
 use Rattle.recode_engine.specs.Writing.{bytes_from_state, bytes_to_come, TextToEncode, text_to_encode}
 use Rattle.recode_engine.specs.Writing.{EncodesText, HasEncoded, StopsWithin}
 use Rattle.recode_engine.proofs.SourceSinkLemmas.{AppendsContents-none, AppendsContents-then}
@@ -106,13 +104,13 @@ HasEncoded-then {k₀ = k₀} {k₁ = k₁} {k₂ = k₂} first then_more = reco
 }
 
 -- the same text, and another after it
-abbrev pub followed : TextToEncode → List ℕ → TextToEncode
-followed s t = text_to_encode s.encoder (s.text ++ t)
+abbrev pub longer_text : TextToEncode → List ℕ → TextToEncode
+longer_text s t = text_to_encode s.encoder (s.text ++ t)
 
-pub HasEncoded-followed : {a b : TextToEncode} {last : Bool} {k₀ k₁ : Option (List ℕ)} {r : Bool}
+pub HasEncoded-longer_text : {a b : TextToEncode} {last : Bool} {k₀ k₁ : Option (List ℕ)} {r : Bool}
     (t : List ℕ) → HasEncoded a b false k₀ k₁ r
-    → HasEncoded (followed a t) (followed b t) last k₀ k₁ r
-HasEncoded-followed {a} {b} t has_encoded =
+    → HasEncoded (longer_text a t) (longer_text b t) last k₀ k₁ r
+HasEncoded-longer_text {a} {b} t has_encoded =
     let encoded = has_encoded.encoded in
     record {
       wrote = has_encoded.wrote;
@@ -168,41 +166,26 @@ rest_is : (u t : List ℕ)
 rest_is u [] = refl
 rest_is u (c ∷ t) = ap (λ x. encode_utf8 c ++ x) (rest_is (u ++ c ∷ []) t)
 
-abbrev utf_8_state : EncoderState
-utf_8_state = record { encoding = UTF_8; barred = []; set = Ascii }
-
 -- in UTF-8 the bytes of a text are its code units
-pub bytes_are_units : (t : List ℕ) → bytes_from_state utf_8_state t ≡ units_of_text encode_utf8 t
-bytes_are_units t = ap (bytes_after_text (stateless_rule utf_8_bytes) Ascii []) (no_references t)
-    ∙ rest_is [] t
-
-is_utf_8_state : (s : EncoderState) → s.encoding ≡ UTF_8 → (s.set ≡ Ascii) × (s.barred ≡ [])
-    → s ≡ utf_8_state
-is_utf_8_state s e is_fresh =
-    let by_encoding : Encoding
-    → EncoderState = λ x. record { encoding = x; barred = s.barred; set = s.set } in
-    let by_set : CharacterSet
-    → EncoderState = λ x. record { encoding = UTF_8; barred = s.barred; set = x } in
-    let by_list : List ℕ → EncoderState = λ x.
-    record { encoding = UTF_8; barred = x; set = Ascii } in
-    ap by_encoding e ∙ ap by_set is_fresh.0 ∙ ap by_list is_fresh.1
+bytes_are_units : (s : EncoderState) → s.encoding ≡ UTF_8 → (s.set ≡ Ascii) × (s.barred ≡ [])
+    → (t : List ℕ) → bytes_from_state s t ≡ units_of_text encode_utf8 t
+bytes_are_units s is_utf_8 fresh t = rw (is_utf_8, fresh.0, fresh.1)
+    (ap (bytes_after_text (stateless_rule utf_8_bytes) Ascii []) (no_references t) ∙ rest_is [] t)
 
 pub EncodesText-utf_8 : (s : EncoderState) (text : List ℕ) (last : Bool) → s.encoding ≡ UTF_8
     → (s.set ≡ Ascii) × (s.barred ≡ []) → IsUtf8 text
     → EncodesText (text_to_encode s (chars text)) (text_to_encode s []) last text false
-EncodesText-utf_8 s text last e f u =
+EncodesText-utf_8 s text last is_utf_8 fresh utf_8 =
     let units : units_of_text encode_utf8 (chars text) ≡ text = their_units (chars text)
-    ∙ encodes-chars text u in
-    subst (λ (v : EncoderState). EncodesText (text_to_encode v (chars text)) (text_to_encode v [])
-    last text false)
-    (sym (is_utf_8_state s e f)) (record {
+    ∙ encodes-chars text utf_8 in
+    record {
       encoding = refl;
       barred = refl;
       front = chars text;
       reads = sym (append-nil (chars text));
-      residual = λ z h. bytes_are_units (chars text ++ z)
+      residual = λ z h. bytes_are_units s is_utf_8 fresh (chars text ++ z)
           ∙ units_of_text-append encode_utf8 (chars text) z
           ∙ ap (λ t. t ++ units_of_text encode_utf8 z) units
-          ∙ ap (λ t. text ++ t) (sym (bytes_are_units z));
-      flag = sym (all_mapped (chars text));
-    })
+          ∙ ap (λ t. text ++ t) (sym (bytes_are_units s is_utf_8 fresh z));
+      flag = rw (is_utf_8, fresh.1) (sym (all_mapped (chars text)));
+    }

@@ -18,16 +18,15 @@ use Rattle.enc_stream.specs.Decoding.{has_finished, whole_sequences}
 use Rattle.enc_stream.specs.Encoder.{EncoderState, fresh_encoder, raw_state}
 use Rattle.enc_stream.proofs.EndOfInputLemmas.{fresh_sequences, none_left}
 use Rattle.enc_stream.proofs.EncoderProgressLemmas.{none_due, output_rule_is}
-use Rattle.enc_reader.specs.declared.decode_reader.ReadFault.TheVariants as fault
 use Rattle.enc_reader.specs.Source.{ConsumesRemaining, IsExhausted}
 use Rattle.enc_reader.specs.Reading.{ReaderState, ReadsOwed, HandsOut, FailsToRead, IsReaderAtEnd, distance_to_end}
 use Rattle.enc_reader.specs.Reading.{fresh_reader, owed_sequences}
 use Rattle.enc_reader.proofs.SourceLemmas.{ConsumesRemaining-then}
-use Rattle.enc_reader.proofs.ReadingLemmas.{OverSource, over, ReadsOwed-none, ReadsOwed-then, handed_utf_8}
+use Rattle.enc_reader.proofs.ReadingLemmas.{ReaderPlace, reader_at, ReadsOwed-none, ReadsOwed-then, handed_utf_8}
 use Rattle.recode_engine.specs.Writing.{HasEncoded, StopsWithin, bytes_from_state, text_to_encode}
 use Rattle.recode_engine.specs.Run.{RunsToEnd, RunsToFault, whole_text, recoded_bytes, any_replaced}
 use Rattle.recode_engine.proofs.SourceSinkLemmas.{AppendsContents-then, all_given, none_remaining}
-use Rattle.recode_engine.proofs.EncodingLemmas.{not_ended, HasEncoded-none, HasEncoded-then, HasEncoded-followed}
+use Rattle.recode_engine.proofs.EncodingLemmas.{not_ended, HasEncoded-none, HasEncoded-then, HasEncoded-longer_text}
 
 -- The text owed before is that handed out and that owed now.
 
@@ -54,7 +53,7 @@ pub record RunStart : Type 0 where
 
 -- A run after `made` reads.
 pub record RunState : Type 0 where
-  pub source : OverSource
+  pub source : ReaderPlace
   pub taken : Option (List ℕ)
   pub encoder : EncoderState
   pub malformed : Bool
@@ -73,7 +72,7 @@ pub record HasRun (start : RunStart) (now : RunState) : Type 0 where
   pub enough : now.made + distance_to_end now.source.state ≤ 1 + 2 * length bytes
 
 HasRun-none : (start : RunStart) → HasRun start (record {
-  source = over start.remaining (fresh_reader start.from);
+  source = reader_at start.remaining (fresh_reader start.from);
   taken = start.taken;
   encoder = fresh_encoder [] start.to;
   malformed = false;
@@ -95,7 +94,7 @@ pub HasRun-start : {start : RunStart} {remaining : Option (List ℕ)} {reader : 
     → remaining ≡ start.remaining → reader ≡ fresh_reader start.from
     → encoder ≡ fresh_encoder [] start.to → malformed ≡ false
     → HasRun start (record {
-      source = over remaining reader;
+      source = reader_at remaining reader;
       taken = start.taken;
       encoder = encoder;
       malformed = malformed;
@@ -153,7 +152,7 @@ owed_before {start = start} {now = now} so_far z ends =
     (λ f. not_ended f)
 
 -- one read more
-module _ {start : RunStart} {now : RunState} (next : OverSource) {text : List ℕ} {malformed : Bool}
+module _ {start : RunStart} {now : RunState} (next : ReaderPlace) {text : List ℕ} {malformed : Bool}
     (so_far : HasRun start now)
     (hands_out : HandsOut now.source.remaining next.remaining now.source.state next.state text
     now.malformed malformed) where
@@ -163,8 +162,8 @@ module _ {start : RunStart} {now : RunState} (next : OverSource) {text : List �
   reads_on : ReadsOwed start.remaining next.remaining (fresh_reader start.from) next.state bytes
       (so_far.wrote ++ text) malformed
   reads_on = rw hands_out.flag
-      (ReadsOwed-then (over start.remaining (fresh_reader start.from)) now.source next so_far.reads
-      hands_out.reads)
+      (ReadsOwed-then (reader_at start.remaining (fresh_reader start.from)) now.source next
+      so_far.reads hands_out.reads)
 
   chars_on : chars (so_far.wrote ++ text) ≡ chars so_far.wrote ++ chars text
   chars_on = chars-append so_far.wrote text (handed_utf_8 so_far.reads)
@@ -186,7 +185,7 @@ module _ {start : RunStart} {now : RunState} (next : OverSource) {text : List �
         (text_to_encode (fresh_encoder [] start.to) (chars (so_far.wrote ++ text)))
         (text_to_encode after []) last start.taken taken (now.replaced || replaced)
     encoded_on = rw chars_on
-        (HasEncoded-then (HasEncoded-followed (chars text) so_far.encoded) encodes)
+        (HasEncoded-then (HasEncoded-longer_text (chars text) so_far.encoded) encodes)
 
     pub HasRun-more : last ≡ false → 0 < length text → HasRun start (record {
       source = next;
@@ -283,7 +282,7 @@ module _ {start : RunStart} {now : RunState} (next : OverSource) {text : List �
 
 -- a fault between two texts
 module _ {start : RunStart} {now : RunState} (so_far : HasRun start now) where
-  stops_at : (next : OverSource) (x : List ℕ) (malformed : Bool)
+  stops_at : (next : ReaderPlace) (x : List ℕ) (malformed : Bool)
       → ReadsOwed now.source.remaining next.remaining now.source.state next.state x [] malformed
       → (next.state.ended ≡ true → IsExhausted next.remaining)
       → RunsToFault start.from start.to start.remaining next.remaining start.taken now.taken
@@ -320,7 +319,7 @@ module _ {start : RunStart} {now : RunState} (so_far : HasRun start now) where
       (given_length start.remaining now.source.remaining so_far.bytes so_far.reads.given)
 
   -- in a read
-  module _ (next : OverSource) {failed_before failed_after : Bool}
+  module _ (next : ReaderPlace) {failed_before failed_after : Bool}
       (fails : FailsToRead now.source.remaining next.remaining failed_before failed_after
       now.source.state next.state) where
     pub RunsToFault-reading : RunsToFault start.from start.to start.remaining next.remaining

@@ -1,5 +1,5 @@
 -- A run as a whole, by how it has ended.
-use Rattle.std.proofs.Common.{◌≡◌, ℕ, ◌-◌, ◌^◌, ◌<◌, Bool, true, false, ◌||◌, List, [], ◌∷◌}
+use Rattle.std.proofs.Common.{◌≡◌, ℕ, ◌^◌, ◌<◌, Bool, true, false, ◌||◌, List, [], ◌∷◌}
 use Rattle.std.proofs.Common.{length, nat_eq, Option, Some, None, refl, ap, ◌∙◌, sym}
 use Rattle.std.proofs.Common.{arith}
 use Rattle.std.proofs.lemmas.Bool.{false≢true}
@@ -7,7 +7,6 @@ use Rattle.std.proofs.lemmas.Bool.Decides.{nat_tests}
 use Rattle.std.specs.Prelude.{IsErr, IsErrOf, IfSome, Ok, Err}
 use Rattle.std.specs.declared.result.Result.{Result}
 use Rattle.enc_stream.specs.declared.encoding.Encoding.{Encoding}
-use Rattle.enc_stream.proofs.EndOfInputLemmas.{none_left}
 use Rattle.enc_reader.specs.declared.decode_reader.ReadFault.{ReadFault}
 use Rattle.enc_reader.specs.declared.decode_reader.ReadFault.TheVariants as fault
 use Rattle.enc_reader.specs.Reading.{ReaderState, HandsOut}
@@ -66,17 +65,6 @@ IfSome-always : (known : Option (List ℕ)) {P : List ℕ → Type 0} → ((all 
 IfSome-always None h = tt
 IfSome-always (Some all) h = h all
 
-no_fault : (replaced : Bool) (fault : RecodeFault) → IsErrOf (Ok replaced) fault → ⊥
-no_fault replaced fault e = cc
-
-reads_is_no_write : (r : Result Bool RecodeFault) → r ≡ Err side_fault.Read
-    → IsErrOf r side_fault.Write → ⊥
-reads_is_no_write r e f = cc
-
-write_is_no_read : (r : Result Bool RecodeFault) → r ≡ Err side_fault.Write
-    → IsErrOf r side_fault.Read → ⊥
-write_is_no_read r e f = cc
-
 neither_failed : {a b : Bool} → a ≡ false → b ≡ false → (a || b) ≡ false
 neither_failed {b = b} e f = ap (λ x. x || b) e ∙ f
 
@@ -96,10 +84,10 @@ module _ {from to : Encoding} {source_before source_after sink_before sink_after
         source_kept = source;
         sink_kept = sink;
         err = tt;
-        read_fault = λ f. absurd (no_fault replaced side_fault.Read f);
-        write_fault = λ f. absurd (no_fault replaced side_fault.Write f);
-        read_alone = λ f. absurd (no_fault replaced side_fault.Read f);
-        write_alone = λ f. absurd (no_fault replaced side_fault.Write f);
+        read_fault = λ f. cc;
+        write_fault = λ f. cc;
+        read_alone = λ f. cc;
+        write_alone = λ f. cc;
         failed_source = λ f. absurd (false≢true (sym source_going ∙ f));
         failed_sink = λ _ f. absurd (false≢true (sym sink_going ∙ f));
         not_begun = λ f. absurd (false≢true (sym (neither_failed source_going sink_going) ∙ f));
@@ -116,9 +104,9 @@ module _ {from to : Encoding} {source_before source_after sink_before sink_after
     sink_kept = tt;
     err = stops;
     read_fault = λ _. failed;
-    write_fault = λ f. absurd (reads_is_no_write (Err side_fault.Read) refl f);
+    write_fault = λ f. cc;
     read_alone = λ _. sink;
-    write_alone = λ f. absurd (reads_is_no_write (Err side_fault.Read) refl f);
+    write_alone = λ f. cc;
     failed_source = λ f. absurd (false≢true (sym source_going ∙ f));
     failed_sink = λ _ f. absurd (false≢true (sym sink_going ∙ f));
     not_begun = λ f. absurd (false≢true (sym (neither_failed source_going sink_going) ∙ f));
@@ -136,9 +124,9 @@ module _ {from to : Encoding} {source_before source_after sink_before sink_after
         source_kept = tt;
         sink_kept = tt;
         err = stops;
-        read_fault = λ f. absurd (write_is_no_read (Err side_fault.Write) refl f);
+        read_fault = λ f. cc;
         write_fault = λ _. failed;
-        read_alone = λ f. absurd (write_is_no_read (Err side_fault.Write) refl f);
+        read_alone = λ f. cc;
         write_alone = λ _. source;
         failed_source = λ f. absurd (false≢true (sym source_going ∙ f));
         failed_sink = λ _ f. absurd (false≢true (sym sink_going ∙ f));
@@ -155,7 +143,7 @@ module _ {from to : Encoding} {source sink : Side} where
     sink_kept = tt;
     err = RunsToFault-none from to source.bytes sink.bytes;
     read_fault = λ _. IfSome-always source.bytes (λ all few. failed);
-    write_fault = λ f. absurd (reads_is_no_write (Err side_fault.Read) refl f);
+    write_fault = λ f. cc;
     read_alone = λ _. refl;
     write_alone = λ _. refl;
     failed_source = λ _. refl;
@@ -170,7 +158,7 @@ module _ {from to : Encoding} {source sink : Side} where
     source_kept = tt;
     sink_kept = tt;
     err = RunsToFault-none from to source.bytes sink.bytes;
-    read_fault = λ f. absurd (write_is_no_read (Err side_fault.Write) refl f);
+    read_fault = λ f. cc;
     write_fault = λ _. failed;
     read_alone = λ _. refl;
     write_alone = λ _. refl;

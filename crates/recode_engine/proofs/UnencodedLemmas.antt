@@ -1,5 +1,5 @@
 -- ASCII at the start of a text that is written without being encoded, and the rest of the text.
-use Rattle.std.proofs.Common.{◌≡◌, ℕ, zero, suc, ◌-◌, ◌<◌, ◌≤◌, Bool, true, false, not, ◌||◌, is_some, Option, List, []}
+use Rattle.std.proofs.Common.{◌≡◌, ℕ, zero, suc, ◌-◌, ◌<◌, ◌≤◌, Bool, false, not, ◌||◌, is_some, List, []}
 use Rattle.std.proofs.Common.{◌∷◌, ◌++◌, length, take, drop, refl, ap, ◌∙◌, sym, subst, arith, append_assoc, chars}
 use Rattle.std.proofs.Common.{IsUtf8, if◌then◌else◌}
 use Rattle.std.proofs.Math.ListN.{length-drop}

@@ -1,4 +1,4 @@
-use Rattle.std.proofs.Common.{rules, ◌≡◌, refl, ap, sym, ◌∙◌, chars}
+use Rattle.std.proofs.Common.{rules, ◌≡◌, refl, ap, ◌∙◌, chars}
 use Rattle.enc_units.specs.declared.coder_result.CoderResult.TheVariants.{InputEmpty}
 use Rattle.enc_encoder.specs.Steps.{step_chars}
 use Rattle.enc_stream.proofs.UnreadTextLemmas.{all_read, chars_after}
@@ -29,7 +29,8 @@ returns-then-eq-clause-ok g c =
     rw (all_read _ _ _ c.args.last _ c.encode_from_utf8-outcome.result.0 _ _ _ encodes at_end)
     (HasEncoded-then c.calls.invariant.1.encoded (record {
       wrote = _;
-      encoded = EncodesText-call (text_to_encode c.calls.encoder (chars c.calls.rest.now)) _ encodes;
+      encoded = EncodesText-call (text_to_encode c.calls.encoder (chars c.calls.rest.now)) _
+          encodes;
       taken = c.in_ok-push_all.ensures.ok;
     }))
 

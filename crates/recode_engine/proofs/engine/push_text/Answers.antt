@@ -1,4 +1,4 @@
-use Rattle.std.proofs.Common.{rules, ◌≡◌, ◌-◌, [], length, take, drop, refl}
+use Rattle.std.proofs.Common.{rules, ◌≡◌, ◌-◌, length, take, drop, refl}
 use Rattle.std.proofs.lemmas.Result.{IfOk-weaker, on_err_weaker}
 use Rattle.enc_stream.specs.declared.constants.TheConstants.{UTF_8}
 use Rattle.enc_reader.proofs.SourceLemmas.{on_err}

@@ -1,7 +1,7 @@
 use Rattle.std.proofs.Common.{refl, rules, ◌≡◌, ◌<◌, ◌∙◌, sym, length, true, false}
 use Rattle.std.proofs.lemmas.Bool.{false≢true}
 use Rattle.enc_reader.specs.Reader.{state_of}
-use Rattle.enc_reader.proofs.ReadingLemmas.{over}
+use Rattle.enc_reader.proofs.ReadingLemmas.{reader_at}
 use Rattle.recode_engine.proofs.RunLemmas.{has_failed-between, has_failed-reading, HasRun-start, HasRun-more}
 use Rattle.recode_engine.proofs.RunLemmas.{RunsToEnd-last, RunsToFault-between, RunsToFault-within}
 use Rattle.recode_engine.proofs.RunLemmas.{RunsToFault-reading}
@@ -23,7 +23,7 @@ reads-init g c = record {
 
 pub returns-in_default : goal.returns-in_default
 returns-in_default g c =
-    let next = over (g.R.Source.remaining c.read_or_lend.new.self.reader.now)
+    let next = reader_at (g.R.Source.remaining c.read_or_lend.new.self.reader.now)
     (state_of c.read_or_lend.new.self) in
     let invariant = c.reads.invariant in
     let fault = is_readers c.read_or_lend.result (search rules)
@@ -40,18 +40,19 @@ returns-in_default g c =
 
 pub returns-in_err-replaced : goal.returns-in_err-replaced
 returns-in_err-replaced g c =
-    let next = over (g.R.Source.remaining c.read_or_lend.new.self.reader.now)
+    let next = reader_at (g.R.Source.remaining c.read_or_lend.new.self.reader.now)
     (state_of c.read_or_lend.new.self) in
     IsRecodeRun-write c.requires.reader c.requires.writer (search rules)
     (RunsToFault-by {t = next.remaining} (search rules)
-    (RunsToFault-within next c.reads.invariant.ran (HandsOut-by c.text-piece.ensures c.in-Ok.ensures.ok)
+    (RunsToFault-within next c.reads.invariant.ran
+    (HandsOut-by c.text-piece.ensures c.in-Ok.ensures.ok)
     (λ (last : c.is_empty-last.result ≡ true). c.in-Ok.ensures.end (no_text _ (search rules)))
     c.in_err-replaced.ensures.err))
     (search rules) (search rules)
 
 pub returns-then-last : goal.returns-then-last
 returns-then-last g c =
-    let next = over (g.R.Source.remaining c.read_or_lend.new.self.reader.now)
+    let next = reader_at (g.R.Source.remaining c.read_or_lend.new.self.reader.now)
     (state_of c.read_or_lend.new.self) in
     let last : c.is_empty-last.result ≡ true = search rules in
     IsRecodeRun-ok c.requires.reader c.requires.writer refl
@@ -63,12 +64,13 @@ returns-then-last g c =
 
 pub reads-preserved : goal.reads-preserved
 reads-preserved g c =
-    let next = over (g.R.Source.remaining c.read_or_lend.new.self.reader.now)
+    let next = reader_at (g.R.Source.remaining c.read_or_lend.new.self.reader.now)
     (state_of c.read_or_lend.new.self) in
     let last : c.is_empty-last.result ≡ false = search rules in
     let some : 0 < length c.text-piece.result.now = some_text _ (search rules) in
     record {
-      ran = HasRun-more next c.reads.invariant.ran (HandsOut-by c.text-piece.ensures c.in-Ok.ensures.ok)
+      ran = HasRun-more next c.reads.invariant.ran
+          (HandsOut-by c.text-piece.ensures c.in-Ok.ensures.ok)
           c.in_ok-replaced.ensures.ok last some;
       text_room = search rules;
       room = c.in_ok-replaced.ensures.room_kept;

@@ -1,6 +1,6 @@
 use Rattle.std.proofs.Common.{◌≡◌, false, length}
 use Rattle.enc_reader.specs.Reader.{state_of}
-use Rattle.enc_reader.proofs.ReadingLemmas.{over}
+use Rattle.enc_reader.proofs.ReadingLemmas.{reader_at}
 use Rattle.recode_engine.specs.Writing.{CanWrite}
 use Rattle.recode_engine.proofs.RunLemmas.{RunStart, RunState, HasRun}
 use Rattle.recode_engine.proofs.engine.run_through.Given as goal
@@ -14,7 +14,7 @@ invariant-reads g l =
       taken = g.W.Sink.contents l.initial.writer;
     } in
     let now : RunState = record {
-      source = over (g.R.Source.remaining l.decoding.reader.now) (state_of l.decoding);
+      source = reader_at (g.R.Source.remaining l.decoding.reader.now) (state_of l.decoding);
       taken = g.W.Sink.contents l.writer;
       encoder = l.encoder;
       malformed = l.decoding.had_errors;
