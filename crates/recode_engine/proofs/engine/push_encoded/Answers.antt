@@ -26,7 +26,7 @@ pub returns-then-eq-clause-ok : goal.returns-then-eq-clause-ok
 returns-then-eq-clause-ok g c =
     let encodes = c.encode_from_utf8-outcome.ensures.call.encodes in
     let at_end : c.encode_from_utf8-outcome.result.0 ≡ InputEmpty = search rules in
-    rw (all_read _ _ _ c.args.last _ c.encode_from_utf8-outcome.result.0 _ _ _ encodes at_end)
+    rw (all_read c.encode_from_utf8-outcome.result.0 at_end encodes)
     (HasEncoded-then c.calls.invariant.1.encoded (record {
       wrote = _;
       encoded = EncodesText-call (text_to_encode c.calls.encoder (chars c.calls.rest.now)) _
