@@ -205,5 +205,14 @@ pub only_at_end : {old new : DecoderState} {src : List ℕ} {last : Bool} {room 
     (result : CoderResult) {wrote : List ℕ} {replaced : Bool}
     → DecodesReplacing encode_utf8 old new src last room result read wrote replaced
     → has_finished new ≡ true → last ≡ true
-only_at_end {old = old} {new = new} {src = src} {last = last} {room = room} result decodes
-    finished = (ends_read encode_utf8 Replacement old new src last room _ _ _ _ decodes finished).0
+only_at_end {src = src} {last} {room} {read} result {wrote} {replaced} decodes finished =
+    (ends_read (record {
+      src = src;
+      last = last;
+      mode = Replacement;
+      room = room;
+      result = decoder_result_of result;
+      read = read;
+      wrote = wrote;
+      replaced = replaced;
+    }) decodes finished).0
