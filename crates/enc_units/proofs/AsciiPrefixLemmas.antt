@@ -55,7 +55,12 @@ puts_front own {before} {src = src} {front = front} {n = n} most is_front m l a 
               here,
             ))
         | inr h ↦
-            omega (arith, lengths, ap length (own (take (n + 1) src) (ascii_one n src ascii more low)))
+            omega (
+              arith,
+              lengths,
+              ap length (own (take (n + 1) src)
+                  (ascii_one n src ascii more low)),
+            )
       ];
     }
 

@@ -36,7 +36,8 @@ end_is leads k read ends ends_are below read_is few =
     let next = eqb-true _ _ (every_passes 4 (ends_next mask) tests k below) in
     let before = read_is ∙ ap (λ row. end_after row k) ends_are in
     ap (λ row. get_or row k 0) ends_are ∙ next
-    ∙ ap (λ at. at + 1 + bit_at mask at) (sym before) ∙ ap (λ bit. read + 1 + bit) (low_bit leads read few)
+    ∙ ap (λ at. at + 1 + bit_at mask at) (sym before) ∙ ap (λ bit. read + 1 + bit)
+    (low_bit leads read few)
 
 pub end_next : (ends : List ℕ) (k : ℕ) → get_or ends k 0 ≡ end_after ends (k + 1)
 end_next ends k = ap (end_after ends) (let next : suc k ≡ k + 1 = omega arith in next)

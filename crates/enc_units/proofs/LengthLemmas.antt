@@ -1,5 +1,6 @@
 -- The lengths of lists of numbers, as a set for `omega`.
-use Rattle.std.proofs.Common.{◌≡◌, ℕ, ◌+◌, ◌-◌, List, ◌++◌, length, take, drop, min, length-append, length-drop, length-take}
+use Rattle.std.proofs.Common.{◌≡◌, ℕ, ◌+◌, ◌-◌, List, ◌++◌}
+use Rattle.std.proofs.Common.{length, take, drop, min, length-append, length-drop, length-take}
 
 pub append_length : (xs ys : List ℕ) → length (xs ++ ys) ≡ length xs + length ys
 append_length xs ys = length-append xs ys

@@ -1,5 +1,6 @@
 -- Runs of characters whose bytes are written in turn.
-use Rattle.std.proofs.Common.{◌≡◌, ℕ, suc, ◌+◌, ◌<◌, ◌≤◌, List, [], ◌∷◌, ◌++◌, zero, length, take, drop, get_or, refl, ap, ◌∙◌}
+use Rattle.std.proofs.Common.{◌≡◌, ℕ, suc, ◌+◌, ◌<◌, ◌≤◌, List, [], ◌∷◌}
+use Rattle.std.proofs.Common.{◌++◌, zero, length, take, drop, get_or, refl, ap, ◌∙◌}
 use Rattle.std.proofs.Common.{sym, arith, append_assoc, append-nil, take-append-drop}
 use Rattle.std.proofs.Math.ListN.{set}
 use Rattle.std.specs.Char.{encode_utf8}

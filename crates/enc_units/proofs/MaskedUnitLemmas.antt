@@ -260,7 +260,12 @@ module _ (units row : List ℕ) (mask : ℕ) (long : length units ≡ 8) (fit : 
   marked_units is_byte =
       let few = ones-le 8 mask is_byte in
       same_number_lists _ _
-      (omega (arith, lengths, length-map (marked_places mask 0 8) (λ k. get_or units k 0), is_row.count))
+      (omega (
+        arith,
+        lengths,
+        length-map (marked_places mask 0 8) (λ k. get_or units k 0),
+        is_row.count,
+      ))
       (λ k h.
       let below_count : k < ones mask = omega (arith, lengths) in
       get_or-take (ones mask) stored k 0 below_count ∙ unit_at k below_count is_byte

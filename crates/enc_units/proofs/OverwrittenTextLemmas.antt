@@ -92,7 +92,8 @@ rest_by c (suc n) z utf8 rest_utf8 =
     let place : 1 + n ≡ suc n = omega arith in
     let tail = drop-drop n 1 (encode_utf8 c) ∙ ap (λ k. drop k (encode_utf8 c)) place in
     subst (λ x. IsUtf8 (without_continuations (x ++ z))) tail
-    (all_cleared _ z (AreContinuations-drop n (drop 1 (encode_utf8 c)) (tail_by c (form_of c))) rest_utf8)
+    (all_cleared _ z (AreContinuations-drop n (drop 1 (encode_utf8 c)) (tail_by c (form_of c)))
+    rest_utf8)
 
 drop_nil : (n : ℕ) → ◌≡◌ {A = List ℕ} (drop n []) []
 drop_nil zero = refl
@@ -125,8 +126,9 @@ pub is_text : (bytes old : List ℕ) (n : ℕ) (text : List ℕ) → IsUtf8 old 
     → take n bytes ≡ units_of_text encode_utf8 text
     → drop n bytes ≡ without_continuations (drop n old) → IsUtf8 bytes
 is_text bytes old n text utf8 scalars front rest =
+    let written = sym (their_units text) ∙ sym front in
     subst IsUtf8 (take-append-drop n bytes)
-    (IsUtf8-append (take n bytes) (drop n bytes) (text, (scalars, sym (their_units text) ∙ sym front))
+    (IsUtf8-append (take n bytes) (drop n bytes) (text, (scalars, written))
     (subst IsUtf8 (sym rest) (subst (λ x. IsUtf8 (without_continuations (drop n x))) utf8.1.1
     (rest_of utf8.0 n utf8.1.0))))
 

@@ -1,5 +1,6 @@
 -- Elements that are put in the place of as many of a slice, from an offset on.
-use Rattle.std.proofs.Common.{◌≡◌, ℕ, ◌+◌, ◌-◌, ◌≤◌, ◌<◌, suc, List, [], ◌∷◌, ◌++◌, length, take, drop, ap, ◌∙◌, sym, arith, refl}
+use Rattle.std.proofs.Common.{◌≡◌, ℕ, ◌+◌, ◌-◌, ◌≤◌, ◌<◌, suc, List, []}
+use Rattle.std.proofs.Common.{◌∷◌, ◌++◌, length, take, drop, ap, ◌∙◌, sym, arith, refl}
 use Rattle.std.proofs.Common.{append_assoc, append-nil, drop-drop, length-drop}
 use Rattle.std.proofs.Math.ListN.{set}
 use Rattle.std.proofs.lemmas.List.{take_all, length-take-le, set_split}
@@ -62,7 +63,8 @@ put_one at byte before inside =
     record {
       count = refl;
       fits = omega arith;
-      onto = set_split before at byte inside ∙ ap (λ m. take at before ++ (byte ∷ drop m before)) next;
+      onto = set_split before at byte inside ∙ ap (λ m. take at before ++ (byte ∷ drop m before))
+          next;
     }
 
 -- by a store of lanes

@@ -51,7 +51,8 @@ lanes_are src from units clamped leads are_units are_clamped are_leads = record 
 }
 
 -- ASCII that is stored by lanes
-pub ascii_written : (Means : List ℕ → ℕ → Type 0) {text before after : List ℕ} {at n : ℕ} → KeepsAscii Means → IsUtf8 text
+pub ascii_written : (Means : List ℕ → ℕ → Type 0) {text before after : List ℕ} {at n : ℕ} →
+    KeepsAscii Means → IsUtf8 text
     → n ≤ 64 → n ≤ length text → AreAscii (take n text) → at + n ≤ length before
     → after ≡ take at before ++ (take n (take 64 text) ++ drop (at + n) before)
     → WritesFront chars IsUtf8 Means text before after at n n
@@ -72,7 +73,8 @@ module _ {Means : List ℕ → ℕ → Type 0} where
       → IsUtf8 (drop from src) → from < length src
       → unit ≡ short_unit (get_or src from 0) (get_or src (from + 1) 0) → unit < 0x800
       → Means (byte ∷ []) unit → at < length before
-      → WritesFront chars IsUtf8 Means (drop from src) before (set before at byte) at (1 + lead_bit (get_or src from 0)) 1
+      → WritesFront chars IsUtf8 Means (drop from src) before (set before at byte) at
+      (1 + lead_bit (get_or src from 0)) 1
   short_written src from {before} {at} byte utf8 inside is below means room =
       let first = subst
       (λ c. IsFirstUtf8Char (drop from src) c (1 + lead_bit (get_or src from 0))) (sym is)
@@ -82,7 +84,8 @@ module _ {Means : List ℕ → ℕ → Type 0} where
   -- the rest of a text, by its place in the whole input
 
   pub later_utf8 : (src : List ℕ) (from : ℕ) {before after : List ℕ} {at n m : ℕ}
-      → WritesFront chars IsUtf8 Means (drop from src) before after at n m → IsUtf8 (drop (from + n) src)
+      → WritesFront chars IsUtf8 Means (drop from src) before after at n m → IsUtf8
+      (drop (from + n) src)
   later_utf8 src from {n = n} writes = subst IsUtf8 (drop-drop n from src) writes.rest
 
   pub of_rest : (src : List ℕ) (from n : ℕ) {before after : List ℕ} {at k j : ℕ}

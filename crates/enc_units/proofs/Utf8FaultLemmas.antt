@@ -131,7 +131,8 @@ module _ (n : ℕ) (vs : List ℕ) (long : length vs ≡ 16) where
   abbrev excesses : (m : List ℕ) × IsLanes m (λ k. excess (get_or vs k 0) n)
   excesses =
       let own = own_lanes vs long in
-      let most = chosen_bytes (λ k. ltb (get_or vs k 0) n) (below n vs long).is (splat_lanes n) own in
+      let most = chosen_bytes (λ k. ltb (get_or vs k 0) n) (below n vs long).is (splat_lanes n) own
+      in
       (_, by_op most (splat_lanes n) less)
 
 required_is : (z y : ℕ) → z < 0x100 → y < 0x100

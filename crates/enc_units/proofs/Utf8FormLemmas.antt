@@ -1,4 +1,5 @@
--- How a character is written in UTF-8, by the number of its bytes (Unicode Standard 3.9, table 3-6).
+-- How a character is written in UTF-8, by the number of its bytes (Unicode Standard 3.9, table
+-- 3-6).
 use Rattle.std.proofs.Common.{◌≡◌, ℕ, ◌+◌, ◌/◌, ◌%◌, ◌<◌, ◌≤◌, [], ◌∷◌, refl, inl, inr, arith}
 use Rattle.std.proofs.lemmas.Bool.{cases_lt, lt-ltb, le-ltb}
 use Rattle.std.proofs.lemmas.Bool.Decides.{nat_tests}

@@ -72,7 +72,8 @@ module _ (n : ℕ) (rest : (z y x : ℕ) (bs : List ℕ) → length bs ≤ n →
   fourth y z a b c [] l leads_four f second_follows e rest_follow = absurd (omega arith)
   fourth y z a b c (d ∷ bs) l leads_four f second_follows e rest_follow =
       IsUtf8-append (a ∷ b ∷ c ∷ d ∷ []) bs
-      (four_front (a ∷ b ∷ c ∷ d ∷ []) (omega arith) leads_four f second_follows.after_0xf0 second_follows.after_0xf4 e
+      (four_front (a ∷ b ∷ c ∷ d ∷ []) (omega arith) leads_four f second_follows.after_0xf0
+      second_follows.after_0xf4 e
       (rest_follow.0.after_third leads_four.0))
       (rest b c d bs (omega arith) (omega (arith, rest_follow.0.after_third leads_four.0))
       rest_follow.1)
@@ -85,7 +86,8 @@ module _ (n : ℕ) (rest : (z y x : ℕ) (bs : List ℕ) → length bs ≤ n →
       let continues_too = rest_follow.0.after_second leads_three.0 in
       elim (cases_lt a 0xF0) [
         | inl u ↦ IsUtf8-append (a ∷ b ∷ c ∷ []) bs
-            (three_front (a ∷ b ∷ c ∷ []) (omega arith) (leads_three.0, u) continues second_follows.after_0xe0
+            (three_front (a ∷ b ∷ c ∷ []) (omega arith) (leads_three.0, u) continues
+            second_follows.after_0xe0
             second_follows.after_0xed
             continues_too) (rest a b c bs (omega arith) (omega arith) rest_follow.1)
         | inr u ↦ fourth y z a b c bs (omega arith) (u, leads_three.1) continues second_follows
@@ -100,7 +102,8 @@ module _ (n : ℕ) (rest : (z y x : ℕ) (bs : List ℕ) → length bs ≤ n →
       let continues = rest_follow.0.after_first is_lead in
       let leads = rest_follow.0.leads is_lead in
       elim (cases_lt a 0xE0) [
-        | inl u ↦ IsUtf8-append (a ∷ b ∷ []) bs (two_front (a ∷ b ∷ []) (omega arith) (leads.0, u) continues)
+        | inl u ↦ IsUtf8-append (a ∷ b ∷ []) bs (two_front (a ∷ b ∷ []) (omega arith) (leads.0, u)
+            continues)
             (rest z a b bs (omega arith) (omega arith) rest_follow.1)
         | inr u ↦ third y z a b bs (omega arith) (u, leads.1) continues rest_follow.0 rest_follow.1
       ]

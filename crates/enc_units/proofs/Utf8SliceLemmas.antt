@@ -47,7 +47,8 @@ puts_ascii {len = len} {n = n} {src = src} dst new borrow alone within read fits
       within = read;
       ascii = ascii;
       fits = omega (arith, ap length units, lengths);
-      written = grown borrow (put_copied len n dst src new within read (omega (arith, lengths)) stored)
+      written = grown borrow (put_copied len n dst src new within read (omega (arith, lengths))
+          stored)
           ∙ ap (with_appended (slice_output len dst borrow)) (sym units);
       longest = λ more low. elim (cases_lt n (length dst - len)) [
         | inl less ↦ absurd (omega (arith, ends more (omega (arith, lengths)), low))

@@ -37,7 +37,8 @@ few_one false u = omega arith
 pub units_few : (src : List ℕ) (at n : ℕ) → length (units_from src at n) ≤ n
 units_few src at zero = omega arith
 units_few src at (suc n) =
-    omega (arith, lengths, few_one (gives_unit_at src at) (code_unit_at src at), units_few src (suc at) n)
+    let first = few_one (gives_unit_at src at) (code_unit_at src at) in
+    omega (arith, lengths, first, units_few src (suc at) n)
 
 -- the units of a bytes and of b more, at `place`, are those of all
 pub units_then : (src : List ℕ) (at a b : ℕ) {place all : ℕ} → place ≡ at + a → all ≡ a + b
@@ -171,7 +172,8 @@ stores_sixteen {src} {units} {at = at} {marks = marks} old long are_marked first
     let low_is : low ≡ units_from src at 8 =
     eight_marked 0 at marks are_marked (omega arith) (lower_is units long) start (omega arith) in
     let high_is : high ≡ units_from src (at + 8) 8 =
-    eight_marked 8 (at + 8) (marks / 0x100) are_marked (omega arith) (upper_is units long) refl refl in
+    eight_marked 8 (at + 8) (marks / 0x100) are_marked (omega arith) (upper_is units long) refl refl
+    in
     second ∙ ap (λ z. z ++ high) first ∙ append_assoc old low high
     ∙ ap (λ z. old ++ (z ++ high)) low_is ∙ ap (λ z. old ++ (units_from src at 8 ++ z)) high_is
     ∙ ap (λ z. old ++ z) (units_then src at 8 8 refl refl)

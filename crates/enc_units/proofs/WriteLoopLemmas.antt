@@ -149,5 +149,6 @@ module _ {chars_in : List ℕ → List ℕ} {Rest : List ℕ → Type 0} {Means 
         room = omega (arith, long, more.writes.fits);
         front = subst (WritesFront chars_in Rest Means text first new from (read + n)) count
             (writes_then written.front
-            (subst (λ x. WritesFront chars_in Rest Means (drop read text) dst new x n k) place more));
+            (subst (λ x. WritesFront chars_in Rest Means (drop read text) dst new x n k) place
+            more));
       }

@@ -246,7 +246,8 @@ pub(crate) fn write_utf16<M: Mapping>(
     from: usize,
 ) -> (usize, usize)
     requires { from ≤ length dst.old }
-    ensures { WritesFront utf16_lossy_chars AreAnyUnits (M.means mapping) src.now dst.old dst.new from
+    ensures { WritesFront utf16_lossy_chars AreAnyUnits (M.means mapping) src.now dst.old dst.new
+        from
         result.0 result.1 }
 {
     let mut read = put_strides(mapping, src, dst, from);

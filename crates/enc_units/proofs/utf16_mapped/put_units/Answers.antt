@@ -9,7 +9,9 @@ loop-count-init g c = (omega arith, writes_none (omega arith) tt)
 
 pub unit_byte-byte-requires : goal.unit_byte-byte-requires
 unit_byte-byte-requires g c =
-    omega (arith, place_is c.args.src.now _ c.loop-count.count c.clamped-places.ensures (omega arith))
+    let place = place_is c.args.src.now _ c.loop-count.count c.clamped-places.ensures
+    (omega arith) in
+    omega (arith, place)
 
 pub loop-count-preserved : goal.loop-count-preserved
 loop-count-preserved g c =

@@ -4,7 +4,8 @@ use Rattle.enc_units.proofs.WriteLoopLemmas.{writes_then}
 use Rattle.enc_units.proofs.utf8_bytes.put_eight.Goals as goal
 
 pub put_four-first-requires-clause-units : goal.put_four-first-requires-clause-units
-put_four-first-requires-clause-units g c k below = omega (arith, c.lanes_at-lanes.ensures.unit k below)
+put_four-first-requires-clause-units g c k below = omega
+    (arith, c.lanes_at-lanes.ensures.unit k below)
 
 pub put_four-second-requires-clause-units : goal.put_four-second-requires-clause-units
 put_four-second-requires-clause-units g c k below =

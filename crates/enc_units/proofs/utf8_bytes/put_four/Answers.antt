@@ -30,7 +30,8 @@ loop-count-preserved g c =
       omega (arith, invariant.2, next),
       omega (arith, invariant.3, next),
       length-set c.loop-count.dst _ c.unit_byte-byte.result ∙ invariant.4,
-      λ text long lanes utf8. four_further lanes long c.args.place c.unit_byte-byte.result (omega arith) next
+      λ text long lanes utf8. four_further lanes long c.args.place c.unit_byte-byte.result
+          (omega arith) next
           (invariant.5 text long lanes utf8) (omega arith) (found.means (omega arith)) found.last
           (omega arith),
     )

@@ -9,7 +9,8 @@ pub put_short-read-requires-clause-utf8 : goal.put_short-read-requires-clause-ut
 put_short-read-requires-clause-utf8 g c =
     let text = drop c.args.from c.args.src.now in
     let ascii = c.ascii_from-ascii.ensures in
-    later_utf8 c.args.src.now c.args.from (ascii_written (g.M.Mapping.means c.args.mapping) c.requires.keeps c.requires.utf8 (omega (arith, ascii.bound))
+    later_utf8 c.args.src.now c.args.from (ascii_written (g.M.Mapping.means c.args.mapping)
+    c.requires.keeps c.requires.utf8 (omega (arith, ascii.bound))
     (omega (arith, ascii.bound, lengths))
     (ascii_loaded text 0 _ _ refl (omega (arith, ascii.bound)) ascii.ascii)
     (omega (arith, ascii.bound)) c.put_wide_lanes.ensures)
@@ -18,7 +19,8 @@ pub returns-clause-writes : goal.returns-clause-writes
 returns-clause-writes g c =
     let text = drop c.args.from c.args.src.now in
     let ascii = c.ascii_from-ascii.ensures in
-    writes_then (ascii_written (g.M.Mapping.means c.args.mapping) c.requires.keeps c.requires.utf8 (omega (arith, ascii.bound))
+    writes_then (ascii_written (g.M.Mapping.means c.args.mapping) c.requires.keeps c.requires.utf8
+    (omega (arith, ascii.bound))
     (omega (arith, ascii.bound, lengths))
     (ascii_loaded text 0 _ _ refl (omega (arith, ascii.bound)) ascii.ascii)
     (omega (arith, ascii.bound)) c.put_wide_lanes.ensures)

@@ -6,5 +6,6 @@ use Rattle.enc_units.proofs.utf16_slice.Utf16SliceUnitSlice.append_ascii.Goals a
 pub returns : goal.returns
 returns c =
     let widened = c.widen_ascii-len.ensures in
-    puts_ascii c.args.self.now.dst.now _ c.args.self.now.dst.ghost_name ascii_units_16 (omega arith) widened.read widened.room
+    puts_ascii c.args.self.now.dst.now _ c.args.self.now.dst.ghost_name ascii_units_16 (omega arith)
+    widened.read widened.room
     widened.ascii widened.ends widened.stored

@@ -5,5 +5,6 @@ use Rattle.enc_units.proofs.utf8_slice.Utf8SliceUnitSlice.append_ascii.Goals as 
 pub returns : goal.returns
 returns c =
     let copied = c.copy_ascii-len.ensures in
-    puts_ascii c.args.self.now.dst.now _ c.args.self.now.dst.ghost_name ascii_units (omega arith) copied.read copied.room
+    puts_ascii c.args.self.now.dst.now _ c.args.self.now.dst.ghost_name ascii_units (omega arith)
+    copied.read copied.room
     copied.ascii copied.ends copied.copied
