@@ -1,6 +1,7 @@
 -- Encodings from which characters are barred keep their laws.
 use Rattle.std.proofs.Common.{◌≡◌, ℕ, ◌<◌, ◌≤◌, Bool, true, false, ◌==◌, ◌||◌, ◌&&◌, nat_le, Option, None, List, []}
 use Rattle.std.proofs.Common.{◌∷◌, length, refl, ap, ◌∙◌, sym, subst, arith, eqb-true, if◌then◌else◌}
+use Rattle.std.specs.Cmp.{first_so, second_so}
 use Rattle.std.proofs.lemmas.Bool.Decides.{nat_tests}
 use Rattle.enc_encoder.specs.declared.byte_lengths.ByteLengths.{ByteLengths}
 use Rattle.enc_encoder.specs.declared.character_set.CharacterSet.TheVariants.{Ascii}
@@ -73,21 +74,13 @@ barring_is_lawful b e lawful = record {
 
 -- a list that callers may name
 
-and_first : (a b : Bool) → (a && b) ≡ true → a ≡ true
-and_first true b h = refl
-and_first false b h = h
-
-and_second : (a b : Bool) → (a && b) ≡ true → b ≡ true
-and_second true b h = h
-and_second false b h = cc
-
 by_first : (x c : ℕ) (first later all : Bool) → (x == c) ≡ first → (nat_le 0x80 x && all) ≡ true
     → (first || later) ≡ true → (all ≡ true → later ≡ true → nat_le 0x80 c ≡ true)
     → nat_le 0x80 c ≡ true
 by_first x c true later all e h s by_later =
-    let beyond_ascii = and_first (nat_le 0x80 x) all h in
+    let beyond_ascii = first_so (nat_le 0x80 x) all h in
     grind (arith, nat_tests, e, beyond_ascii)
-by_first x c false later all e h s by_later = by_later (and_second (nat_le 0x80 x) all h) s
+by_first x c false later all e h s by_later = by_later (second_so (nat_le 0x80 x) all h) s
 
 -- a character of a list that has no ASCII is beyond ASCII
 beyond : (b : List ℕ) (c : ℕ) → are_beyond_ascii b ≡ true → contains_char b c ≡ true

@@ -93,76 +93,76 @@ module _ {E : Type 0} {state : E → RawEncoderState} {e : E} {last : Bool} {res
 module _ (units_of : ℕ → List ℕ) {last : Bool} {old : RawEncoderState} {src before : List ℕ}
     {now : Place} (writes : Writes last (place old src before 0) now)
     (lawful : IsLawfulEncoderRule old.rule) where
-    stop : {new : RawEncoderState} {rest : List ℕ} {done : List Step}
-        → Leaves last old new src rest done → step_bytes writes.done ≡ step_bytes done
-        → {a b : ℕ} → a ≡ length (units_of_text units_of src)
-        → b ≡ length (units_of_text units_of rest) → (result : EncoderResult)
-        → EncoderStops new rest last (length before) done result
+  stop : {new : RawEncoderState} {rest : List ℕ} {done : List Step}
+      → Leaves last old new src rest done → step_bytes writes.done ≡ step_bytes done
+      → {a b : ℕ} → a ≡ length (units_of_text units_of src)
+      → b ≡ length (units_of_text units_of rest) → (result : EncoderResult)
+      → EncoderStops new rest last (length before) done result
+      → EncoderCallInto units_of last (place old src before 0)
+      (place new rest now.slice now.written) result (a - b)
+  stop {new} {rest} {done} leaves bytes_are counted left_count result stops =
+      let adds = writes.adds in
+      let count : now.written ≡ length (step_bytes writes.done) = omega (arith, adds.count) in
+      let call : EncoderCall old new src rest last (length before) result
+      (step_bytes writes.done) =
+      record {
+        done = done;
+        reads = leaves.reads;
+        remaining = leaves.remaining;
+        rule = leaves.rule;
+        set = leaves.set;
+        bytes = bytes_are;
+        fits = omega (arith, adds.fits, count);
+        stops = stops;
+      } in
+      record {
+        wrote = step_bytes writes.done;
+        adds = adds;
+        call = call;
+        units = (units_read units_of (step_chars done) rest leaves.reads counted left_count).1;
+        text = keeps_text leaves lawful result (step_bytes writes.done) (done_is call);
+        need = rw count (meets_need result call);
+      }
+
+  pub stop_empty : {a b : ℕ} → a ≡ length (units_of_text units_of src)
+      → b ≡ length (units_of_text units_of now.rest) → now.rest ≡ []
+      → (last ≡ true → now.state.set ≡ Ascii)
+      → EncoderCallInto units_of last (place old src before 0) now InputEmpty (a - b)
+  stop_empty counted left_count all_read ended =
+      stop writes.leaves refl counted left_count InputEmpty
+      (record { none_reported = writes.none_reported; all_read = all_read; ended = ended })
+
+  module _ {new : RawEncoderState} {left : List ℕ} {q : Step}
+      (next : Leaves last now.state new now.rest left (q ∷ [])) where
+    pub stop_full : {a b : ℕ} → a ≡ length (units_of_text units_of src)
+        → b ≡ length (units_of_text units_of now.rest) → q.report ≡ None
+        → length now.slice < now.written + length q.bytes
+        → EncoderCallInto units_of last (place old src before 0) now OutputFull (a - b)
+    stop_full counted left_count unreported full =
+        stop writes.leaves refl counted left_count OutputFull (record {
+          none_reported = writes.none_reported;
+          next = q;
+          others = steps_from_state new last left;
+          comes = next.remaining;
+          not_report = unreported;
+          full = omega (arith, full, writes.adds.count, same_length writes.adds);
+        })
+
+    pub stop_report : {a b : ℕ} → a ≡ length (units_of_text units_of src)
+        → b ≡ length (units_of_text units_of left) → {k : ℕ}
+        → q.report ≡ Some k → q.bytes ≡ [] → ((x : ℕ) × (q.reads ≡ x ∷ []))
         → EncoderCallInto units_of last (place old src before 0)
-        (place new rest now.slice now.written) result (a - b)
-    stop {new} {rest} {done} leaves bytes_are counted left_count result stops =
-        let adds = writes.adds in
-        let count : now.written ≡ length (step_bytes writes.done) = omega (arith, adds.count) in
-        let call : EncoderCall old new src rest last (length before) result
-        (step_bytes writes.done) =
-        record {
-          done = done;
-          reads = leaves.reads;
-          remaining = leaves.remaining;
-          rule = leaves.rule;
-          set = leaves.set;
-          bytes = bytes_are;
-          fits = omega (arith, adds.fits, count);
-          stops = stops;
-        } in
-        record {
-          wrote = step_bytes writes.done;
-          adds = adds;
-          call = call;
-          units = (units_read units_of (step_chars done) rest leaves.reads counted left_count).1;
-          text = keeps_text leaves lawful result (step_bytes writes.done) (done_is call);
-          need = rw count (meets_need result call);
-        }
-
-    pub stop_empty : {a b : ℕ} → a ≡ length (units_of_text units_of src)
-          → b ≡ length (units_of_text units_of now.rest) → now.rest ≡ []
-        → (last ≡ true → now.state.set ≡ Ascii)
-        → EncoderCallInto units_of last (place old src before 0) now InputEmpty (a - b)
-    stop_empty counted left_count all_read ended =
-        stop writes.leaves refl counted left_count InputEmpty
-        (record { none_reported = writes.none_reported; all_read = all_read; ended = ended })
-
-    module _ {new : RawEncoderState} {left : List ℕ} {q : Step}
-        (next : Leaves last now.state new now.rest left (q ∷ [])) where
-      pub stop_full : {a b : ℕ} → a ≡ length (units_of_text units_of src)
-          → b ≡ length (units_of_text units_of now.rest) → q.report ≡ None
-          → length now.slice < now.written + length q.bytes
-          → EncoderCallInto units_of last (place old src before 0) now OutputFull (a - b)
-      stop_full counted left_count unreported full =
-          stop writes.leaves refl counted left_count OutputFull (record {
-            none_reported = writes.none_reported;
-            next = q;
-            others = steps_from_state new last left;
-            comes = next.remaining;
-            not_report = unreported;
-            full = omega (arith, full, writes.adds.count, same_length writes.adds);
-          })
-
-      pub stop_report : {a b : ℕ} → a ≡ length (units_of_text units_of src)
-          → b ≡ length (units_of_text units_of left) → {k : ℕ}
-          → q.report ≡ Some k → q.bytes ≡ [] → ((x : ℕ) × (q.reads ≡ x ∷ []))
-          → EncoderCallInto units_of last (place old src before 0)
-          (place new left now.slice now.written) (Unmappable k) (a - b)
-      stop_report counted left_count {k} reported none_written read =
-          stop (leaves_on writes.leaves next)
-          (rw (step_bytes-one writes.done q, none_written) (sym (append-nil (step_bytes writes.done))))
-          counted left_count (Unmappable k) (record {
-            before = writes.done;
-            none_reported = writes.none_reported;
-            report = q;
-            then_report = refl;
-            reported = reported;
-            none_written = none_written;
-            char = read.0;
-            char_read = read.1;
-          })
+        (place new left now.slice now.written) (Unmappable k) (a - b)
+    stop_report counted left_count {k} reported none_written read =
+        stop (leaves_on writes.leaves next)
+        (rw (step_bytes-one writes.done q, none_written) (sym (append-nil (step_bytes writes.done))))
+        counted left_count (Unmappable k) (record {
+          before = writes.done;
+          none_reported = writes.none_reported;
+          report = q;
+          then_report = refl;
+          reported = reported;
+          none_written = none_written;
+          char = read.0;
+          char_read = read.1;
+        })

@@ -1,7 +1,7 @@
 -- How many bytes a call in an error mode has to write, and that it goes on.
-use Rattle.std.proofs.Common.{◌≡◌, ℕ, ◌+◌, ◌<◌, ◌≤◌, inl, inr, Bool, true, false, ◌||◌, is_some, List, [], ◌∷◌, ◌++◌}
+use Rattle.std.proofs.Common.{◌≡◌, ℕ, ◌+◌, ◌<◌, ◌≤◌, inl, inr, Bool, true, false, is_some, List, [], ◌∷◌}
 use Rattle.std.proofs.Common.{length, refl, ap, ◌∙◌, sym, arith, length-append}
-use Rattle.std.proofs.lemmas.Bool.{false≢true}
+use Rattle.std.proofs.lemmas.Bool.{false≢true, or_parts}
 use Rattle.enc_units.specs.declared.encoder_result.EncoderResult.{EncoderResult}
 use Rattle.enc_units.specs.declared.encoder_result.EncoderResult.TheVariants.{InputEmpty, OutputFull, Unmappable}
 use Rattle.enc_encoder.specs.EncoderRule.{RawEncoderState, IsLawfulEncoderRule}
@@ -15,6 +15,7 @@ use Rattle.enc_encoder.specs.Unmappable.{any_unmappable}
 use Rattle.enc_encoder.proofs.LeavesLemmas.{leaves_in_mode}
 use Rattle.enc_encoder.proofs.NeedLemmas.{meets_need, need_left, at_next}
 use Rattle.enc_encoder.proofs.StepCountLemmas.{first_bytes, first_few}
+use Rattle.enc_encoder.proofs.StepLemmas.{or_true}
 use Rattle.enc_encoder.proofs.TextLemmas.{unreferred}
 use Rattle.enc_encoder.proofs.UnmappableLemmas.{any_reported_is, any_unmappable-append}
 
@@ -35,14 +36,6 @@ reporting_meets_need {c = c} call is_fatal =
       fits = omega (arith, fits, ap length bytes);
       stops = rw is_fatal at call.stops;
     })
-
-neither : (a b : Bool) → (a || b) ≡ false → a ≡ false
-neither true b none = absurd (false≢true (sym none))
-neither false b none = refl
-
-or_true : (a : Bool) → (a || true) ≡ true
-or_true true = refl
-or_true false = refl
 
 one_reported : (ps : List Step) → ends_in_report ps ≡ true → any_reported ps ≡ true
 one_reported [] ends = absurd (false≢true ends)
@@ -83,9 +76,9 @@ reads_all {old = old} {new} {c} call kept is_html mappable room_is =
     let leaves = leaves_in_mode call in
     let none : any_reported call.done ≡ false =
     any_reported_is leaves
-    ∙ neither _ (any_unmappable old.rule c.rest)
+    ∙ (or_parts _ (any_unmappable old.rule c.rest)
     (sym (any_unmappable-append old.rule _ c.rest)
-    ∙ ap (any_unmappable old.rule) (sym call.reads) ∙ mappable) in
+    ∙ ap (any_unmappable old.rule) (sym call.reads) ∙ mappable)).0 in
     all_read kept new c.rest c.last c.room call.done c.result (rw is_html at call.stops)
     (not_full leaves none kept c.room room_is)
 

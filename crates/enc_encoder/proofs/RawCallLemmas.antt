@@ -1,15 +1,13 @@
 -- A call of the raw encoder is a call in an error mode, without replacement or where no character
 -- is unmappable.
-use Rattle.std.proofs.Common.{◌≡◌, ℕ, ◌-◌, ◌≤◌, ◌⊎◌, inl, inr, Bool, true, false, ◌||◌, ◌&&◌, is_some, Option, Some, None, List, []}
-use Rattle.std.proofs.Common.{◌∷◌, length, drop, take, refl, ap, ◌∙◌, sym, subst, arith, if◌then◌else◌}
+use Rattle.std.proofs.Common.{◌≡◌, ℕ, ◌-◌, ◌≤◌, ◌⊎◌, inl, inr, Bool, false, ◌&&◌, List}
+use Rattle.std.proofs.Common.{length, drop, take, refl, ap, ◌∙◌, sym, subst, arith}
 use Rattle.std.proofs.lemmas.Bool.{false≢true}
-use Rattle.enc_encoder.specs.declared.character_set.CharacterSet.{CharacterSet}
-use Rattle.enc_encoder.specs.declared.character_set.CharacterSet.TheVariants.{Ascii, Roman, Jis0208}
 use Rattle.enc_units.specs.declared.encoder_result.EncoderResult.{EncoderResult}
 use Rattle.enc_units.specs.declared.encoder_result.EncoderResult.TheVariants.{InputEmpty, OutputFull, Unmappable}
-use Rattle.enc_encoder.specs.EncoderRule.{EncoderRule, RawEncoderState, set_for}
-use Rattle.enc_encoder.specs.Steps.{Step, char_step, escape_step, escape_steps_before, steps_at_end, steps_of}
-use Rattle.enc_encoder.specs.Steps.{first_written_char, steps_from_state, any_reported}
+use Rattle.enc_encoder.specs.EncoderRule.{RawEncoderState}
+use Rattle.enc_encoder.specs.Steps.{Step}
+use Rattle.enc_encoder.specs.Steps.{any_reported}
 use Rattle.enc_encoder.specs.Text.{KeepsText}
 use Rattle.enc_encoder.specs.Writes.{Place, place}
 use Rattle.enc_encoder.specs.Call.{EncoderCallInto, EncoderStops}
@@ -18,8 +16,8 @@ use Rattle.enc_encoder.specs.ErrorMode.{StopsInHtmlMode, StopsInMode, StepsFitIn
 use Rattle.enc_encoder.specs.ErrorMode.{mode_of}
 use Rattle.enc_encoder.specs.declared.error_mode.ErrorMode.{ErrorMode}
 use Rattle.enc_encoder.specs.declared.error_mode.ErrorMode.TheVariants as code
-use Rattle.enc_encoder.proofs.StepLemmas.{any_reported-append}
-use Rattle.enc_encoder.proofs.LeavesLemmas.{written_bytes, rest_stays}
+use Rattle.enc_encoder.proofs.UnmappableLemmas.{any_reported_is, none_unmappable}
+use Rattle.enc_encoder.proofs.LeavesLemmas.{leaves_of, written_bytes, rest_stays}
 use Rattle.enc_encoder.proofs.TextLemmas.{unreferred, is_reported}
 use Rattle.enc_encoder.proofs.ReferenceStopLemmas.{all_fit, unreported_before, none_left}
 
@@ -30,45 +28,6 @@ pub record CallOnto (units_of : ℕ → List ℕ) (mode : EncodeErrorMode) (last
   pub rest_stays : drop to.written to.slice ≡ drop to.written from.slice
   pub call : EncoderCallInMode units_of mode from.state to.state from.rest to.rest last
       (length from.slice) result read (take to.written to.slice) replaced
-
-or_parts : (a b : Bool) → (a || b) ≡ false → (a ≡ false) × (b ≡ false)
-or_parts true b h = absurd (false≢true (sym h))
-or_parts false b h = (refl, h)
-
--- neither escape sequences nor mappable characters are reports
-escaping_reports_none : (h : Bool) (s : CharacterSet)
-    → any_reported (if h then [] else escape_step s ∷ []) ≡ false
-escaping_reports_none true s = refl
-escaping_reports_none false s = refl
-
-char_reports_none : (e : EncoderRule) (s : CharacterSet) (c : ℕ) (b : Option (List ℕ))
-    → is_some b ≡ true → is_some (char_step e s c b).report ≡ false
-char_reports_none e s c None h = absurd (false≢true h)
-char_reports_none e s c (Some b) h = refl
-
-end_reports_none : (s : CharacterSet) (last : Bool)
-    → any_reported (if last then steps_at_end s else []) ≡ false
-end_reports_none Ascii true = refl
-end_reports_none Roman true = refl
-end_reports_none Jis0208 true = refl
-end_reports_none s false = refl
-
--- the steps of a text, where no character is unmappable
-none_reported : (e : EncoderRule) → MapsEveryCharacter e
-    → (last : Bool) (s : CharacterSet) (t : List ℕ) → any_reported (steps_of e last s t) ≡ false
-unfolding steps_of
-none_reported e maps_all last s [] = end_reports_none s last
-none_reported e maps_all last s (c ∷ t) =
-    let first_char = first_written_char c (e.bytes c) in
-    let set_now = set_for e s first_char in
-    any_reported-append (escape_steps_before e s first_char)
-    (char_step e set_now c (e.bytes c) ∷ steps_of e last set_now t)
-    ∙ ap (λ b. b || (is_some (char_step e set_now c (e.bytes c)).report
-    || any_reported (steps_of e last set_now t)))
-    (escaping_reports_none (e.has s first_char) (e.designated first_char))
-    ∙ ap (λ b. b || any_reported (steps_of e last set_now t))
-    (char_reports_none e set_now c (e.bytes c) (maps_all c))
-    ∙ none_reported e maps_all last set_now t
 
 -- why a call stops that has none
 html_stops : (new : RawEncoderState) (rest : List ℕ) (last : Bool) (room : ℕ) (done : List Step)
@@ -126,10 +85,8 @@ module _ {units_of : ℕ → List ℕ} {last : Bool} {old : RawEncoderState} {sr
   mappable_call : MapsEveryCharacter old.rule
       → CallOnto units_of (Html 0) last (place old src slice 0) to result read false
   mappable_call maps_all =
-      let none = (or_parts (any_reported done) (any_reported (steps_from_state to.state last to.rest))
-      (sym (any_reported-append done (steps_from_state to.state last to.rest))
-      ∙ ap any_reported (sym encoded.call.remaining)
-      ∙ none_reported old.rule maps_all last old.set src)).0 in
+      let none : any_reported done ≡ false =
+      any_reported_is (leaves_of encoded.call) ∙ none_unmappable old.rule maps_all _ in
       let fits = all_fit (length slice - 0) 0 done (unreported_before (length slice - 0) 0 done none
       (omega (arith, encoded.call.fits, ap length encoded.call.bytes))) in
       in_mode (Html 0) (encoded.call.bytes ∙ sym (unreferred done none))

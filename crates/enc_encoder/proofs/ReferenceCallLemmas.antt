@@ -1,21 +1,21 @@
 -- Why a call that writes references stops.
-use Rattle.std.proofs.Common.{◌≡◌, ℕ, ◌-◌, ◌<◌, ◌≤◌, inl, inr, Bool, true, false, ◌||◌, List, [], ◌++◌, length, take, drop}
-use Rattle.std.proofs.Common.{refl, ap, ◌∙◌, sym, subst, arith, append-nil}
+use Rattle.std.proofs.Common.{◌≡◌, ℕ, ◌-◌, ◌<◌, ◌≤◌, inl, inr, Bool, true, false, List, [], length}
+use Rattle.std.proofs.Common.{refl, ap, sym, subst, arith, append-nil}
 use Rattle.enc_units.specs.Output.{units_of_text}
 use Rattle.enc_units.specs.declared.encoder_result.EncoderResult.{EncoderResult}
 use Rattle.enc_units.specs.declared.encoder_result.EncoderResult.TheVariants.{InputEmpty, OutputFull, Unmappable}
 use Rattle.enc_encoder.specs.EncoderRule.{RawEncoderState, IsLawfulEncoderRule}
-use Rattle.enc_encoder.specs.Text.{KeepsText, reference, reference_after, bytes_of_text, with_references}
+use Rattle.enc_encoder.specs.Text.{KeepsText, reference, reference_after}
 use Rattle.enc_encoder.specs.Steps.{Step, step_chars, bytes_with_references}
 use Rattle.enc_encoder.specs.Writes.{Adds, Place, place}
 use Rattle.enc_encoder.specs.ErrorMode.{Html, StopsInHtmlMode, IsFull, is_nothing_left}
 use Rattle.enc_encoder.specs.Replacing.{result_when_full}
-use Rattle.enc_encoder.proofs.LeavesLemmas.{leaves_of, adds_none, written_bytes, rest_stays}
+use Rattle.enc_encoder.proofs.LeavesLemmas.{written_bytes, rest_stays}
 use Rattle.enc_encoder.proofs.TextLemmas.{keeps_text}
 use Rattle.enc_encoder.proofs.MachineLemmas.{units_read}
 use Rattle.enc_encoder.proofs.RawCallLemmas.{CallOnto}
 use Rattle.enc_encoder.proofs.ReferenceStopLemmas.{none_left}
-use Rattle.enc_encoder.proofs.ReferenceTurnLemmas.{Refers, Turns, EncodesTo, in_limit, join_unreported, join_report}
+use Rattle.enc_encoder.proofs.ReferenceTurnLemmas.{Refers, Turns, EncodesTo, join_unreported, join_report}
 use Rattle.enc_encoder.proofs.ReferenceTurnLemmas.{ends_here, no_turn}
 
 -- no reference is left to the caller

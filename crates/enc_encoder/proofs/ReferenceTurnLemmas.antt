@@ -1,20 +1,18 @@
 -- The turns of a call that writes references: each is a call of the raw encoder, and then the
 -- reference to the character that it reports.
-use Rattle.std.proofs.Common.{◌≡◌, ℕ, ◌+◌, ◌-◌, ◌<◌, ◌≤◌, Bool, true, false, ◌||◌, is_some, Option, Some, List, [], ◌∷◌}
-use Rattle.std.proofs.Common.{◌++◌, length, take, drop, refl, ap, ◌∙◌, sym, subst, arith, append_assoc, append-nil}
-use Rattle.std.proofs.Common.{length-append, length-drop}
+use Rattle.std.proofs.Common.{◌≡◌, ℕ, ◌+◌, ◌-◌, ◌<◌, ◌≤◌, Bool, true, false, ◌||◌, is_some, Option, List, [], ◌∷◌}
+use Rattle.std.proofs.Common.{◌++◌, length, take, drop, refl, ap, ◌∙◌, sym, subst, arith, append_assoc}
+use Rattle.std.proofs.Common.{length-drop}
 use Rattle.std.proofs.lemmas.List.{length-take}
-use Rattle.std.proofs.lemmas.Slice.{take-put_mid, drop-put_mid}
 use borrow.Rule.Slice.PartMut.{put_mid}
 use Rattle.enc_units.specs.declared.encoder_result.EncoderResult.{EncoderResult}
 use Rattle.enc_units.specs.declared.encoder_result.EncoderResult.TheVariants.{Unmappable}
-use Rattle.enc_encoder.specs.EncoderRule.{RawEncoderState}
 use Rattle.enc_encoder.specs.Text.{reference, reference_after}
-use Rattle.enc_encoder.specs.Steps.{Step, step_bytes, any_reported, bytes_with_references}
+use Rattle.enc_encoder.specs.Steps.{Step, any_reported, bytes_with_references}
 use Rattle.enc_encoder.specs.Writes.{Leaves, Adds, Place, place}
 use Rattle.enc_encoder.specs.Call.{EncoderCall, EncoderCallInto}
 use Rattle.enc_encoder.specs.ErrorMode.{StepFits, StepsFit, ends_in_report}
-use Rattle.enc_encoder.proofs.StepLemmas.{any_reported-append}
+use Rattle.enc_encoder.proofs.StepLemmas.{any_reported-append, or_true, or_false}
 use Rattle.enc_encoder.proofs.LeavesLemmas.{no_step, leaves_of, leaves_on, adds_none, adds_on, same_length}
 use Rattle.enc_encoder.proofs.TextLemmas.{bytes_with_references-append, unreferred, done_is, reported_bytes, is_reported}
 use Rattle.enc_encoder.proofs.ReferenceStopLemmas.{FitsBefore, AllBefore, fits-append, before-append, all_fit}
@@ -87,14 +85,6 @@ adds_reference k length_is onto few within = record {
   onto = onto;
 }
 
-or_false : (a : Bool) → a ≡ (a || false)
-or_false true = refl
-or_false false = refl
-
-or_true : (a : Bool) → true ≡ (a || true)
-or_true true = refl
-or_true false = refl
-
 module _ {last : Bool} {limit : ℕ} {from now next : Place} {replaced : Bool}
     (turns : Turns last limit from now replaced) {result : EncoderResult}
     (encodes : EncodesTo last (limit - now.written) now next result) where
@@ -135,7 +125,7 @@ module _ {last : Bool} {limit : ℕ} {from now next : Place} {replaced : Bool}
       join (rw no_reference (adds_none next.slice next.written
       (omega (arith, encodes.adds.fits, same_length encodes.adds))))
       (all_fit limit now.written encodes.call.done fits)
-      (rw none_reported (or_false replaced))
+      (rw none_reported (sym (or_false replaced)))
 
 -- the last step says whether a report is the last
 ends_in_report-one : (ps : List Step) (q : Step) → ends_in_report (ps ++ q ∷ []) ≡ is_some q.report
@@ -184,7 +174,7 @@ module _ {last : Bool} {limit : ℕ} {from now next : Place} {replaced : Bool}
       (omega (arith, in_limit turns encodes, reference_begins, ap length stops.none_written)) in
       join turns encodes adds
       (rw stops.then_report (fits-append limit now.written before (report ∷ []) fits_before_report
-      (report_fits, tt))) (rw (is_reported stops) (or_true replaced))
+      (report_fits, tt))) (rw (is_reported stops) (sym (or_true replaced)))
 
   pub ends_here : {slice : List ℕ} {written : ℕ}
       (adds : Adds next.slice slice next.written written (reference k))

@@ -1,5 +1,5 @@
 -- Runs of characters that the designated character set has are steps.
-use Rattle.std.proofs.Common.{◌≡◌, ℕ, ◌+◌, ◌≤◌, Bool, false, None, List, [], ◌∷◌, ◌++◌, length, refl, ap, ◌∙◌, sym, subst}
+use Rattle.std.proofs.Common.{◌≡◌, ℕ, ◌≤◌, Bool, false, None, List, [], ◌∷◌, ◌++◌, length, refl, ap, ◌∙◌, sym, subst}
 use Rattle.std.proofs.Common.{arith, length-append}
 use Rattle.enc_units.specs.Pieces.{Piece, EachMeansChar}
 use Rattle.enc_units.specs.Pieces as pieces

@@ -1,6 +1,6 @@
 -- Bytes that are written to a part of a slice.
 use Rattle.std.proofs.Common.{◌≡◌, ℕ, ◌+◌, ◌-◌, ◌≤◌, List, ◌++◌, length, take, drop, refl, ap, ◌∙◌, sym, arith}
-use Rattle.std.proofs.Common.{append_assoc, drop-drop, length-append, length-drop}
+use Rattle.std.proofs.Common.{append_assoc, drop-drop, length-drop}
 use Rattle.std.proofs.lemmas.List.{length-take, drop-append-le, take-append-drop}
 use Rattle.std.proofs.lemmas.Slice.{take-put_mid, drop-put_mid}
 use borrow.Rule.Slice.PartMut.{put_mid}

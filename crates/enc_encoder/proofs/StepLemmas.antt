@@ -1,5 +1,5 @@
 -- Lists of steps, one after another.
-use Rattle.std.proofs.Common.{◌≡◌, ℕ, Bool, true, false, ◌||◌, None, is_some, List, [], ◌∷◌, ◌++◌, refl, ap, ◌∙◌, sym}
+use Rattle.std.proofs.Common.{◌≡◌, ℕ, Bool, true, false, ◌||◌, is_some, List, [], ◌∷◌, ◌++◌, refl, ap, ◌∙◌, sym}
 use Rattle.std.proofs.Common.{append_assoc, append-nil}
 use Rattle.enc_units.specs.Output.{units_of_text}
 use Rattle.enc_encoder.specs.declared.character_set.CharacterSet.{CharacterSet}
@@ -17,11 +17,17 @@ step_bytes-append (p ∷ ps) qs =
     ap (λ t. p.bytes ++ t) (step_bytes-append ps qs)
     ∙ sym (append_assoc p.bytes (step_bytes ps) (step_bytes qs))
 
-or_assoc : (a b c : Bool) → ((a || b) || c) ≡ (a || (b || c))
-or_assoc a b c = elim a as (λ a. ((a || b) || c) ≡ (a || (b || c))) [ true ↦ refl | false ↦ refl ]
+pub or_assoc : (a b c : Bool) → ((a || b) || c) ≡ (a || (b || c))
+or_assoc true b c = refl
+or_assoc false b c = refl
 
-or_false : (a : Bool) → (a || false) ≡ a
-or_false a = elim a as (λ a. (a || false) ≡ a) [ true ↦ refl | false ↦ refl ]
+pub or_true : (a : Bool) → (a || true) ≡ true
+or_true true = refl
+or_true false = refl
+
+pub or_false : (a : Bool) → (a || false) ≡ a
+or_false true = refl
+or_false false = refl
 
 pub any_reported-append : (ps qs : List Step)
     → any_reported (ps ++ qs) ≡ (any_reported ps || any_reported qs)
@@ -37,25 +43,10 @@ set_after_steps-append s (p ∷ ps) qs = set_after_steps-append p.set ps qs
 
 -- one step more
 
-pub step_chars-one : (ps : List Step) (q : Step)
-    → step_chars (ps ++ q ∷ []) ≡ step_chars ps ++ q.reads
-step_chars-one ps q = step_chars-append ps (q ∷ [])
-    ∙ ap (λ t. step_chars ps ++ t) (append-nil q.reads)
-
 pub step_bytes-one : (ps : List Step) (q : Step)
     → step_bytes (ps ++ q ∷ []) ≡ step_bytes ps ++ q.bytes
 step_bytes-one ps q = step_bytes-append ps (q ∷ [])
     ∙ ap (λ t. step_bytes ps ++ t) (append-nil q.bytes)
-
-pub none_reported-one : (ps : List Step) (q : Step) → any_reported ps ≡ false → q.report ≡ None
-    → any_reported (ps ++ q ∷ []) ≡ false
-none_reported-one ps q n e =
-    any_reported-append ps (q ∷ []) ∙ ap (λ b. b || (is_some q.report || false)) n
-    ∙ or_false (is_some q.report) ∙ ap is_some e
-
-pub set_after_steps-one : (s : CharacterSet) (ps : List Step) (q : Step)
-    → set_after_steps s (ps ++ q ∷ []) ≡ q.set
-set_after_steps-one s ps q = set_after_steps-append s ps (q ∷ [])
 
 pub units_of_text-append : (units_of : ℕ → List ℕ) (a b : List ℕ)
     → units_of_text units_of (a ++ b) ≡ units_of_text units_of a ++ units_of_text units_of b

@@ -1,8 +1,7 @@
 -- The bytes of a whole text, and the steps in which it is encoded.
 use Rattle.std.proofs.Common.{◌≡◌, ℕ, zero, suc, ◌/◌, ◌%◌, inl, inr, Bool, true, false, ◌==◌, nat_lt, ◌||◌, is_some}
 use Rattle.std.proofs.Common.{Option, Some, None, List, [], ◌∷◌, ◌++◌, refl, ap, ◌∙◌, sym, subst, arith, append_assoc}
-use Rattle.std.proofs.Common.{append-nil, if◌then◌else◌, decimal, take, drop, length}
-use Rattle.std.proofs.Math.Seq.{take-append_seam}
+use Rattle.std.proofs.Common.{append-nil, if◌then◌else◌, decimal}
 use Rattle.std.specs.Fmt.{digits, digits_onto, digit_glyph}
 use Rattle.std.proofs.lemmas.Bool.{false≢true}
 use Rattle.std.proofs.lemmas.Bool.Decides.{nat_tests}

@@ -9,7 +9,8 @@ use Rattle.enc_encoder.specs.EncoderRule.{EncoderRule, RawEncoderState, set_for}
 use Rattle.enc_encoder.specs.Steps.{Step, steps_of, steps_from_state, step_chars, any_reported, escape_steps_before}
 use Rattle.enc_encoder.specs.Steps.{escape_step, char_step, first_written_char, steps_at_end}
 use Rattle.enc_encoder.specs.Writes.{Leaves}
-use Rattle.enc_encoder.specs.ErrorMode.{CallInMode, IsCallInMode, Html}
+use Rattle.enc_encoder.specs.ErrorMode.{CallInMode, IsCallInMode, Html, MapsEveryCharacter}
+use Rattle.enc_encoder.proofs.StepLemmas.{or_assoc}
 use Rattle.enc_encoder.proofs.LeavesLemmas.{leaves_in_mode}
 use Rattle.enc_encoder.specs.Unmappable.{any_unmappable, report_for, reports_of}
 
@@ -115,8 +116,11 @@ pub replaced_is : {units_of : ℕ → List ℕ} {old new : RawEncoderState} {c :
     → c.replaced ≡ any_unmappable old.rule (step_chars call.done)
 replaced_is call is_html = rw is_html at call.flag ∙ any_reported_is (leaves_in_mode call)
 
-or_assoc : (a b c : Bool) → ((a || b) || c) ≡ (a || (b || c))
-or_assoc a b c = elim a as (λ a. ((a || b) || c) ≡ (a || (b || c))) [ true ↦ refl | false ↦ refl ]
+-- where no character is unmappable
+pub none_unmappable : (e : EncoderRule) → MapsEveryCharacter e → (t : List ℕ)
+    → any_unmappable e t ≡ false
+none_unmappable e maps_all [] = refl
+none_unmappable e maps_all (c ∷ t) = rw (maps_all c, none_unmappable e maps_all t) refl
 
 pub any_unmappable-append : (e : EncoderRule) (a b : List ℕ)
     → any_unmappable e (a ++ b) ≡ (any_unmappable e a || any_unmappable e b)

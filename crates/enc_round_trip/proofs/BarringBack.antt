@@ -1,6 +1,6 @@
 -- Text is read back whatever is barred: a text without an unmappable character has none that is
 -- barred.
-use Rattle.std.proofs.Common.{◌≡◌, ℕ, Bool, true, false, is_some, not, ◌||◌, Option, Some, None, List, [], ◌∷◌, ◌++◌}
+use Rattle.std.proofs.Common.{◌≡◌, ℕ, Bool, true, false, is_some, not, ◌||◌, Option, None, List, [], ◌∷◌, ◌++◌}
 use Rattle.std.proofs.Common.{refl, ap, sym, ◌∙◌, if◌then◌else◌}
 use Rattle.enc_encoder.specs.declared.character_set.CharacterSet.{CharacterSet}
 use Rattle.enc_encoder.specs.EncoderRule.{EncoderRule}

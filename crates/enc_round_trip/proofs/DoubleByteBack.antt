@@ -1,5 +1,5 @@
 -- Encodings of one byte and two: a pair is read where its lead leads and its text is found.
-use Rattle.std.proofs.Common.{◌≡◌, ℕ, ◌-◌, ◌<◌, ◌≤◌, Bool, true, false, nat_lt, nat_le, ◌&&◌, Option, Some, None, []}
+use Rattle.std.proofs.Common.{◌≡◌, ℕ, ◌<◌, ◌≤◌, Bool, true, false, nat_lt, nat_le, ◌&&◌, Option, Some, None, []}
 use Rattle.std.proofs.Common.{◌∷◌, ap, ◌∙◌, if◌then◌else◌}
 use Rattle.std.proofs.lemmas.Bool.{lt-ltb, le-leb, cond-true, and_from}
 use Rattle.enc_decoder.specs.declared.byte_codec.Text.{Text}

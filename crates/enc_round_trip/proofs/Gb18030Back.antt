@@ -17,7 +17,6 @@ use Rattle.enc_decoder_multi_byte.specs.MultiByte.{multi_byte_rule}
 use Rattle.enc_decoder_multi_byte.specs.Gb18030 as decoder
 use Rattle.enc_decoder_multi_byte.proofs.MultiByteLemmas.{settled_first, settles_complete}
 use Rattle.enc_decoder_multi_byte.proofs.MultiBytePieces.{complete_one, complete_two}
-use Rattle.enc_encoder.specs.Stateless.{bytes_of_pointer}
 use Rattle.enc_encode.specs.Gb18030.{gb18030_trail_byte, gb18030_pair_bytes, gb18030_four_bytes, two_or_four_bytes}
 use Rattle.enc_encode.specs.PrivateUse.{private_use_rows}
 use Rattle.enc_encode.specs.Gb18030.{row_bytes, row_or_index_bytes, gb18030_other, gb18030_bytes}

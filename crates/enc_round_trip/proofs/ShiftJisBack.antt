@@ -1,5 +1,5 @@
 -- The characters that Shift_JIS gives back.
-use Rattle.std.proofs.Common.{◌≡◌, ℕ, ◌+◌, ◌-◌, ◌*◌, ◌/◌, ◌%◌, ◌<◌, ◌≤◌, Bool, true, false, nat_lt, nat_le, ◌&&◌, ◌||◌}
+use Rattle.std.proofs.Common.{◌≡◌, ℕ, ◌+◌, ◌-◌, ◌*◌, ◌/◌, ◌%◌, ◌<◌, ◌≤◌, Bool, true, false, nat_lt, nat_le, ◌&&◌}
 use Rattle.std.proofs.Common.{◌==◌, Some, List, [], ◌∷◌, refl, ap, sym, ◌∙◌, arith, le-leb, if◌then◌else◌}
 use Rattle.std.proofs.Common.{IfSome, inl, inr}
 use Rattle.std.proofs.lemmas.Bool.{cond-true, cond-false, or_left, or_right, or_from}

@@ -215,7 +215,12 @@ impl Encoder {
         let mode = self.html_mode();
         let mut chars = Utf8Chars::new(src);
         let outcome = encode_in_mode(&mut self.raw, &mut chars, dst, last, mode);
-        (stop(outcome.result), outcome.read, outcome.written, outcome.replaced)
+        (
+            stop(outcome.result),
+            outcome.read,
+            outcome.written,
+            outcome.replaced,
+        )
     }
 
     /// Encodes a chunk of UTF-16, with replacement.
@@ -246,7 +251,12 @@ impl Encoder {
         let mode = self.html_mode();
         let mut units = Utf16Chars::new(src);
         let outcome = encode_in_mode(&mut self.raw, &mut units, dst, last, mode);
-        (stop(outcome.result), outcome.read, outcome.written, outcome.replaced)
+        (
+            stop(outcome.result),
+            outcome.read,
+            outcome.written,
+            outcome.replaced,
+        )
     }
 
     /// Encodes a chunk of text and appends its bytes to a Vec, with replacement.

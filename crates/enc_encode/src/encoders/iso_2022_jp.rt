@@ -261,12 +261,7 @@ impl RawEncoder for Iso2022JpEncoder {
 
     ghost formulas = { λ _. lengths.Iso2022Jp };
 
-    fn encode<C: Chars>(
-        &mut self,
-        src: &mut C,
-        dst: &mut [u8],
-        last: bool,
-    ) -> RawOutcome {
+    fn encode<C: Chars>(&mut self, src: &mut C, dst: &mut [u8], last: bool) -> RawOutcome {
         let set = self.set;
         if self.barred.is_empty() {
             let barred = NoChars;

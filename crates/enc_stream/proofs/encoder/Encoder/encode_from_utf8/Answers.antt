@@ -1,4 +1,4 @@
-use Rattle.std.proofs.Common.{refl, sym, ◌∙◌, ap}
+use Rattle.std.proofs.Common.{◌∙◌, ap}
 use Rattle.enc_encoder.specs.ErrorMode.{mode_of}
 use Rattle.enc_encoder.proofs.NeedInModeLemmas.{goes_on}
 use Rattle.enc_stream.proofs.EncoderLemmas.{html_mode_is, encodes_by, may_keep_none, never_reported}
