@@ -21,7 +21,9 @@ use Rattle.enc_units.specs.Results.{decoder_result_of}
 use Rattle.enc_stream.specs.Decoding.{DecoderState, has_finished, remaining_sequences, DecodesReplacing}
 use Rattle.enc_stream.proofs.WholeEncodingLemmas.{still_ahead}
 use Rattle.enc_stream.proofs.DecoderProgressLemmas.{nearer}
-use Rattle.enc_stream.proofs.EndOfInputLemmas.{finishes, none_left, only_put}
+use Rattle.enc_decoder.specs.CallRecord.{Call}
+use Rattle.enc_stream.proofs.DecoderCallLemmas.{only_put}
+use Rattle.enc_stream.proofs.EndOfInputLemmas.{finishes, none_left}
 use Rattle.enc_stream.proofs.OutputFullLemmas.{four_bytes, some_written}
 use Rattle.enc_units.proofs.UnitsLemmas.{utf_8_determines}
 use Rattle.enc_reader.specs.Source.{ConsumesRemaining}
@@ -172,12 +174,22 @@ module _ (old new : DecoderState) (src : List ℕ) (last : Bool) (room : ℕ) (r
     abbrev after : ReaderState
     after = record { decoder = new; unread = drop read src; ended = last }
 
+    abbrev call : Call
+    call = record {
+      src = src;
+      last = last;
+      mode = Replacement;
+      room = room;
+      result = decoder_result_of result;
+      read = read;
+      wrote = wrote;
+      replaced = replaced;
+    }
+
     comes_nearer : distance_to_end after + min 1 (length wrote) ≤ distance_to_end before + 2 * 0
     comes_nearer = elim (true_or_false (has_finished new)) [
       | inl f ↦ omega (arith, ended_at after f, before_end before going)
-      | inr unfinished ↦ elim (nearer encode_utf8 utf_8_determines 4 four_bytes Replacement old new
-          src last room
-          roomy read wrote replaced (decoder_result_of result) decodes some) [
+      | inr unfinished ↦ elim (nearer four_bytes call roomy decodes some) [
             | inl g ↦ absurd (false≢true (sym unfinished ∙ g))
             | inr l ↦ omega (
               arith,
@@ -192,7 +204,7 @@ module _ (old new : DecoderState) (src : List ℕ) (last : Bool) (room : ℕ) (r
     pub ReadsOwed-call : (known : Option (List ℕ))
         → ReadsOwed known known before after [] wrote replaced
     ReadsOwed-call known =
-        let all_put = only_put old new src last room result read wrote replaced decodes in
+        let all_put = only_put call decodes refl in
         record {
           given = ConsumesRemaining-none known;
           none_after = λ f. (refl, f);
@@ -222,14 +234,21 @@ module _ (old new : DecoderState) (src : List ℕ) (last : Bool) (room : ℕ) (r
           → IsWaiting (record { decoder = new; unread = drop read src; ended = last })
       by_result InputEmpty decodes = record {
         unread = ap (λ n. drop n src) decodes.call.stops.all_read ∙ drop-length src;
-        not_ended = sym (finishes old new src last room InputEmpty read wrote replaced decodes)
-            ∙ going;
+        not_ended = sym (finishes InputEmpty decodes) ∙ going;
         going = going;
       }
       by_result OutputFull decodes =
-          let some = some_written encode_utf8 utf_8_determines Replacement old new src last room
-          read wrote
-          replaced decodes 4 four_bytes roomy in
+          let call : Call = record {
+            src = src;
+            last = last;
+            mode = Replacement;
+            room = room;
+            result = decoder_result_of OutputFull;
+            read = read;
+            wrote = wrote;
+            replaced = replaced;
+          } in
+          let some = some_written four_bytes call roomy decodes in
           absurd (omega (arith, some, ap length none))
 
   -- a turn that decodes
@@ -412,7 +431,6 @@ module _ {old new : DecoderState} {src : List ℕ} {last : Bool} {room read : �
       → has_finished new ≡ true
       → last ≡ true
   only_at_end InputEmpty decodes is_finished =
-      sym (finishes old new src last room InputEmpty read wrote replaced decodes) ∙ is_finished
+      sym (finishes InputEmpty decodes) ∙ is_finished
   only_at_end OutputFull decodes is_finished =
-      absurd (false≢true (sym
-      (finishes old new src last room OutputFull read wrote replaced decodes) ∙ is_finished))
+      absurd (false≢true (sym (finishes OutputFull decodes) ∙ is_finished))

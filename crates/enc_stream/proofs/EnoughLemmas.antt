@@ -63,11 +63,11 @@ summed f n q e = by_test (nat_lt (n + 2) (2 ^ 64)) e
 -- which of the lengths that are enough a query asks
 asked : (q : Query) (f : TextLengths) (v : CodecState) (mode : DecodeErrorMode) → IsForMode q mode
     → AreEnoughForCodec f v → IsEnoughForCodec (query_units q) mode (formula_length q f) v
-asked query.Utf8 f v Replacement a h = h.utf_8
-asked query.Utf8 f v (Fatal keeps) a h = absurd a
-asked query.Utf8Reporting f v Replacement a h = absurd a
-asked query.Utf8Reporting f v (Fatal keeps) a h = h.reporting keeps
-asked query.Utf16 f v mode a h = h.utf_16 mode
+asked query.Utf8 f v Replacement fits_mode enough = enough.utf_8
+asked query.Utf8 f v (Fatal keeps) fits_mode enough = absurd fits_mode
+asked query.Utf8Reporting f v Replacement fits_mode enough = absurd fits_mode
+asked query.Utf8Reporting f v (Fatal keeps) fits_mode enough = enough.reporting keeps
+asked query.Utf16 f v mode fits_mode enough = enough.utf_16 mode
 
 -- The first sequences of a codec need no more than its formula gives, for as many bytes or more.
 module _ (q : Query) (mode : DecodeErrorMode) (asks : IsForMode q mode) (front : List Sequence)
@@ -78,14 +78,14 @@ module _ (q : Query) (mode : DecodeErrorMode) (asks : IsForMode q mode) (front :
         → formula_length q f m k ≡ Some answer
         → AreFirstSequences front (sequences_of w.rule w.set (w.pending ++ src))
         → answer < needed_units (query_units q) mode front → ⊥
-    never_more f w h src a m k answer l s e b p =
-        let fewer = no_more q f (length src) (length w.pending) m k l s answer e in
-        asked q f w mode asks h src true fewer.0 a fewer.1
-        (record { sequences = front; determined = b; more = omega (arith, fewer.2, p) })
+    never_more f w enough src bytes m k answer fits sum_fits answer_is first passes =
+        let fewer = no_more q f (length src) (length w.pending) m k fits sum_fits answer answer_is in
+        asked q f w mode asks enough src true fewer.0 bytes fewer.1
+        (record { sequences = front; determined = first; more = omega (arith, fewer.2, passes) })
 
     less_needed : (few answer : ℕ) → few ≤ answer → answer < needed_units (query_units q) mode front
         → few < needed_units (query_units q) mode front
-    less_needed few answer l p = omega (arith, l, p)
+    less_needed few answer at_most passes = omega (arith, at_most, passes)
 
 none_begins : (front : List Sequence) → AreFirstSequences front [] → front ≡ []
 none_begins [] b = refl
@@ -106,26 +106,26 @@ module _ (q : Query) (mode : DecodeErrorMode) (asks : IsForMode q mode) (e : Enc
   own_text : (bytes : List ℕ) → AreBytes bytes → (n few : ℕ) → length bytes ≤ n → few ≤ answer
       → idle_length q formulas n ≡ Some few
       → AreFirstSequences front (sequences_of (rule_of e) 0 bytes) → ⊥
-  own_text bytes a n few fits t f b =
+  own_text bytes are_bytes n few fits at_most few_is first =
       never_more q mode asks front formulas (initial_state (rule_of e))
-      (laws_of e).enough bytes a n 0
-      few fits (omega (arith, fits)) f b
-      (less_needed q mode asks front few answer t passes)
+      (laws_of e).enough bytes are_bytes n 0
+      few fits (omega (arith, fits)) few_is first
+      (less_needed q mode asks front few answer at_most passes)
 
   marked_text : (m : Mark) (bytes : List ℕ) → AreBytes bytes → (n few : ℕ) → length bytes ≤ n
       → few ≤ answer
       → idle_length q (codec_lengths (codec_by_id m.encoding.id)) n ≡ Some few
       → AreFirstSequences front (sequences_of (rule_of m.encoding) 0 (drop (length m.bytes) bytes))
       → ⊥
-  marked_text m bytes a n few fits t f b =
+  marked_text m bytes are_bytes n few fits at_most few_is first =
       let dropped = length-drop (length m.bytes) bytes in
       never_more q mode asks front (codec_lengths (codec_by_id m.encoding.id))
       (initial_state (rule_of m.encoding))
       (laws_of m.encoding).enough
-      (drop (length m.bytes) bytes) (bytes-drop (length m.bytes) bytes a) n 0 few
+      (drop (length m.bytes) bytes) (bytes-drop (length m.bytes) bytes are_bytes) n 0 few
       (omega (arith, fits, dropped))
-      (omega (arith, fits, dropped)) f b
-      (less_needed q mode asks front few answer t passes)
+      (omega (arith, fits, dropped)) few_is first
+      (less_needed q mode asks front few answer at_most passes)
 
   -- where byte order marks are looked for, or this one may still come
   abbrev AfterMark : List ℕ → Mark → Type 0
@@ -195,17 +195,17 @@ module _ (q : Query) (mode : DecodeErrorMode) (asks : IsForMode q mode) (e : Enc
       → length_at (length_with_mark q lengths formulas) (checked_add (Some (length src)) 2)
       ≡ Some answer
       → AreFirstSequences front (sequences_by_mark (cond t (Some m) None) e (held ++ src)) → ⊥
-  seen m lengths k t held src at_most_two are_bytes f =
+  seen m lengths lengths_are is_marked held src at_most_two are_bytes length_is =
       let size = length-append held src in
       let of_two =
       greater_of (idle_length q lengths (length src + 2)) (idle_length q formulas (length src + 2))
       answer
-      (summed (length_with_mark q lengths formulas) (length src) answer f) in
-      one_mark t m (held ++ src) (own_text (held ++ src) are_bytes (length src + 2) of_two.1
+      (summed (length_with_mark q lengths formulas) (length src) answer length_is) in
+      one_mark is_marked m (held ++ src) (own_text (held ++ src) are_bytes (length src + 2) of_two.1
       (omega (arith, at_most_two, size)) of_two.5 of_two.3)
       (marked_text m (held ++ src) are_bytes (length src + 2) of_two.0
       (omega (arith, at_most_two, size)) of_two.4
-      (ap (λ x. idle_length q x (length src + 2)) k ∙ of_two.2))
+      (ap (λ x. idle_length q x (length src + 2)) lengths_are ∙ of_two.2))
 
   -- what a codec has pending, and a BB
   module _ (v : CodecState) (rule : rule_of e ≡ v.rule) (enough : AreEnoughForCodec formulas v)
@@ -213,45 +213,45 @@ module _ (q : Query) (mode : DecodeErrorMode) (asks : IsForMode q mode) (e : Enc
       converting : (src : List ℕ) → AreBytes src
           → formula_length q formulas (length src) (length v.pending) ≡ Some answer
           → AreFirstSequences front (sequences_of (rule_of e) v.set (v.pending ++ src)) → ⊥
-      converting src a f b =
-          never_more q mode asks front formulas v enough src a (length src) (length v.pending)
+      converting src are_bytes length_is first =
+          never_more q mode asks front formulas v enough src are_bytes (length src) (length v.pending)
           answer
           (omega arith)
-          (omega arith) f
+          (omega arith) length_is
           (subst (λ (r : Rule). AreFirstSequences front (sequences_of r v.set (v.pending ++ src)))
-          rule b) passes
+          rule first) passes
 
       with_bb : (src : List ℕ) → AreBytes src
           → length_at (idle_length q formulas) (checked_add (Some (length src)) 2) ≡ Some answer
           → (v.pending ≡ []) ⊎ (v.pending ≡ 0xBB ∷ [])
           → AreFirstSequences front (sequences_of (rule_of e) v.set (0xBB ∷ src)) → ⊥
-      with_bb src a f (inl none_pending) b =
-          never_more q mode asks front formulas v enough (0xBB ∷ src) (omega arith, a)
+      with_bb src are_bytes length_is (inl none_pending) first =
+          never_more q mode asks front formulas v enough (0xBB ∷ src) (omega arith, are_bytes)
           (length src + 2) 0 answer
           (omega arith) (omega (arith, ap length none_pending))
-          (summed (idle_length q formulas) (length src) answer f)
+          (summed (idle_length q formulas) (length src) answer length_is)
           (subst (λ (x : List ℕ). AreFirstSequences front
           (sequences_of v.rule v.set (x ++ 0xBB ∷ src)))
           (sym none_pending) (subst
           (λ (r : Rule). AreFirstSequences front (sequences_of r v.set (0xBB ∷ src))) rule
-          b)) passes
-      with_bb src a f (inr pending_is_bb) b =
-          never_more q mode asks front formulas v enough src a (length src + 2) 0 answer
+          first)) passes
+      with_bb src are_bytes length_is (inr pending_is_bb) first =
+          never_more q mode asks front formulas v enough src are_bytes (length src + 2) 0 answer
           (omega arith)
           (omega (arith, ap length pending_is_bb))
-          (summed (idle_length q formulas) (length src) answer f)
+          (summed (idle_length q formulas) (length src) answer length_is)
           (subst (λ (x : List ℕ). AreFirstSequences front (sequences_of v.rule v.set (x ++ src)))
           (sym pending_is_bb)
           (subst (λ (r : Rule). AreFirstSequences front (sequences_of r v.set (0xBB ∷ src))) rule
-          b))
+          first))
           passes
 
 bb_pending : (pending : List ℕ) → held_or_pending_bytes (0xBB ∷ []) pending ≡ pending
     ++ unread_bytes ConvertingWithPendingBb (length pending) → (pending ≡ [])
     ⊎ (pending ≡ 0xBB ∷ [])
-bb_pending [] h = inl refl
-bb_pending (c ∷ z) h =
-    inr (sym (h ∙ ap (λ y. (c ∷ z) ++ y) (none_unread ConvertingWithPendingBb (length (c ∷ z)) (omega arith))
+bb_pending [] held = inl refl
+bb_pending (c ∷ z) held =
+    inr (sym (held ∙ ap (λ y. (c ∷ z) ++ y) (none_unread ConvertingWithPendingBb (length (c ∷ z)) (omega arith))
     ∙ append-nil (c ∷ z)))
 
 -- The length that a query answers is enough, by the state of the life cycle.

@@ -26,17 +26,17 @@ use Rattle.enc_stream.specs.MarkLaws.{IsProperPrefix, MayBeginMark, bytes_after_
 -- bytes that are no proper prefix of p decide whether p is in front
 pub same_start : (p x y : List ℕ) → (IsProperPrefix x p → ⊥)
     → starts_with nat_eq (x ++ y) p ≡ starts_with nat_eq x p
-same_start [] x y n = refl
-same_start (a ∷ p) [] y n = absurd (n (a, p, refl))
-same_start (a ∷ p) (b ∷ x) y n = elim (true_or_false (eqb a b)) [
+same_start [] x y no_prefix = refl
+same_start (a ∷ p) [] y no_prefix = absurd (no_prefix (a, p, refl))
+same_start (a ∷ p) (b ∷ x) y no_prefix = elim (true_or_false (eqb a b)) [
   | inl same_byte ↦ rw same_byte
-      (same_start p x y (λ is_prefix. n (
+      (same_start p x y (λ is_prefix. no_prefix (
         is_prefix.0,
         is_prefix.1,
         (let rest_is : p ≡ x ++ is_prefix.0 ∷ is_prefix.1 = is_prefix.2 in
             let same : a ≡ b = eqb-true a b same_byte in cc),
       )))
-  | inr f ↦ rw f refl
+  | inr differs ↦ rw differs refl
 ]
 
 -- and so which of these marks is
@@ -63,8 +63,8 @@ pub same_sequences : (looked_for : List Mark) (e : Encoding) (x z : List ℕ)
     → sequences_by_mark (find_mark looked_for (x ++ z)) e (x ++ z)
     ≡ sequences_of (rule_of (encoding_of_mark_or (find_mark looked_for x) e)) 0
     (bytes_after_mark (find_mark looked_for x) x ++ z)
-same_sequences looked_for e x z n =
-    ap (λ found. sequences_by_mark found e (x ++ z)) (mark_is_decided looked_for x z n)
+same_sequences looked_for e x z decided =
+    ap (λ found. sequences_by_mark found e (x ++ z)) (mark_is_decided looked_for x z decided)
     ∙ sequences_after_mark (find_mark looked_for x) e x z (found_fits looked_for x)
 
 -- Each of these marks is made of bytes, and is found where it stands alone.
@@ -96,8 +96,8 @@ found_looked_for Sniff e = found_all
 found_looked_for Remove e = found_own e.id
 
 bytes_after : (x y : List ℕ) → AreBytes (x ++ y) → AreBytes y
-bytes_after [] y b = b
-bytes_after (a ∷ x) y b = bytes_after x y b.1
+bytes_after [] y are_bytes = are_bytes
+bytes_after (a ∷ x) y are_bytes = bytes_after x y are_bytes.1
 
 pub none_begun : (all : List Sequence) (s : Sequence) (ss : List Sequence) → all ≡ []
     → AreFirstSequences (s ∷ ss) all → ⊥
@@ -118,29 +118,29 @@ pub undetermined_in : (all looked_for : List Mark) (e : Encoding) (x : List ℕ)
     → MayBeginMark looked_for x
     → Determines (λ bytes. sequences_by_mark (find_mark all bytes) e bytes) x (s ∷ ss) → ⊥
 unfolding AreFound
-undetermined_in all [] e x s ss are_found i d = i
-undetermined_in all (m ∷ others) e x s ss are_found (inl is_prefix) d =
+undetermined_in all [] e x s ss are_found may_begin determines = may_begin
+undetermined_in all (m ∷ others) e x s ss are_found (inl is_prefix) determines =
     let more : List ℕ = is_prefix.0 ∷ is_prefix.1 in
     let whole : m.bytes ≡ x ++ more = is_prefix.2 in
     none_begun _ s ss
     (ap (λ t. sequences_by_mark (find_mark all t) e t) (sym whole)
     ∙ no_sequences all m e are_found.1)
-    (d more (bytes_after x more (subst AreBytes whole are_found.0)))
-undetermined_in all (m ∷ others) e x s ss are_found (inr i) d =
-    undetermined_in all others e x s ss are_found.2 i d
+    (determines more (bytes_after x more (subst AreBytes whole are_found.0)))
+undetermined_in all (m ∷ others) e x s ss are_found (inr may_begin) determines =
+    undetermined_in all others e x s ss are_found.2 may_begin determines
 
 pub undetermined : (handling : BomHandling) (e : Encoding) (x : List ℕ) (s : Sequence)
     (ss : List Sequence)
     → MayBeginMark (marks_looked_for handling e) x
     → Determines (whole_sequences handling e) x (s ∷ ss) → ⊥
-undetermined handling e x s ss i d =
+undetermined handling e x s ss may_begin determines =
     undetermined_in (marks_looked_for handling e) (marks_looked_for handling e) e x s ss
-    (found_looked_for handling e) i d
+    (found_looked_for handling e) may_begin determines
 
 -- what some sequences determine others do, where they are the same whatever follows
 determines_as : (left right : List ℕ → List Sequence) (x y : List ℕ) (ss : List Sequence)
     → ((z : List ℕ) → left (x ++ z) ≡ right (y ++ z)) → Determines left x ss → Determines right y ss
-determines_as left right x y ss same d = λ z b. let determined = d z b in
+determines_as left right x y ss same determines = λ z are_bytes. let determined = determines z are_bytes in
     (determined.0, sym (same z) ∙ determined.1)
 
 -- Once the mark in front is decided, the bytes after it determine the same, both ways.
@@ -151,10 +151,10 @@ pub by_rule : (handling : BomHandling) (e : Encoding) (x : List ℕ) (ss : List 
     → Determines (whole_sequences handling e) x ss
     ↔ Determines (sequences_of (rule_of (encoding_of_mark_or found e)) 0) (bytes_after_mark found x)
     ss
-by_rule handling e x ss found is n =
+by_rule handling e x ss found found_is decided =
     let same : (z : List ℕ) → whole_sequences handling e (x ++ z)
     ≡ sequences_of (rule_of (encoding_of_mark_or found e)) 0 (bytes_after_mark found x ++ z) =
-    rw is (λ z. same_sequences (marks_looked_for handling e) e x z n) in (
+    rw found_is (λ z. same_sequences (marks_looked_for handling e) e x z decided) in (
       determines_as (whole_sequences handling e)
           (sequences_of (rule_of (encoding_of_mark_or found e)) 0) x
           (bytes_after_mark found x) ss same,

@@ -26,34 +26,30 @@ use Rattle.enc_stream.specs.Need.{EncodesByNeed, IsEnoughForEncoding, IsEnoughIf
 
 -- a call that reports unmappable characters meets its need
 
-pub by_need : {units_of : ℕ → List ℕ} {old new : EncoderState} {src : List ℕ} {last : Bool}
-    {room : ℕ}
-    {result : EncoderResult} {read : ℕ} {wrote : List ℕ} {replaced : Bool}
+pub by_need : {units_of : ℕ → List ℕ} {wrote : List ℕ} {written : ℕ} → length wrote ≡ written
+    → {old new : EncoderState} {src : List ℕ} {last : Bool} {room : ℕ} {result : EncoderResult}
+    {read : ℕ} {replaced : Bool}
     → EncodesChunk units_of Fatal old new src last room result read wrote replaced
-    → EncodesByNeed units_of old new src last room result read (length wrote)
-by_need {units_of} {old} {new} {src} {last} {room} {result} {read} {wrote} {replaced} encodes =
-    record {
+    → EncodesByNeed units_of old new src last room result read written
+by_need {units_of} {wrote} count {old} {new} {src} {last} {room} {result} {read} {replaced}
+    encodes =
+    rw (← count) (record {
       front = step_chars encodes.call.done;
       rest = encodes.rest;
       parts = encodes.call.reads;
       units = encodes.call.units;
       meets =
           reporting_meets_need units_of (raw_state old) (raw_state new) src encodes.rest last room
-          result read wrote
-          replaced encodes.call;
-    }
+          result read wrote replaced encodes.call;
+    })
 
-pub into_by_need : {units_of : ℕ → List ℕ} {old new : EncoderState} {src : List ℕ} {last : Bool}
-    {before after : List ℕ} {result : EncoderResult} {read written : ℕ} {replaced : Bool}
-    → written ≤ length after
+pub into_by_need : {units_of : ℕ → List ℕ} {after : List ℕ} {written : ℕ} → written ≤ length after
+    → {old new : EncoderState} {src : List ℕ} {last : Bool} {before : List ℕ}
+    {result : EncoderResult} {read : ℕ} {replaced : Bool}
     → EncodesInto units_of Fatal old new src last before after result read written replaced
     → EncodesByNeed units_of old new src last (length before) result read written
-into_by_need {units_of} {old} {new} {src} {last} {before} {after} {result} {read} {written} fits
-    made =
-    let count : length (take written after) ≡ written =
-    omega (arith, fits, length-take written after) in
-    subst (λ (n : ℕ). EncodesByNeed units_of old new src last (length before) result read n) count
-    (by_need made.encodes)
+into_by_need {after = after} {written} fits made =
+    by_need (omega (arith, fits, length-take written after)) made.encodes
 
 -- the length that a query answers is enough for its calls
 

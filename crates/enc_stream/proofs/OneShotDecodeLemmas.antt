@@ -40,13 +40,13 @@ use Rattle.enc_stream.proofs.DecoderCallLemmas.{Decodes, only_put, finished_by}
 use Rattle.enc_stream.proofs.EndOfInputLemmas.{fresh_sequences, finishes, whole_text, whole_flag}
 
 pub nothing : (bytes : List ℕ) → true ≡ (length bytes == 0) → bytes ≡ []
-nothing [] h = refl
-nothing (b ∷ bytes) h =
+nothing [] is_empty = refl
+nothing (b ∷ bytes) is_empty =
     let has_no_length : length (b ∷ bytes) ≡ 0 = grind (arith, nat_tests) in
     absurd (omega (arith, has_no_length))
 
 pub something : {bytes : List ℕ} → false ≡ (length bytes == 0) → bytes ≢ []
-something h none = true≢false (sym (h ∙ ap (λ (bytes : List ℕ). length bytes == 0) none))
+something is_empty none = true≢false (sym (is_empty ∙ ap (λ (bytes : List ℕ). length bytes == 0) none))
 
 -- an empty input has no sequence
 
@@ -58,10 +58,10 @@ removal_none _ = refl
 
 pub none_whole : (handling : BomHandling) (e : Encoding) (bytes : List ℕ) → bytes ≡ []
     → whole_sequences handling e bytes ≡ []
-none_whole Off e bytes h = ap (whole_sequences Off e) h ∙ sequences_of-nil (rule_of e) 0
-none_whole Sniff e bytes h = ap (whole_sequences Sniff e) h ∙ sequences_of-nil (rule_of e) 0
-none_whole Remove e bytes h =
-    ap (whole_sequences Remove e) h
+none_whole Off e bytes is_empty = ap (whole_sequences Off e) is_empty ∙ sequences_of-nil (rule_of e) 0
+none_whole Sniff e bytes is_empty = ap (whole_sequences Sniff e) is_empty ∙ sequences_of-nil (rule_of e) 0
+none_whole Remove e bytes is_empty =
+    ap (whole_sequences Remove e) is_empty
     ∙ ap (λ (m : Option Mark). sequences_by_mark m e []) (removal_none e.id)
     ∙ sequences_of-nil (rule_of e) 0
 
@@ -274,37 +274,37 @@ encoding_and_length m = (m.encoding, length m.bytes)
 
 pub encoding_by_mark : (found : Option Mark) (e other : Encoding) (n : ℕ)
     → option_map encoding_and_length found ≡ Some (other, n) → other ≡ encoding_of_mark_or found e
-encoding_by_mark None e other n h = cc
-encoding_by_mark (Some m) e other n h =
+encoding_by_mark None e other n bom_is = cc
+encoding_by_mark (Some m) e other n bom_is =
     let pair_is : encoding_and_length m ≡ (other, n) = cc in
     sym (ap (λ (p : Encoding × ℕ). p.0) pair_is)
 
 pub encoding_without_mark : (found : Option Mark) (e : Encoding)
     → option_map encoding_and_length found ≡ None
     → e ≡ encoding_of_mark_or found e
-encoding_without_mark None e h = refl
-encoding_without_mark (Some m) e h = cc
+encoding_without_mark None e none = refl
+encoding_without_mark (Some m) e none = cc
 
 -- calls that report malformed sequences
 
 strict_if : (malformed : Bool) (text : List ℕ) → malformed ≡ false
     → Some text ≡ (if malformed then None else Some text)
-strict_if true text h = absurd (true≢false h)
-strict_if false text h = refl
+strict_if true text is_malformed_now = absurd (true≢false is_malformed_now)
+strict_if false text is_malformed_now = refl
 
 none_if : (malformed : Bool) (text : List ℕ) → malformed ≡ true
     → None ≡ (if malformed then None else Some text)
-none_if true text h = refl
-none_if false text h = absurd (true≢false (sym h))
+none_if true text is_malformed_now = refl
+none_if false text is_malformed_now = absurd (true≢false (sym is_malformed_now))
 
 pub none_strict : (e : Encoding) (bytes : List ℕ) → bytes ≡ []
     → Some [] ≡ utf_8_without_replacement e bytes
-none_strict e bytes h = ap (λ ss. if any_malformed ss then None else Some (units_of_text encode_utf8
-    (sequence_text ss))) (sym (none_whole Off e bytes h))
+none_strict e bytes is_empty = ap (λ ss. if any_malformed ss then None else Some (units_of_text encode_utf8
+    (sequence_text ss))) (sym (none_whole Off e bytes is_empty))
 
 pub strict_none : (e : Encoding) (bytes : List ℕ) → whole_malformed Off e bytes ≡ true
     → None ≡ utf_8_without_replacement e bytes
-strict_none e bytes h = none_if (whole_malformed Off e bytes) (whole_utf_8 Off e bytes) h
+strict_none e bytes is_malformed_now = none_if (whole_malformed Off e bytes) (whole_utf_8 Off e bytes) is_malformed_now
 
 pub strict_text : {e : Encoding} {bytes unread : List ℕ} {state : DecoderState} {text : List ℕ}
     → HasDecoded Off e bytes unread true state text false → has_finished state ≡ true

@@ -211,7 +211,7 @@ module _ {e : Encoding} {text rest : List ℕ} {old new : EncoderState} {before 
 
   -- and that is
   none_unread : result ≡ InputEmpty → [] ≡ encodes.rest
-  none_unread = all_read old new (chars rest) true room result read wrote replaced encodes
+  none_unread at_end = all_read result at_end encodes
 
   pub written_all : {after : List ℕ} → wrote ≡ drop (length before) after
       → take (length before) after ≡ before

@@ -66,15 +66,15 @@ none_left : (v : RawEncoderState) (rest : List ℕ) (last : Bool) → is_nothing
 none_left v [] last h = refl
 none_left v (c ∷ rest) last h = cc
 
-pub all_read : (old new : EncoderState) (text : List ℕ) (last : Bool) (room : ℕ)
-    (result : CoderResult) (read : ℕ)
-    (wrote : List ℕ) (replaced : Bool)
+pub all_read : (result : CoderResult) → result ≡ InputEmpty
+    → {old new : EncoderState} {text : List ℕ} {last : Bool} {room read : ℕ} {wrote : List ℕ}
+    {replaced : Bool}
     (encodes : EncodesChunk encode_utf8 (html_mode old) old new text last room
-    (encoder_result_of result) read wrote
-    replaced) → result ≡ InputEmpty → [] ≡ encodes.rest
-all_read old new text last room InputEmpty read wrote replaced encodes at_end =
+    (encoder_result_of result) read wrote replaced)
+    → [] ≡ encodes.rest
+all_read InputEmpty at_end {new = new} {last = last} encodes =
     none_left (raw_state new) encodes.rest last encodes.call.stops
-all_read old new text last room OutputFull read wrote replaced encodes at_end = cc
+all_read OutputFull at_end encodes = cc
 
 -- A call reads UTF-8 up to a boundary between two characters.
 pub ends_between : {text : List ℕ} → IsUtf8 text

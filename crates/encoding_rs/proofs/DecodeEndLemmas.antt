@@ -40,11 +40,16 @@ one_nearer bytes call a b within can_go_on advances =
     let size = length-take call.offer unread in
     let rest = length-drop a.read bytes in (
       omega (arith, within, advances.read, in_offer, size, rest),
-      elim (nearer (units_of_call call.utf16) (determined_by call.utf16) (most_units call.utf16)
-          (small_by call.utf16) (decode_error_mode call.replace) a.decoder b.decoder chunk
-          (nat_le (length unread) call.offer)
-          call.room can_go_on.roomy advances.more _ advances.replaced advances.result decodes
-          (λ e. let more_than_offered = beyond (length unread) call.offer e in
+      elim (nearer (small_by call.utf16) (record {
+        src = chunk;
+        last = nat_le (length unread) call.offer;
+        mode = decode_error_mode call.replace;
+        room = call.room;
+        result = advances.result;
+        read = advances.more;
+        wrote = _;
+        replaced = advances.replaced;
+      }) can_go_on.roomy decodes (λ e. let more_than_offered = beyond (length unread) call.offer e in
           omega (arith, more_than_offered, size, can_go_on.offered))) [
             | inl f ↦ inl f
             | inr l ↦ inr (omega (arith, l, in_offer, size, rest, advances.read, within))

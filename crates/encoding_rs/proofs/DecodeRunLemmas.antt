@@ -209,9 +209,16 @@ module _ (bytes : List ℕ) (read : ℕ) (inside : read ≤ length bytes) {made 
   pub all_read : has_finished new ≡ true → read + more ≡ length bytes
   all_read h =
       let ends =
-      ends_read (units_of_call made.utf16) (decode_error_mode made.replace) old new chunk last
-      made.room result more
-      (units_of_text (units_of_call made.utf16) makes.answers.text) replaced decodes h in
+      ends_read (record {
+        src = chunk;
+        last = last;
+        mode = decode_error_mode made.replace;
+        room = made.room;
+        result = result;
+        read = more;
+        wrote = units_of_text (units_of_call made.utf16) makes.answers.text;
+        replaced = replaced;
+      }) decodes h in
       let all_offered = reaches (length unread) made.offer ends.0 in
       let chunk_read = ends.1 in
       let chunk_len = length-take made.offer unread in

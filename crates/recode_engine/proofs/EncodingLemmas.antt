@@ -259,10 +259,7 @@ module _ {a b c : EncoderState} {text : List ℕ} {last : Bool} {k₀ k₁ : Opt
     pub HasEncoded-last : result ≡ InputEmpty → AppendsContents k₁ k₂ (take written after)
         → HasEncoded a c text [] last k₀ k₂ (r₁ || r₂)
     HasEncoded-last e t =
-        taken_all [] (all_read b c (chars rest) last (length before) result read
-        (take written after) r₂
-        this_call.encodes
-        e) t
+        taken_all [] (all_read result e this_call.encodes) t
 
     -- or are taken in part
     pub StopsWithin-encoding : AppendsPrefix k₁ k₂ (take written after)

@@ -1,4 +1,4 @@
-use Rattle.std.proofs.Common.{◌≡◌, ◌≤◌, ◌+◌, ◌∙◌, ap, length, take, drop, rules}
+use Rattle.std.proofs.Common.{◌≡◌, ◌≤◌, ◌+◌, ◌∙◌, ap, length, take, drop, rules, refl}
 use Rattle.enc_stream.proofs.EncoderLemmas.{in_tail, tail_of}
 use Rattle.enc_stream.proofs.NeedLemmas.{by_need}
 use Rattle.enc_stream.proofs.encoder.Encoder.encode_from_utf8_to_vec_without_replacement.Goals as goal
@@ -16,4 +16,4 @@ returns-clause-call c =
     made.ensures.call.encodes
 
 pub returns-clause-need : goal.returns-clause-need
-returns-clause-need c = by_need (returns-clause-call c)
+returns-clause-need c = by_need refl (returns-clause-call c)
