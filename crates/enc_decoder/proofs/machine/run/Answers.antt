@@ -29,7 +29,8 @@ loop-state-preserved-in-HoldsByte g c =
       progress = holds g.C.ByteCodec.state c.take_run-taken.result.0 progress.reaches
           c.in-HoldsByte.ensures;
       rule = holds_rule _ _ _ c.in-HoldsByte.ensures.1.0
-          ∙ ap (λ (s : CodecState). s.rule) c.take_run-taken.ensures.run.next_state ∙ c.loop-state.invariant.rule;
+          ∙ ap (λ (s : CodecState). s.rule) c.take_run-taken.ensures.run.next_state
+          ∙ c.loop-state.invariant.rule;
     }
 
 pub returns-then-is_reported-clause-call : goal.returns-then-is_reported-clause-call
@@ -77,14 +78,16 @@ loop-state-preserved g c =
             fits written)
       ];
       rule = c.in-Emits.ensures.0.same_rule
-          ∙ ap (λ (s : CodecState). s.rule) c.take_run-taken.ensures.run.next_state ∙ c.loop-state.invariant.rule;
+          ∙ ap (λ (s : CodecState). s.rule) c.take_run-taken.ensures.run.next_state
+          ∙ c.loop-state.invariant.rule;
     }
 
 pub loop-state-smaller : goal.loop-state-smaller
 loop-state-smaller g c =
     let progress = after_run g.C.ByteCodec.state _ c.loop-state.invariant.progress.reaches
     c.split_at.ensures.back c.take_run-taken.ensures in
-    let same_pending = ap (λ (s : CodecState). length s.pending) c.take_run-taken.ensures.run.next_state in
+    let next_state = c.take_run-taken.ensures.run.next_state in
+    let same_pending = ap (λ (s : CodecState). length s.pending) next_state in
     let within = progress.reaches.leaves.within in
     elim c.if-shown.branch [
       | then-shown shown ↦
