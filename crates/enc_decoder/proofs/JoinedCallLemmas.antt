@@ -11,7 +11,7 @@ use Rattle.enc_units.specs.Output.{Output, with_appended}
 use Rattle.enc_decoder.specs.Sequence.{Sequence, sequence_bytes, is_repeated_escape}
 use Rattle.enc_decoder.specs.Remainder.{Remainder, AreBytes, Determines, AreDetermined}
 use Rattle.enc_decoder.specs.Call.{DecoderCallInto, DecoderStops, ReadsToReported}
-use Rattle.enc_decoder.specs.CallRecord.{Call, CallInto, IsCall, IsCallInto}
+use Rattle.enc_decoder.specs.CallRecord.{Call, CallInto, IsCall, IsCallInto, call_writing}
 use Rattle.enc_decoder.specs.Converting.{PrefixedCallInto}
 use Rattle.enc_decoder.proofs.ByteLemmas.{bytes-append, determines_by_more}
 use Rattle.enc_decoder.proofs.StageLemmas.{reports_in}
@@ -190,16 +190,7 @@ pub stops_in_held : {units_of : ℕ → List ℕ} {old new : Remainder} {c : Cal
     })
 stops_in_held {units_of} {old} {new} {c} src {last} bytes also stopped not_last given =
     let call = subst (λ l. IsCallInto units_of old new (record c { last = l })) not_last given in
-    let held_call : Call = record {
-      src = c.src;
-      last = false;
-      mode = c.mode;
-      room = c.before.room;
-      result = c.result;
-      read = c.read;
-      wrote = call.wrote;
-      replaced = c.replaced;
-    } in
+    let held_call : Call = call_writing c call.wrote in
     let still = stops_within held_call src last bytes also call.call.call stopped in
     let all_read : c.read ≡ length c.src - (length c.src - c.read) + 0 =
     omega (arith, call.call.call.within) in
@@ -235,16 +226,7 @@ joins {held = held} {before} {given} {had} {c} bytes also first second =
       wrote = first.wrote;
       replaced = had;
     } in
-    let next_call : Call = record {
-      src = c.src;
-      last = c.last;
-      mode = c.mode;
-      room = c.before.room;
-      result = c.result;
-      read = c.read;
-      wrote = second.wrote;
-      replaced = c.replaced;
-    } in
+    let next_call : Call = call_writing c second.wrote in
     let all_read = first.call.call.stops.all_read in
     let both = two_calls {first = held_call} {second = next_call} bytes also (record {
       src = ap (λ x. x ++ c.src) (sym (drop_of_length-le held (omega (arith, all_read))));

@@ -39,7 +39,7 @@ pub record Leaves (old mid : Remainder) (stage : Stage) : Type 0 where
       ⊎ ((s : Sequence)
       → Determines old.sequences (take stage.read stage.src) (stage.done ++ s ∷ []) → ⊥)
 
--- the same for the bytes read: they are those of the sequences done and those pending
+-- the bytes read are those of the sequences done and those pending
 abbrev pub AreAccounted : Remainder → Remainder → Stage → Type 0
 AreAccounted old mid stage =
     old.pending ++ take stage.read stage.src ≡ sequence_bytes stage.done ++ mid.pending

@@ -17,7 +17,9 @@ use Rattle.enc_decoder.specs.Call.{RawDecoderCall, DecoderCallInto, is_replaceme
 use Rattle.enc_decoder.proofs.SequenceLemmas.{or_false}
 use Rattle.enc_decoder.proofs.StageLemmas.{Stage, reports_in, nothing_written}
 use Rattle.enc_decoder.proofs.InnerCallLemmas.{reports_escape}
-use Rattle.enc_decoder.proofs.StateLeavesLemmas.{LeadsOn}
+use Rattle.enc_decoder.proofs.StateLeavesLemmas.{LeadsOn, unread}
+use Rattle.enc_decoder.specs.Taking.{TakesRun}
+use Rattle.enc_decoder.proofs.TakenRunLemmas.{past_run}
 use Rattle.enc_decoder.proofs.LeavesLemmas.{call_at}
 use Rattle.enc_decoder.proofs.OutputStageLemmas.{Reaches, Progress, progress_at, room_at, call_into, reaches_state}
 use Rattle.enc_decoder.proofs.FirstSequenceLemmas.{true_or_false}
@@ -53,6 +55,15 @@ module _ {units_of : ℕ → List ℕ} {old now : Remainder} {before at : Output
 module _ {C : Type 0} {units_of : ℕ → List ℕ} (state : C → CodecState) {old : Remainder} (c : C)
     {before at : Output} {stage : Stage}
     (reaches : Reaches units_of old (remainder_of (state c)) before at stage) where
+  -- a run is taken
+  pub after_run : {n : C} {then : Output} {took : ℕ} {rest : List ℕ} → rest ≡ unread stage
+      → TakesRun units_of state c n rest took at then
+      → Progress units_of old (remainder_of (state n)) stage.src stage.last stage.mode before then
+      (stage.read + took) stage.replaced
+  after_run {n} {then} {took} is_rest given =
+      let run = subst (λ x. TakesRun units_of state c n x took at then) is_rest given in
+      past_run reaches run.run run.none_malformed
+
   pub stays : IsNextEvent state c stage.src stage.read stage.last NeedsInput
       → DecoderCallInto units_of old (remainder_of (state c)) stage.src stage.last stage.mode before
       at InputEmpty stage.read stage.replaced

@@ -15,7 +15,7 @@ use Rattle.enc_decoder.specs.Call.{DecodeErrorMode, Replacement, Fatal, is_repla
 use Rattle.enc_decoder.specs.Call.{DecoderStops}
 use Rattle.enc_decoder.specs.Need.{sequences_before_malformed, needed_sequences, needed_units, NeedExceeds, kept_room}
 use Rattle.enc_decoder.specs.Need.{MeetsDecodeNeed, MeetsDecodeNeedInto}
-use Rattle.enc_decoder.specs.CallRecord.{Call, CallInto, IsCall, IsCallInto}
+use Rattle.enc_decoder.specs.CallRecord.{Call, CallInto, IsCall, IsCallInto, call_writing}
 use Rattle.enc_decoder.proofs.SequenceLemmas.{units-append}
 use Rattle.enc_decoder.proofs.DeterminedLemmas.{determines_fewer, determined_at, LeavesOff, determined_after}
 use Rattle.enc_decoder.proofs.DeterminedLemmas.{determined_past}
@@ -363,13 +363,4 @@ pub meets_into : {units_of : ℕ → List ℕ} {old new : Remainder} {c : CallIn
 meets_into {units_of} {old} {new} {c} into =
     subst (MeetsDecodeNeed units_of c.mode old new c.src c.last c.before.room c.result c.read)
     (omega (arith, into.call.call.fits, ap (λ (o : Output). o.room) into.onto))
-    (meets_need (record {
-      src = c.src;
-      last = c.last;
-      mode = c.mode;
-      room = c.before.room;
-      result = c.result;
-      read = c.read;
-      wrote = into.wrote;
-      replaced = c.replaced;
-    }) into.call.call)
+    (meets_need (call_writing c into.wrote) into.call.call)

@@ -41,6 +41,7 @@ pub record Progress (units_of : ℕ → List ℕ) (old now : Remainder) (src : L
     replaced = replaced;
   })
 
+-- what a loop knows where it reaches a stage
 pub progress_at : {units_of : ℕ → List ℕ} {old now : Remainder} {before after : Output}
     {stage : Stage} {read : ℕ} {replaced : Bool} → Reaches units_of old now before after stage
     → stage.read ≡ read → stage.replaced ≡ replaced
@@ -57,6 +58,7 @@ progress_at {units_of} {old} {now} {before} {after} {stage} {read} reaches same_
           reaches.room reaches));
     }
 
+-- nothing is read yet
 pub start : {units_of : ℕ → List ℕ} {old : Remainder} {src : List ℕ} {last : Bool}
     {mode : DecodeErrorMode} {before : Output} → AreBytes src
     → Progress units_of old old src last mode before before 0 false

@@ -82,7 +82,3 @@ pub any_malformed-one : (ss : List Sequence) (s : Sequence)
     → any_malformed (ss ++ s ∷ []) ≡ (any_malformed ss || is_malformed s.kind)
 any_malformed-one ss s = any_malformed-append ss (s ∷ [])
     ∙ ap (λ b. any_malformed ss || b) (or_false (is_malformed s.kind))
-
-pub set_after-one : (set : ℕ) (ss : List Sequence) (s : Sequence)
-    → set_after set (ss ++ s ∷ []) ≡ s.set
-set_after-one set ss s = set_after-append set ss (s ∷ [])

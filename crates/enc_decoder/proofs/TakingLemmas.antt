@@ -18,10 +18,6 @@ pub front : (k : ℕ) (xs : List ℕ) (b : ℕ) (zs : List ℕ) → 0 < k → xs
 front zero xs b zs h e = absurd (omega arith)
 front (suc k) xs b zs h e = (take k zs, ap (take (suc k)) e)
 
--- What may follow the first bytes: the others, with anything after them.
-pub rest_may_follow : (src : List ℕ) (n : ℕ) (z : List ℕ) → MayFollow src n (drop n src ++ z)
-rest_may_follow src n z more = (drop (suc n) src ++ z, ap (λ x. x ++ z) (drop-cons src n 0 more))
-
 -- What may follow two parts of the bytes may follow the second of them, and the second with it may
 -- follow the first.
 

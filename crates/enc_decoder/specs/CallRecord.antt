@@ -42,3 +42,16 @@ pub record CallInto : Type 0 where
 abbrev pub IsCallInto : (ℕ → List ℕ) → Remainder → Remainder → CallInto → Type 0
 IsCallInto units_of old new c =
     DecoderCallInto units_of old new c.src c.last c.mode c.before c.after c.result c.read c.replaced
+
+-- the same call, by its room and the code units that it writes
+abbrev pub call_writing : CallInto → List ℕ → Call
+call_writing c wrote = record {
+  src = c.src;
+  last = c.last;
+  mode = c.mode;
+  room = c.before.room;
+  result = c.result;
+  read = c.read;
+  wrote = wrote;
+  replaced = c.replaced;
+}

@@ -3,9 +3,8 @@ use Rattle.enc_decoder.specs.CodecState.{CodecState}
 use Rattle.enc_decoder.proofs.ByteLemmas.{bytes_of_slice}
 use Rattle.enc_decoder.proofs.NextEventLemmas.{holds_rule}
 use Rattle.enc_decoder.proofs.OutputStageLemmas.{start}
-use Rattle.enc_decoder.proofs.TakenRunLemmas.{past_run}
 use Rattle.enc_decoder.proofs.EventLeavesLemmas.{leads_with, leads_before}
-use Rattle.enc_decoder.proofs.MachineLemmas.{stays, holds, stops_full, puts, reports_with}
+use Rattle.enc_decoder.proofs.MachineLemmas.{after_run, stays, holds, stops_full, puts, reports_with}
 use Rattle.enc_decoder.proofs.MachineLemmas.{reports_before}
 use Rattle.enc_decoder.proofs.TakingLemmas.{fewer_with, fewer_before}
 use Rattle.enc_decoder.proofs.NeedLemmas.{meets_into}
@@ -18,25 +17,26 @@ loop-state-init g c =
 
 pub returns-in-NeedsInput-clause-call : goal.returns-in-NeedsInput-clause-call
 returns-in-NeedsInput-clause-call g c =
-    let run = rw c.split_at.ensures.back at c.take_run-taken.ensures in
-    let progress = past_run c.loop-state.invariant.progress.reaches run.run run.none_malformed in
+    let progress = after_run g.C.ByteCodec.state _ c.loop-state.invariant.progress.reaches
+    c.split_at.ensures.back c.take_run-taken.ensures in
     stays g.C.ByteCodec.state c.take_run-taken.result.0 progress.reaches c.in-NeedsInput.ensures
 
 pub loop-state-preserved-in-HoldsByte : goal.loop-state-preserved-in-HoldsByte
 loop-state-preserved-in-HoldsByte g c =
-    let run = rw c.split_at.ensures.back at c.take_run-taken.ensures in
-    let progress = past_run c.loop-state.invariant.progress.reaches run.run run.none_malformed in
+    let progress = after_run g.C.ByteCodec.state _ c.loop-state.invariant.progress.reaches
+    c.split_at.ensures.back c.take_run-taken.ensures in
     record {
       progress = holds g.C.ByteCodec.state c.take_run-taken.result.0 progress.reaches
           c.in-HoldsByte.ensures;
       rule = holds_rule _ _ _ c.in-HoldsByte.ensures.1.0
-          ∙ ap (λ (s : CodecState). s.rule) run.run.next_state ∙ c.loop-state.invariant.rule;
+          ∙ ap (λ (s : CodecState). s.rule) c.take_run-taken.ensures.run.next_state
+          ∙ c.loop-state.invariant.rule;
     }
 
 pub returns-then-is_reported-clause-call : goal.returns-then-is_reported-clause-call
 returns-then-is_reported-clause-call g c =
-    let run = rw c.split_at.ensures.back at c.take_run-taken.ensures in
-    let progress = past_run c.loop-state.invariant.progress.reaches run.run run.none_malformed in
+    let progress = after_run g.C.ByteCodec.state _ c.loop-state.invariant.progress.reaches
+    c.split_at.ensures.back c.take_run-taken.ensures in
     let malformed = c.is_reported.ensures.malformed c.if-is_reported.true in
     let room = c.is_reported.ensures.room c.if-is_reported.true in
     elim c.if-shown.branch [
@@ -50,8 +50,8 @@ returns-then-is_reported-clause-call g c =
 
 pub returns-then-not-put_out-clause-call : goal.returns-then-not-put_out-clause-call
 returns-then-not-put_out-clause-call g c =
-    let run = rw c.split_at.ensures.back at c.take_run-taken.ensures in
-    let progress = past_run c.loop-state.invariant.progress.reaches run.run run.none_malformed in
+    let progress = after_run g.C.ByteCodec.state _ c.loop-state.invariant.progress.reaches
+    c.split_at.ensures.back c.take_run-taken.ensures in
     stops_full g.C.ByteCodec.state c.take_run-taken.result.0 progress.reaches c.in-Emits.ensures
     (c.put_out.ensures.unchanged c.if-not-put_out.true)
     (c.is_reported.ensures.asked c.if-is_reported.false)
@@ -60,8 +60,8 @@ returns-then-not-put_out-clause-call g c =
 
 pub loop-state-preserved : goal.loop-state-preserved
 loop-state-preserved g c =
-    let run = rw c.split_at.ensures.back at c.take_run-taken.ensures in
-    let progress = past_run c.loop-state.invariant.progress.reaches run.run run.none_malformed in
+    let progress = after_run g.C.ByteCodec.state _ c.loop-state.invariant.progress.reaches
+    c.split_at.ensures.back c.take_run-taken.ensures in
     let valid = c.put_out.ensures.valid c.if-not-put_out.false in
     let fits = c.put_out.ensures.fits c.if-not-put_out.false in
     let scalars = c.put_out.ensures.scalars c.if-not-put_out.false in
@@ -78,14 +78,16 @@ loop-state-preserved g c =
             fits written)
       ];
       rule = c.in-Emits.ensures.0.same_rule
-          ∙ ap (λ (s : CodecState). s.rule) run.run.next_state ∙ c.loop-state.invariant.rule;
+          ∙ ap (λ (s : CodecState). s.rule) c.take_run-taken.ensures.run.next_state
+          ∙ c.loop-state.invariant.rule;
     }
 
 pub loop-state-smaller : goal.loop-state-smaller
 loop-state-smaller g c =
-    let run = rw c.split_at.ensures.back at c.take_run-taken.ensures in
-    let progress = past_run c.loop-state.invariant.progress.reaches run.run run.none_malformed in
-    let same_pending = ap (λ (s : CodecState). length s.pending) run.run.next_state in
+    let progress = after_run g.C.ByteCodec.state _ c.loop-state.invariant.progress.reaches
+    c.split_at.ensures.back c.take_run-taken.ensures in
+    let next_state = c.take_run-taken.ensures.run.next_state in
+    let same_pending = ap (λ (s : CodecState). length s.pending) next_state in
     let within = progress.reaches.leaves.within in
     elim c.if-shown.branch [
       | then-shown shown ↦
