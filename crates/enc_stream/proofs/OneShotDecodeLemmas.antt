@@ -18,14 +18,13 @@ use Rattle.enc_units.specs.Results.{decoder_result_of}
 use Rattle.enc_units.specs.Output.{units_of_text}
 use Rattle.enc_decoder.specs.Sequence.{Sequence, sequence_text, is_malformed, any_malformed}
 use Rattle.enc_decoder.specs.Call.{DecodeErrorMode, Replacement, Fatal, reaches_end}
-use Rattle.enc_decoder.specs.Need.{MeetsDecodeNeed}
 use Rattle.enc_decoder.specs.Remainder.{AreBytes}
 use Rattle.enc_decoder.proofs.SequenceLemmas.{units-append, any_malformed-append}
 use Rattle.enc_decoder.proofs.SegmentationLemmas.{sequences_of-nil}
 use Rattle.enc_stream.specs.Encodings.{rule_of}
 use Rattle.enc_stream.specs.Bom.{Mark, marks_of_encoding, find_mark, sequences_by_mark}
 use Rattle.enc_stream.specs.LifeCycle.{encoding_of_mark_or}
-use Rattle.enc_stream.specs.Decoding.{DecoderState, has_ended, has_finished, fresh_decoder, decoder_remainder, remaining_sequences}
+use Rattle.enc_stream.specs.Decoding.{DecoderState, has_finished, fresh_decoder, decoder_remainder, remaining_sequences}
 use Rattle.enc_stream.specs.Decoding.{whole_sequences, whole_utf_8, whole_malformed, DecodesChunk, DecodesReplacing}
 use Rattle.enc_stream.specs.Decoding.{AnswersDecodeReplacing, HasDecoded}
 use Rattle.enc_units.specs.Checked.{checked_add}

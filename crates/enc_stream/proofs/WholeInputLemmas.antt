@@ -1,15 +1,10 @@
 -- The sequences of a whole input, joined, are the bytes after the mark.
-use Rattle.std.proofs.Common.{◌≡◌, ℕ, true, List, [], ◌∷◌, ◌++◌, length, drop, refl, ap, ◌∙◌, sym, Option, Some, None}
-use Rattle.std.proofs.Common.{eqb, eqb-true, inl, inr, if◌then◌else◌}
-use Rattle.std.specs.Prelude.{nat_eq}
-use Rattle.std.specs.List.{starts_with}
-use Rattle.std.proofs.lemmas.Bool.{false≢true}
+use Rattle.std.proofs.Common.{◌≡◌, ℕ, List, ◌++◌, length, drop, refl, ap, ◌∙◌, Option, Some, None}
 use Rattle.enc_stream.specs.declared.encoding.Encoding.{Encoding}
 use Rattle.enc_stream.specs.declared.bom.BomHandling.{BomHandling}
 use Rattle.enc_decoder.specs.Sequence.{Sequence, sequence_bytes}
 use Rattle.enc_decoder.specs.Segmentation.{IsSegmentation}
 use Rattle.enc_decoder.proofs.SegmentationLemmas.{all_bytes, sequences_are_segmentation, is_one}
-use Rattle.enc_decoder.proofs.FirstSequenceLemmas.{true_or_false}
 use Rattle.enc_stream.specs.Encodings.{rule_of}
 use Rattle.enc_stream.specs.Bom.{Mark, find_mark, marks_looked_for, sequences_by_mark}
 use Rattle.enc_stream.specs.LifeCycle.{mark_bytes, encoding_of_mark_or}
