@@ -49,4 +49,5 @@ nearer {units_of} takes {old} {new} c roomy decodes some = by_result c.result de
     by_result OutputFull made =
         inr (omega (arith, made.call.within, less_left takes c roomy OutputFull made (λ e. cc)))
     by_result (Malformed l a) made =
-        inr (omega (arith, made.call.within, less_left takes c roomy (Malformed l a) made (λ e. cc)))
+        let fewer = less_left takes c roomy (Malformed l a) made (λ e. cc) in
+        inr (omega (arith, made.call.within, fewer))

@@ -76,7 +76,8 @@ module _ (q : Query) (mode : DecodeErrorMode) (asks : IsForMode q mode) (front :
         → AreFirstSequences front (sequences_of w.rule w.set (w.pending ++ src))
         → answer < needed_units (query_units q) mode front → ⊥
     never_more f w enough src bytes m k answer fits sum_fits answer_is first passes =
-        let fewer = no_more q f (length src) (length w.pending) m k fits sum_fits answer answer_is in
+        let fewer =
+        no_more q f (length src) (length w.pending) m k fits sum_fits answer answer_is in
         asked q f w mode asks enough src true fewer.0 bytes fewer.1
         (record { sequences = front; determined = first; more = omega (arith, fewer.2, passes) })
 
@@ -127,7 +128,8 @@ module _ (q : Query) (mode : DecodeErrorMode) (asks : IsForMode q mode) (e : Enc
   -- where byte order marks are looked for, or this one may still come
   abbrev AfterMark : List ℕ → Mark → Type 0
   AfterMark bytes m =
-      AreFirstSequences front (sequences_of (rule_of m.encoding) 0 (drop (length m.bytes) bytes)) → ⊥
+      AreFirstSequences front (sequences_of (rule_of m.encoding) 0 (drop (length m.bytes) bytes))
+      → ⊥
 
   by_marks : (looked_for : List Mark) (bytes : List ℕ)
       → (AreFirstSequences front (sequences_of (rule_of e) 0 bytes) → ⊥)
@@ -211,7 +213,8 @@ module _ (q : Query) (mode : DecodeErrorMode) (asks : IsForMode q mode) (e : Enc
           → formula_length q formulas (length src) (length v.pending) ≡ Some answer
           → AreFirstSequences front (sequences_of (rule_of e) v.set (v.pending ++ src)) → ⊥
       converting src are_bytes length_is first =
-          never_more q mode asks front formulas v enough src are_bytes (length src) (length v.pending)
+          never_more q mode asks front formulas v enough src are_bytes (length src)
+          (length v.pending)
           answer
           (omega arith)
           (omega arith) length_is
@@ -248,7 +251,8 @@ bb_pending : (pending : List ℕ) → held_or_pending_bytes (0xBB ∷ []) pendin
     ⊎ (pending ≡ 0xBB ∷ [])
 bb_pending [] held = inl refl
 bb_pending (c ∷ z) held =
-    inr (sym (held ∙ ap (λ y. (c ∷ z) ++ y) (none_unread ConvertingWithPendingBb (length (c ∷ z)) (omega arith))
+    inr (sym (held ∙ ap (λ y. (c ∷ z) ++ y)
+    (none_unread ConvertingWithPendingBb (length (c ∷ z)) (omega arith))
     ∙ append-nil (c ∷ z)))
 
 -- The length that a query answers is enough, by the state of the life cycle.

@@ -79,7 +79,7 @@ module _ {e : Encoding} {life : LifeCycle} {v : CodecState} {src : List ℕ} {la
       {stop : DecoderResult} {replaced : Bool} (kept : w.rule ≡ v.rule)
       (made : PrefixedCallInto units_of (remainder_of v) (remainder_of w) (held ++ src) last mode
       before after stop total replaced) where
-    -- the call of the codec, what it does, and the bytes before and among those at hand that it read
+    -- the call of the codec, what it does, and the bytes pending with those read
     abbrev call : Call
     call = record {
       src = held ++ src;

@@ -139,7 +139,8 @@ undetermined handling e x s ss may_begin determines =
 -- what some sequences determine others do, where they are the same whatever follows
 determines_as : (left right : List ℕ → List Sequence) (x y : List ℕ) (ss : List Sequence)
     → ((z : List ℕ) → left (x ++ z) ≡ right (y ++ z)) → Determines left x ss → Determines right y ss
-determines_as left right x y ss same determines = λ z are_bytes. let determined = determines z are_bytes in
+determines_as left right x y ss same determines = λ z are_bytes.
+    let determined = determines z are_bytes in
     (determined.0, sym (same z) ∙ determined.1)
 
 -- Once the mark in front is decided, the bytes after it determine the same, both ways.

@@ -1,4 +1,5 @@
--- What a full output says of a decoder: with room for a small text something is done, and a call that does nothing leaves all as it was.
+-- What a full output says of a decoder: with room for a small text something is done, and a call
+-- that does nothing leaves all as it was.
 use Rattle.std.proofs.Common.{◌≡◌, ℕ, ◌<◌, ◌≤◌, Bool, true, false, List, [], ◌∷◌, ◌++◌, length}
 use Rattle.std.proofs.Common.{refl, ap, ◌∙◌, sym, arith, append_assoc, length-append, None}
 use Rattle.std.proofs.lemmas.List.{append-nil}

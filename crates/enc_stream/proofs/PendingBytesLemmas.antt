@@ -1,4 +1,5 @@
--- The bytes pending of a decoder: those that it holds of a byte order mark, or else those of its codec.
+-- The bytes pending of a decoder: those that it holds of a byte order mark, or else those of its
+-- codec.
 use Rattle.std.specs.Prelude.{if◌then◌else◌, bytes_eq}
 use Rattle.std.proofs.Common.{◌≡◌, ℕ, ◌<◌, ◌≤◌, zero, suc, Bool, true, false, eqb, List, [], ◌∷◌}
 use Rattle.std.proofs.Common.{◌++◌, length, refl, ap, sym, arith, inl, inr, ◌⊎◌, None}

@@ -1,4 +1,5 @@
--- The sequences that a decoder has still to put out are those of one rule: its encoding's, or that of a byte order mark.
+-- The sequences that a decoder has still to put out are those of one rule: its encoding's, or that
+-- of a byte order mark.
 use Rattle.std.proofs.Common.{◌≡◌, ℕ, true, false, List, [], ◌++◌, length, drop}
 use Rattle.std.proofs.Common.{refl, ap, sym, Option, Some, None}
 use Rattle.enc_stream.specs.declared.encoding.Encoding.{Encoding}
