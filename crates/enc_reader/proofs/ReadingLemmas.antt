@@ -25,7 +25,6 @@ use Rattle.enc_decoder.specs.CallRecord.{Call}
 use Rattle.enc_stream.proofs.DecoderCallLemmas.{only_put}
 use Rattle.enc_stream.proofs.EndOfInputLemmas.{finishes, none_left}
 use Rattle.enc_stream.proofs.OutputFullLemmas.{four_bytes, some_written}
-use Rattle.enc_units.proofs.UnitsLemmas.{utf_8_determines}
 use Rattle.enc_reader.specs.Source.{ConsumesRemaining}
 use Rattle.enc_reader.specs.Reading.{ReaderState, ReadsOwed, IsReaderAtEnd, owed_sequences, owed_encoding}
 use Rattle.enc_reader.specs.Reading.{distance_to_end}
@@ -190,15 +189,15 @@ module _ (old new : DecoderState) (src : List ℕ) (last : Bool) (room : ℕ) (r
     comes_nearer = elim (true_or_false (has_finished new)) [
       | inl f ↦ omega (arith, ended_at after f, before_end before going)
       | inr unfinished ↦ elim (nearer four_bytes call roomy decodes some) [
-            | inl g ↦ absurd (false≢true (sym unfinished ∙ g))
-            | inr l ↦ omega (
-              arith,
-              l,
-              before_end after unfinished,
-              before_end before going,
-              length-drop read src,
-            )
-          ]
+        | inl g ↦ absurd (false≢true (sym unfinished ∙ g))
+        | inr l ↦ omega (
+          arith,
+          l,
+          before_end after unfinished,
+          before_end before going,
+          length-drop read src,
+        )
+      ]
     ]
 
     pub ReadsOwed-call : (known : Option (List ℕ))
