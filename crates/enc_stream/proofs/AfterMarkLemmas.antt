@@ -1,23 +1,22 @@
 -- A decoder's call after a byte order mark, or after bytes that might have begun one.
-use Rattle.std.proofs.Common.{◌≡◌, ℕ, ◌+◌, ◌-◌, ◌≤◌, Bool, true, false, List, [], ◌∷◌, ◌++◌, length, take, drop, refl}
-use Rattle.std.proofs.Common.{ap, ◌∙◌, sym, arith, append_assoc, inl, inr, subst, Some, None}
+use Rattle.std.proofs.Common.{◌≡◌, ℕ, ◌+◌, ◌≤◌, Bool, true, false, List, [], ◌∷◌, ◌++◌, length, take, drop, refl}
+use Rattle.std.proofs.Common.{ap, ◌∙◌, sym, arith, append_assoc, subst, None}
 use Rattle.std.proofs.lemmas.Bool.{false≢true}
-use Rattle.std.proofs.lemmas.List.{append-nil, take-append-drop, drop-drop, length-drop, length-append}
+use Rattle.std.proofs.lemmas.List.{append-nil, length-append}
 use Rattle.std.proofs.Math.ListN.{drop_of_length-le, length-take}
-use Rattle.std.proofs.Math.Seq.{take-add, take-length, drop-append_seam}
+use Rattle.std.proofs.Math.Seq.{take-add, drop-append_seam}
 use Rattle.enc_stream.specs.declared.encoding.Encoding.{Encoding}
 use Rattle.enc_stream.specs.declared.life_cycle.LifeCycle.{LifeCycle}
-use Rattle.enc_stream.specs.declared.life_cycle.LifeCycle.TheVariants.{AtStart, Converting, Finished}
+use Rattle.enc_stream.specs.declared.life_cycle.LifeCycle.TheVariants.{Converting}
 use Rattle.enc_units.specs.declared.decoder_result.DecoderResult.{DecoderResult}
-use Rattle.enc_units.specs.declared.decoder_result.DecoderResult.TheVariants.{InputEmpty, OutputFull, Malformed}
+use Rattle.enc_units.specs.declared.decoder_result.DecoderResult.TheVariants.{InputEmpty}
 use Rattle.enc_units.specs.Output.{Output}
-use Rattle.enc_decoder.specs.Sequence.{Sequence, sequence_bytes, set_after}
+use Rattle.enc_decoder.specs.Sequence.{Sequence, sequence_bytes}
 use Rattle.enc_decoder.specs.Segmentation.{sequences_of}
 use Rattle.enc_decoder.specs.CodecState.{CodecState}
 use Rattle.enc_decoder.specs.Remainder.{AreBytes, AreFirstSequences, Determines}
-use Rattle.enc_decoder.specs.Call.{DecoderCall, DecodeErrorMode, reaches_end}
+use Rattle.enc_decoder.specs.Call.{DecodeErrorMode, reaches_end}
 use Rattle.enc_decoder.proofs.SegmentationLemmas.{sequences_of-nil}
-use Rattle.enc_decoder.proofs.ByteLemmas.{bytes-drop, determines_by_more}
 use Rattle.enc_units.proofs.OutputLemmas.{with_appended-nil}
 use Rattle.enc_stream.specs.Encodings.{rule_of}
 use Rattle.enc_stream.specs.Bom.{sequences_by_mark}

@@ -1,51 +1,13 @@
 -- A call of a decoder as one record: the bytes of what it does, and those that it leaves.
-use Rattle.std.proofs.Common.{◌≡◌, ℕ, ◌+◌, ◌-◌, ◌<◌, ◌≤◌, Bool, true, false, List, [], ◌∷◌, ◌++◌, length, take, drop}
-use Rattle.std.proofs.lemmas.Bool.{false≢true}
-use Rattle.std.proofs.Common.{refl, ap, ◌∙◌, sym, arith, append_assoc, length-append, subst, Option, Some, None}
-use Rattle.std.specs.Prelude.{if◌then◌else◌}
-use Rattle.std.proofs.lemmas.List.{append-nil}
+use Rattle.std.proofs.Common.{◌≡◌, ℕ, ◌+◌, ◌<◌, ◌≤◌, true, List, ◌++◌, length, take}
+use Rattle.std.proofs.Common.{ap, ◌∙◌, sym, arith, length-append}
 use Rattle.std.proofs.Math.ListN.{length-take}
-use Rattle.std.proofs.Math.Seq.{take-append_seam, drop-append_seam}
-use Rattle.std.specs.Char.{encode_utf8}
-use Rattle.std.specs.Char.Escape.{encode_utf16}
-use Rattle.enc_stream.specs.declared.encoding.Encoding.{Encoding}
-use Rattle.enc_stream.specs.declared.life_cycle.LifeCycle.{LifeCycle}
-use Rattle.enc_stream.specs.declared.life_cycle.LifeCycle.TheVariants.{AtStart, AtUtf8Start, AtUtf16BeStart}
-use Rattle.enc_stream.specs.declared.life_cycle.LifeCycle.TheVariants.{AtUtf16LeStart, SeenUtf8First, SeenUtf8Second}
-use Rattle.enc_stream.specs.declared.life_cycle.LifeCycle.TheVariants.{SeenUtf16BeFirst, SeenUtf16LeFirst}
-use Rattle.enc_stream.specs.declared.life_cycle.LifeCycle.TheVariants.{ConvertingWithPendingBb, Converting, Finished}
 use Rattle.enc_units.specs.declared.decoder_result.DecoderResult.{DecoderResult}
 use Rattle.enc_units.specs.declared.decoder_result.DecoderResult.TheVariants.{InputEmpty, OutputFull, Malformed}
-use Rattle.enc_units.specs.declared.coder_result.CoderResult.{CoderResult}
-use Rattle.enc_units.specs.declared.coder_result.CoderResult.TheVariants as coder
-use Rattle.enc_units.specs.Results.{decoder_result_of}
-use Rattle.enc_units.specs.Output.{Output, DetermineTexts, units_of_text}
-use Rattle.enc_decoder.specs.Sequence.{Sequence, sequence_bytes, sequence_text, set_after}
-use Rattle.enc_decoder.specs.Segmentation.{Rule, sequences_of}
-use Rattle.enc_decoder.specs.Remainder.{AreFirstSequences, AreDetermined}
-use Rattle.enc_decoder.specs.Call.{Replacement, DecodeErrorMode, Fatal}
-use Rattle.enc_decoder.specs.RuleLaws.{HasTexts, HasSmallTexts}
-use Rattle.enc_decoder_utf.specs.Utf8.{utf_8_rule}
-use Rattle.enc_decoder_utf.specs.Utf16.{utf_16_rule}
-use Rattle.enc_stream.specs.Encodings.{rule_of}
-use Rattle.enc_stream.specs.Bom.{Mark, sequences_by_mark, utf_8_mark, utf_16be_mark, utf_16le_mark, find_mark}
-use Rattle.enc_stream.specs.LifeCycle.{Phase, InFront, Within, Ended, phase_of, awaits_mark, mark_in, mark_bytes}
-use Rattle.enc_stream.specs.LifeCycle.{encoding_of_mark_or, sequences_in, held_mark_bytes, mark_prefixes}
-use Rattle.enc_stream.specs.LifeCycle.{life_at_prefix, life_after_sequences, life_after}
-use Rattle.enc_stream.specs.Decoding.{DecoderState, has_ended, has_finished, remaining_sequences, PendingAreHeldBytes}
-use Rattle.enc_stream.specs.Decoding.{DecodesChunk, DecodesInto, TakesSmallTexts, AnswersDecode, AnswersDecodeInto}
-use Rattle.enc_stream.specs.Decoding.{IsUnchangedButSkips}
-use Rattle.enc_decoder.proofs.NeedLemmas.{meets_need}
-use Rattle.enc_decoder.proofs.SequenceLemmas.{sequence_bytes-one}
-use Rattle.enc_decoder.proofs.RuleLemmas.{none_without_text, has_bytes, small_text}
-use Rattle.enc_decoder.proofs.SegmentationLemmas.{sequences_of-nil}
-use Rattle.enc_decoder_utf.proofs.Utf8Rule.{utf_8_has_texts}
-use Rattle.enc_decoder_utf.proofs.Utf16Rule.{utf_16_has_texts}
-use Rattle.enc_stream.proofs.EncodingLemmas.{small_texts}
-use Rattle.enc_stream.proofs.LifeCycleLemmas.{held_unmarked}
-use Rattle.enc_stream.proofs.UnmarkedTextLemmas.{marked_sequences}
-use Rattle.enc_stream.proofs.PendingBytesLemmas.{own_state}
-use Rattle.enc_decoder.proofs.JoinedCallLemmas.{no_bytes}
+use Rattle.enc_decoder.specs.Sequence.{sequence_bytes}
+use Rattle.enc_stream.specs.LifeCycle.{phase_of, mark_in, mark_bytes}
+use Rattle.enc_stream.specs.Decoding.{DecoderState, has_ended, has_finished}
+use Rattle.enc_stream.specs.Decoding.{DecodesChunk}
 use Rattle.enc_stream.proofs.EndOfInputLemmas.{ends_at_end}
 use Rattle.std.proofs.lemmas.Bool.{true≢false}
 use Rattle.enc_decoder.specs.Call.{is_replacement_mode, reaches_end}

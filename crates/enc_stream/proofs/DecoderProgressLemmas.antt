@@ -1,15 +1,9 @@
 -- Each call of a decoder takes it nearer to its end, or ends it.
-use Rattle.std.proofs.Common.{◌≡◌, ℕ, ◌+◌, ◌-◌, ◌*◌, ◌<◌, ◌≤◌, ◌⊎◌, inl, inr, Bool, true, false, true≢false, List, ◌++◌}
-use Rattle.std.proofs.Common.{length, take, refl, ap, ◌∙◌, sym, arith, length-append}
-use Rattle.std.proofs.lemmas.List.{length-take}
+use Rattle.std.proofs.Common.{◌≡◌, ℕ, ◌+◌, ◌-◌, ◌*◌, ◌<◌, ◌≤◌, ◌⊎◌, inl, inr, true, false, List}
+use Rattle.std.proofs.Common.{length, ◌∙◌, sym, arith}
 use Rattle.enc_units.specs.declared.decoder_result.DecoderResult.{DecoderResult}
 use Rattle.enc_units.specs.declared.decoder_result.DecoderResult.TheVariants.{InputEmpty, OutputFull, Malformed}
-use Rattle.enc_units.specs.Output.{DetermineTexts}
-use Rattle.enc_decoder.specs.Sequence.{sequence_bytes}
-use Rattle.enc_decoder.specs.Call.{DecodeErrorMode}
-use Rattle.enc_decoder.proofs.SequenceLemmas.{sequence_bytes-one}
-use Rattle.enc_stream.specs.LifeCycle.{phase_of, mark_in, mark_bytes}
-use Rattle.enc_stream.specs.Decoding.{DecoderState, has_finished, DecodesChunk, TakesSmallTexts}
+use Rattle.enc_stream.specs.Decoding.{DecoderState, has_finished, TakesSmallTexts}
 use Rattle.enc_stream.proofs.EndOfInputLemmas.{at_end}
 use Rattle.enc_decoder.specs.CallRecord.{Call}
 use Rattle.enc_decoder.proofs.FirstSequenceLemmas.{true_or_false}
@@ -46,13 +40,14 @@ nearer {units_of} takes {old} {new} c roomy decodes some = by_result c.result de
     by_result InputEmpty made = elim (true_or_false c.last) [
       | inl is_last ↦ inl (finished_by (record c { result = InputEmpty }) made ∙ is_last)
       | inr more ↦ inr (omega (
-          arith,
-          some more,
-          made.call.stops.all_read,
-          bytes_done (record c { result = InputEmpty }) made,
-        ))
+        arith,
+        some more,
+        made.call.stops.all_read,
+        bytes_done (record c { result = InputEmpty }) made,
+      ))
     ]
     by_result OutputFull made =
         inr (omega (arith, made.call.within, less_left takes c roomy OutputFull made (λ e. cc)))
     by_result (Malformed l a) made =
-        inr (omega (arith, made.call.within, less_left takes c roomy (Malformed l a) made (λ e. cc)))
+        let fewer = less_left takes c roomy (Malformed l a) made (λ e. cc) in
+        inr (omega (arith, made.call.within, fewer))

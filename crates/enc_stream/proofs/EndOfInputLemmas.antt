@@ -17,17 +17,15 @@ use Rattle.enc_units.specs.declared.decoder_result.DecoderResult.TheVariants.{Ma
 use Rattle.enc_units.specs.declared.decoder_result.DecoderResult.TheVariants as decoder
 use Rattle.enc_decoder.specs.Converting.{shifted_result}
 use Rattle.enc_units.specs.declared.coder_result.CoderResult.{CoderResult}
-use Rattle.enc_units.specs.declared.coder_result.CoderResult.TheVariants.{InputEmpty, OutputFull}
 use Rattle.enc_units.specs.Output.{units_of_text}
 use Rattle.enc_decoder.specs.Sequence.{Sequence, sequence_bytes, sequence_text, any_malformed}
-use Rattle.enc_decoder.specs.Remainder.{Remainder}
-use Rattle.enc_decoder.specs.Call.{DecoderStops, Replacement, reaches_end}
+use Rattle.enc_decoder.specs.Call.{reaches_end}
 use Rattle.enc_stream.specs.Bom.{marks_of_encoding, find_mark, sequences_by_mark}
 use Rattle.enc_stream.specs.LifeCycle.{phase_of, sequences_in, mark_prefixes, life_at_prefix, life_after_bytes}
 use Rattle.enc_stream.specs.LifeCycle.{life_after_sequences, life_after}
 use Rattle.enc_units.specs.Results.{decoder_result_of}
 use Rattle.enc_stream.specs.Decoding.{DecoderState, has_ended, has_finished, removal_start, fresh_decoder}
-use Rattle.enc_stream.specs.Decoding.{remaining_sequences, whole_sequences, whole_utf_8, whole_malformed, DecodesChunk}
+use Rattle.enc_stream.specs.Decoding.{remaining_sequences, whole_sequences, whole_utf_8, whole_malformed}
 use Rattle.enc_stream.specs.Decoding.{DecodesReplacing, HasDecoded}
 
 -- Whether a call reaches the end.

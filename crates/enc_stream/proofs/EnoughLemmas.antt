@@ -1,14 +1,12 @@
 -- How large a room is enough for a decoder, by how far it has come with a byte order mark.
-use Rattle.std.proofs.Common.{◌≡◌, ◌⊎◌, ℕ, ◌+◌, ◌*◌, ◌/◌, ◌^◌, ◌<◌, ◌≤◌, zero, suc, max, Bool, true, false, cond}
-use Rattle.std.proofs.Common.{nat_lt, ◌==◌, Option, Some, None, IfSome, List, [], ◌∷◌, ◌++◌, length, drop, refl, ap}
+use Rattle.std.proofs.Common.{◌≡◌, ◌⊎◌, ℕ, ◌+◌, ◌^◌, ◌<◌, ◌≤◌, max, Bool, true, false, cond}
+use Rattle.std.proofs.Common.{nat_lt, Option, Some, None, IfSome, List, [], ◌∷◌, ◌++◌, length, drop, refl, ap}
 use Rattle.std.proofs.Common.{◌∙◌, sym, subst, arith, inl, inr}
-use Rattle.std.proofs.lemmas.Bool.{cond-false}
-use Rattle.std.proofs.lemmas.Bool.Decides.{nat_tests}
 use Rattle.std.proofs.lemmas.List.{append-nil, length-append}
 use Rattle.std.proofs.Math.ListN.{length-drop}
 use Rattle.std.specs.Char.{encode_utf8}
 use Rattle.std.specs.Char.Escape.{encode_utf16}
-use Rattle.enc_units.specs.Checked.{checked_usize, checked_add, checked_mul, checked_half, checked_max}
+use Rattle.enc_units.specs.Checked.{checked_add, checked_max}
 use Rattle.enc_decoder.specs.declared.text_lengths.TextLengths.{TextLengths}
 use Rattle.enc_decoder.specs.declared.text_lengths.TextLengths.TheVariants as by
 use Rattle.enc_decoder.specs.Sequence.{Sequence}
@@ -32,7 +30,6 @@ use Rattle.enc_stream.specs.declared.life_cycle.LifeCycle.TheVariants.{AtUtf16Le
 use Rattle.enc_stream.specs.declared.life_cycle.LifeCycle.TheVariants.{SeenUtf16BeFirst, SeenUtf16LeFirst}
 use Rattle.enc_stream.specs.declared.life_cycle.LifeCycle.TheVariants.{ConvertingWithPendingBb, Converting, Finished}
 use Rattle.enc_stream.specs.Bom.{Mark, marks, utf_8_mark, utf_16be_mark, utf_16le_mark, find_mark, sequences_by_mark}
-use Rattle.enc_stream.specs.LifeCycle.{phase_of, awaits_mark, held_mark_bytes}
 use Rattle.enc_stream.specs.Decoding.{DecoderState, remaining_sequences, decoder_remainder, held_or_pending_bytes}
 use Rattle.enc_stream.specs.Decoding.{decoder_state_of, unread_bytes, HeldBytesMatchCodec, LooksForOwnMark}
 use Rattle.enc_stream.specs.Lengths.{formula_length, life_cycle_length, max_length, idle_length, length_with_mark}
@@ -79,7 +76,8 @@ module _ (q : Query) (mode : DecodeErrorMode) (asks : IsForMode q mode) (front :
         → AreFirstSequences front (sequences_of w.rule w.set (w.pending ++ src))
         → answer < needed_units (query_units q) mode front → ⊥
     never_more f w enough src bytes m k answer fits sum_fits answer_is first passes =
-        let fewer = no_more q f (length src) (length w.pending) m k fits sum_fits answer answer_is in
+        let fewer =
+        no_more q f (length src) (length w.pending) m k fits sum_fits answer answer_is in
         asked q f w mode asks enough src true fewer.0 bytes fewer.1
         (record { sequences = front; determined = first; more = omega (arith, fewer.2, passes) })
 
@@ -130,7 +128,8 @@ module _ (q : Query) (mode : DecodeErrorMode) (asks : IsForMode q mode) (e : Enc
   -- where byte order marks are looked for, or this one may still come
   abbrev AfterMark : List ℕ → Mark → Type 0
   AfterMark bytes m =
-      AreFirstSequences front (sequences_of (rule_of m.encoding) 0 (drop (length m.bytes) bytes)) → ⊥
+      AreFirstSequences front (sequences_of (rule_of m.encoding) 0 (drop (length m.bytes) bytes))
+      → ⊥
 
   by_marks : (looked_for : List Mark) (bytes : List ℕ)
       → (AreFirstSequences front (sequences_of (rule_of e) 0 bytes) → ⊥)
@@ -214,7 +213,8 @@ module _ (q : Query) (mode : DecodeErrorMode) (asks : IsForMode q mode) (e : Enc
           → formula_length q formulas (length src) (length v.pending) ≡ Some answer
           → AreFirstSequences front (sequences_of (rule_of e) v.set (v.pending ++ src)) → ⊥
       converting src are_bytes length_is first =
-          never_more q mode asks front formulas v enough src are_bytes (length src) (length v.pending)
+          never_more q mode asks front formulas v enough src are_bytes (length src)
+          (length v.pending)
           answer
           (omega arith)
           (omega arith) length_is
@@ -251,7 +251,8 @@ bb_pending : (pending : List ℕ) → held_or_pending_bytes (0xBB ∷ []) pendin
     ⊎ (pending ≡ 0xBB ∷ [])
 bb_pending [] held = inl refl
 bb_pending (c ∷ z) held =
-    inr (sym (held ∙ ap (λ y. (c ∷ z) ++ y) (none_unread ConvertingWithPendingBb (length (c ∷ z)) (omega arith))
+    inr (sym (held ∙ ap (λ y. (c ∷ z) ++ y)
+    (none_unread ConvertingWithPendingBb (length (c ∷ z)) (omega arith))
     ∙ append-nil (c ∷ z)))
 
 -- The length that a query answers is enough, by the state of the life cycle.

@@ -1,43 +1,15 @@
 -- The length that a formula gives does not fall with the number of bytes.
-use Rattle.std.proofs.Common.{◌≡◌, ◌⊎◌, ℕ, ◌+◌, ◌*◌, ◌/◌, ◌^◌, ◌<◌, ◌≤◌, zero, suc, max, Bool, true, false, cond}
-use Rattle.std.proofs.Common.{nat_lt, ◌==◌, Option, Some, None, IfSome, List, [], ◌∷◌, ◌++◌, length, drop, refl, ap}
-use Rattle.std.proofs.Common.{◌∙◌, sym, subst, arith, inl, inr}
-use Rattle.std.proofs.lemmas.Bool.{cond-false}
+use Rattle.std.proofs.Common.{◌≡◌, ℕ, ◌+◌, ◌*◌, ◌/◌, ◌^◌, ◌<◌, ◌≤◌, Bool, true, false, cond}
+use Rattle.std.proofs.Common.{nat_lt, Option, Some, None, refl, ap}
+use Rattle.std.proofs.Common.{◌∙◌, arith}
 use Rattle.std.proofs.lemmas.Bool.Decides.{nat_tests}
-use Rattle.std.proofs.lemmas.List.{append-nil, length-append}
-use Rattle.std.proofs.Math.ListN.{length-drop}
-use Rattle.std.specs.Char.{encode_utf8}
-use Rattle.std.specs.Char.Escape.{encode_utf16}
-use Rattle.enc_units.specs.Checked.{checked_usize, checked_add, checked_mul, checked_half, checked_max}
+use Rattle.enc_units.specs.Checked.{checked_usize, checked_add, checked_mul, checked_half}
 use Rattle.enc_decoder.specs.declared.text_lengths.TextLengths.{TextLengths}
 use Rattle.enc_decoder.specs.declared.text_lengths.TextLengths.TheVariants as by
-use Rattle.enc_decoder.specs.Sequence.{Sequence}
-use Rattle.enc_decoder.specs.Segmentation.{Rule, sequences_of}
-use Rattle.enc_decoder.specs.CodecState.{CodecState}
-use Rattle.enc_decoder.specs.Remainder.{AreBytes, AreFirstSequences}
-use Rattle.enc_decoder.specs.Call.{DecodeErrorMode, Replacement, Fatal}
-use Rattle.enc_decoder.specs.Need.{needed_units, NeedExceeds, IsEnoughForCodec, AreEnoughForCodec}
-use Rattle.enc_decoder.proofs.NeedLemmas.{at_end}
 use Rattle.enc_decoder.proofs.EnoughLemmas.{same_some}
-use Rattle.enc_codec.specs.Codecs.{codec_lengths, initial_state}
-use Rattle.enc_names.specs.declared.encoding_id.EncodingId.{EncodingId}
-use Rattle.enc_stream.specs.declared.encoding.Encoding.{Encoding}
 use Rattle.enc_stream.specs.declared.lengths.Query.{Query}
 use Rattle.enc_stream.specs.declared.lengths.Query.TheVariants as query
-use Rattle.enc_names.specs.EncodingTable.{codec_by_id}
-use Rattle.enc_stream.specs.Encodings.{rule_of}
-use Rattle.enc_stream.specs.declared.life_cycle.LifeCycle.{LifeCycle}
-use Rattle.enc_stream.specs.declared.life_cycle.LifeCycle.TheVariants.{AtStart, AtUtf8Start, AtUtf16BeStart}
-use Rattle.enc_stream.specs.declared.life_cycle.LifeCycle.TheVariants.{AtUtf16LeStart, SeenUtf8First, SeenUtf8Second}
-use Rattle.enc_stream.specs.declared.life_cycle.LifeCycle.TheVariants.{SeenUtf16BeFirst, SeenUtf16LeFirst}
-use Rattle.enc_stream.specs.declared.life_cycle.LifeCycle.TheVariants.{ConvertingWithPendingBb, Converting, Finished}
-use Rattle.enc_stream.specs.Bom.{Mark, marks, utf_8_mark, utf_16be_mark, utf_16le_mark, find_mark, sequences_by_mark}
-use Rattle.enc_stream.specs.LifeCycle.{phase_of, awaits_mark, held_mark_bytes}
-use Rattle.enc_stream.specs.Decoding.{DecoderState, remaining_sequences, decoder_remainder, held_or_pending_bytes}
-use Rattle.enc_stream.specs.Decoding.{decoder_state_of, unread_bytes, HeldBytesMatchCodec, LooksForOwnMark}
-use Rattle.enc_stream.specs.Lengths.{formula_length, life_cycle_length, max_length, idle_length, length_with_mark}
-use Rattle.enc_stream.specs.Lengths.{length_at, IsForMode, query_units, IsEnoughRoom}
-use Rattle.enc_stream.proofs.EncodingLemmas.{laws_of}
+use Rattle.enc_stream.specs.Lengths.{formula_length}
 
 -- if the second query has an answer, the first has one that is no greater
 abbrev IsNoMore : Option ℕ → Option ℕ → Type 0

@@ -1,6 +1,7 @@
--- The byte order mark that is found at the start of bytes: they begin with it, and it is one of those looked for.
-use Rattle.std.proofs.Common.{◌≡◌, ℕ, ◌≤◌, Bool, true, false, List, [], ◌∷◌, ◌++◌, length, drop, refl, ap, ◌∙◌, sym}
-use Rattle.std.proofs.Common.{subst, arith, inl, inr, ◌⊎◌, eqb, eqb-true, Option, Some, None, if◌then◌else◌}
+-- The byte order mark that is found at the start of bytes: they begin with it, and it is one of
+-- those looked for.
+use Rattle.std.proofs.Common.{◌≡◌, ℕ, ◌≤◌, Bool, true, false, List, [], ◌∷◌, ◌++◌, length, drop, refl, ap, ◌∙◌}
+use Rattle.std.proofs.Common.{subst, arith, inl, inr, ◌⊎◌, eqb, eqb-true, Option, Some, if◌then◌else◌}
 use Rattle.std.specs.Prelude.{nat_eq}
 use Rattle.std.specs.List.{starts_with}
 use Rattle.std.proofs.lemmas.Bool.{false≢true}
@@ -21,18 +22,20 @@ first_or_other false m n other found = inr found
 pub found_starts : (looked_for : List Mark) (x : List ℕ) (m : Mark)
     → find_mark looked_for x ≡ Some m → starts_with nat_eq x m.bytes ≡ true
 found_starts [] x m found = absurd (let none : ⊥ = cc in none)
-found_starts (n ∷ others) x m found = elim (first_or_other (starts_with nat_eq x n.bytes) n m _ found) [
-  | inl first ↦ subst (λ (k : Mark). starts_with nat_eq x k.bytes ≡ true) first.1 first.0
-  | inr other ↦ found_starts others x m other
-]
+found_starts (n ∷ others) x m found =
+    elim (first_or_other (starts_with nat_eq x n.bytes) n m _ found) [
+      | inl first ↦ subst (λ (k : Mark). starts_with nat_eq x k.bytes ≡ true) first.1 first.0
+      | inr other ↦ found_starts others x m other
+    ]
 
 pub found_has : (Has : Mark → Type 0) (looked_for : List Mark) (x : List ℕ) (m : Mark)
     → EachMark Has looked_for → find_mark looked_for x ≡ Some m → Has m
 found_has Has [] x m each found = absurd (let none : ⊥ = cc in none)
-found_has Has (n ∷ others) x m each found = elim (first_or_other (starts_with nat_eq x n.bytes) n m _ found) [
-  | inl first ↦ subst Has first.1 each.0
-  | inr other ↦ found_has Has others x m each.1 other
-]
+found_has Has (n ∷ others) x m each found =
+    elim (first_or_other (starts_with nat_eq x n.bytes) n m _ found) [
+      | inl first ↦ subst Has first.1 each.0
+      | inr other ↦ found_has Has others x m each.1 other
+    ]
 
 -- bytes that begin with p are p and the rest
 start_is : (p x : List ℕ) → starts_with nat_eq x p ≡ true → p ++ drop (length p) x ≡ x

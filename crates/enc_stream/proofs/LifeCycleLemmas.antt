@@ -1,5 +1,5 @@
 -- What each state of the life cycle holds, and which byte order marks may still come in it.
-use Rattle.std.proofs.Common.{◌≡◌, ℕ, ◌≤◌, Bool, true, false, List, [], ◌∷◌, ◌++◌, length, refl, ap, ◌∙◌, sym, arith, inl}
+use Rattle.std.proofs.Common.{◌≡◌, ℕ, ◌≤◌, true, false, List, [], ◌∷◌, ◌++◌, length, refl, sym, arith, inl}
 use Rattle.std.proofs.Common.{inr, ◌⊎◌, None, Some, subst}
 use Rattle.std.proofs.lemmas.Bool.{false≢true}
 use Rattle.enc_stream.specs.declared.life_cycle.LifeCycle.{LifeCycle}

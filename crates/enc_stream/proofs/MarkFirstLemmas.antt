@@ -1,9 +1,8 @@
 -- Which first bytes of an input decide its byte order mark.
-use Rattle.std.proofs.Common.{◌≡◌, ℕ, ◌≤◌, true, if◌then◌else◌, ◌↔◌, List, [], ◌∷◌, ◌++◌, Option, Some, None, length}
+use Rattle.std.proofs.Common.{◌≡◌, ℕ, ◌≤◌, if◌then◌else◌, ◌↔◌, List, [], ◌∷◌, ◌++◌, Option, Some, None, length}
 use Rattle.std.proofs.Common.{refl, ap, sym, ◌∙◌, subst, inl, inr, eqb, eqb-true, arith}
 use Rattle.std.specs.Prelude.{nat_eq}
 use Rattle.std.specs.List.{starts_with}
-use Rattle.std.proofs.lemmas.Bool.{false≢true}
 use Rattle.std.proofs.Math.Seq.{drop-length}
 use Rattle.std.proofs.lemmas.List.{drop-append-le}
 use Rattle.enc_decoder.specs.Sequence.{Sequence}
@@ -140,7 +139,8 @@ undetermined handling e x s ss may_begin determines =
 -- what some sequences determine others do, where they are the same whatever follows
 determines_as : (left right : List ℕ → List Sequence) (x y : List ℕ) (ss : List Sequence)
     → ((z : List ℕ) → left (x ++ z) ≡ right (y ++ z)) → Determines left x ss → Determines right y ss
-determines_as left right x y ss same determines = λ z are_bytes. let determined = determines z are_bytes in
+determines_as left right x y ss same determines = λ z are_bytes.
+    let determined = determines z are_bytes in
     (determined.0, sym (same z) ∙ determined.1)
 
 -- Once the mark in front is decided, the bytes after it determine the same, both ways.

@@ -18,14 +18,13 @@ use Rattle.enc_units.specs.Results.{decoder_result_of}
 use Rattle.enc_units.specs.Output.{units_of_text}
 use Rattle.enc_decoder.specs.Sequence.{Sequence, sequence_text, is_malformed, any_malformed}
 use Rattle.enc_decoder.specs.Call.{DecodeErrorMode, Replacement, Fatal, reaches_end}
-use Rattle.enc_decoder.specs.Need.{MeetsDecodeNeed}
 use Rattle.enc_decoder.specs.Remainder.{AreBytes}
 use Rattle.enc_decoder.proofs.SequenceLemmas.{units-append, any_malformed-append}
 use Rattle.enc_decoder.proofs.SegmentationLemmas.{sequences_of-nil}
 use Rattle.enc_stream.specs.Encodings.{rule_of}
 use Rattle.enc_stream.specs.Bom.{Mark, marks_of_encoding, find_mark, sequences_by_mark}
 use Rattle.enc_stream.specs.LifeCycle.{encoding_of_mark_or}
-use Rattle.enc_stream.specs.Decoding.{DecoderState, has_ended, has_finished, fresh_decoder, decoder_remainder, remaining_sequences}
+use Rattle.enc_stream.specs.Decoding.{DecoderState, has_finished, fresh_decoder, decoder_remainder, remaining_sequences}
 use Rattle.enc_stream.specs.Decoding.{whole_sequences, whole_utf_8, whole_malformed, DecodesChunk, DecodesReplacing}
 use Rattle.enc_stream.specs.Decoding.{AnswersDecodeReplacing, HasDecoded}
 use Rattle.enc_units.specs.Checked.{checked_add}
@@ -46,7 +45,8 @@ nothing (b ∷ bytes) is_empty =
     absurd (omega (arith, has_no_length))
 
 pub something : {bytes : List ℕ} → false ≡ (length bytes == 0) → bytes ≢ []
-something is_empty none = true≢false (sym (is_empty ∙ ap (λ (bytes : List ℕ). length bytes == 0) none))
+something is_empty none =
+    true≢false (sym (is_empty ∙ ap (λ (bytes : List ℕ). length bytes == 0) none))
 
 -- an empty input has no sequence
 
@@ -58,8 +58,10 @@ removal_none _ = refl
 
 pub none_whole : (handling : BomHandling) (e : Encoding) (bytes : List ℕ) → bytes ≡ []
     → whole_sequences handling e bytes ≡ []
-none_whole Off e bytes is_empty = ap (whole_sequences Off e) is_empty ∙ sequences_of-nil (rule_of e) 0
-none_whole Sniff e bytes is_empty = ap (whole_sequences Sniff e) is_empty ∙ sequences_of-nil (rule_of e) 0
+none_whole Off e bytes is_empty =
+    ap (whole_sequences Off e) is_empty ∙ sequences_of-nil (rule_of e) 0
+none_whole Sniff e bytes is_empty =
+    ap (whole_sequences Sniff e) is_empty ∙ sequences_of-nil (rule_of e) 0
 none_whole Remove e bytes is_empty =
     ap (whole_sequences Remove e) is_empty
     ∙ ap (λ (m : Option Mark). sequences_by_mark m e []) (removal_none e.id)
@@ -299,12 +301,15 @@ none_if false text is_malformed_now = absurd (true≢false (sym is_malformed_now
 
 pub none_strict : (e : Encoding) (bytes : List ℕ) → bytes ≡ []
     → Some [] ≡ utf_8_without_replacement e bytes
-none_strict e bytes is_empty = ap (λ ss. if any_malformed ss then None else Some (units_of_text encode_utf8
-    (sequence_text ss))) (sym (none_whole Off e bytes is_empty))
+none_strict e bytes is_empty =
+    ap (λ ss. if any_malformed ss then None
+    else Some (units_of_text encode_utf8 (sequence_text ss)))
+    (sym (none_whole Off e bytes is_empty))
 
 pub strict_none : (e : Encoding) (bytes : List ℕ) → whole_malformed Off e bytes ≡ true
     → None ≡ utf_8_without_replacement e bytes
-strict_none e bytes is_malformed_now = none_if (whole_malformed Off e bytes) (whole_utf_8 Off e bytes) is_malformed_now
+strict_none e bytes is_malformed_now =
+    none_if (whole_malformed Off e bytes) (whole_utf_8 Off e bytes) is_malformed_now
 
 pub strict_text : {e : Encoding} {bytes unread : List ℕ} {state : DecoderState} {text : List ℕ}
     → HasDecoded Off e bytes unread true state text false → has_finished state ≡ true

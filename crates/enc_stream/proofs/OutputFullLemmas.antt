@@ -1,53 +1,36 @@
--- What a full output says of a decoder: with room for a small text something is done, and a call that does nothing leaves all as it was.
-use Rattle.std.proofs.Common.{◌≡◌, ℕ, ◌+◌, ◌-◌, ◌<◌, ◌≤◌, Bool, true, false, List, [], ◌∷◌, ◌++◌, length, take, drop}
-use Rattle.std.proofs.lemmas.Bool.{false≢true}
-use Rattle.std.proofs.Common.{refl, ap, ◌∙◌, sym, arith, append_assoc, length-append, subst, Option, Some, None}
-use Rattle.std.specs.Prelude.{if◌then◌else◌}
+-- What a full output says of a decoder: with room for a small text something is done, and a call
+-- that does nothing leaves all as it was.
+use Rattle.std.proofs.Common.{◌≡◌, ℕ, ◌<◌, ◌≤◌, Bool, true, false, List, [], ◌∷◌, ◌++◌, length}
+use Rattle.std.proofs.Common.{refl, ap, ◌∙◌, sym, arith, append_assoc, length-append, None}
 use Rattle.std.proofs.lemmas.List.{append-nil}
-use Rattle.std.proofs.Math.ListN.{length-take}
-use Rattle.std.proofs.Math.Seq.{take-append_seam, drop-append_seam}
 use Rattle.std.specs.Char.{encode_utf8}
 use Rattle.std.specs.Char.Escape.{encode_utf16}
 use Rattle.enc_stream.specs.declared.encoding.Encoding.{Encoding}
 use Rattle.enc_stream.specs.declared.life_cycle.LifeCycle.{LifeCycle}
-use Rattle.enc_stream.specs.declared.life_cycle.LifeCycle.TheVariants.{AtStart, AtUtf8Start, AtUtf16BeStart}
-use Rattle.enc_stream.specs.declared.life_cycle.LifeCycle.TheVariants.{AtUtf16LeStart, SeenUtf8First, SeenUtf8Second}
-use Rattle.enc_stream.specs.declared.life_cycle.LifeCycle.TheVariants.{SeenUtf16BeFirst, SeenUtf16LeFirst}
-use Rattle.enc_stream.specs.declared.life_cycle.LifeCycle.TheVariants.{ConvertingWithPendingBb, Converting, Finished}
 use Rattle.enc_units.specs.declared.decoder_result.DecoderResult.{DecoderResult}
 use Rattle.enc_units.specs.declared.decoder_result.DecoderResult.TheVariants.{InputEmpty, OutputFull, Malformed}
-use Rattle.enc_units.specs.declared.coder_result.CoderResult.{CoderResult}
-use Rattle.enc_units.specs.declared.coder_result.CoderResult.TheVariants as coder
-use Rattle.enc_units.specs.Results.{decoder_result_of}
 use Rattle.enc_units.specs.Output.{Output, DetermineTexts, units_of_text}
 use Rattle.enc_decoder.specs.Sequence.{Sequence, sequence_bytes, sequence_text, set_after}
 use Rattle.enc_decoder.specs.Segmentation.{Rule, sequences_of}
 use Rattle.enc_decoder.specs.Remainder.{AreFirstSequences, AreDetermined}
-use Rattle.enc_decoder.specs.Call.{Replacement, DecodeErrorMode, Fatal}
+use Rattle.enc_decoder.specs.Call.{DecodeErrorMode}
 use Rattle.enc_decoder.specs.RuleLaws.{HasTexts, HasSmallTexts}
-use Rattle.enc_decoder_utf.specs.Utf8.{utf_8_rule}
-use Rattle.enc_decoder_utf.specs.Utf16.{utf_16_rule}
 use Rattle.enc_stream.specs.Encodings.{rule_of}
-use Rattle.enc_stream.specs.Bom.{Mark, sequences_by_mark, utf_8_mark, utf_16be_mark, utf_16le_mark, find_mark}
+use Rattle.enc_stream.specs.Bom.{utf_8_mark, utf_16be_mark, utf_16le_mark}
 use Rattle.enc_stream.specs.LifeCycle.{Phase, InFront, Within, Ended, phase_of, awaits_mark, mark_in, mark_bytes}
-use Rattle.enc_stream.specs.LifeCycle.{encoding_of_mark_or, sequences_in, held_mark_bytes, mark_prefixes}
-use Rattle.enc_stream.specs.LifeCycle.{life_at_prefix, life_after_sequences, life_after}
-use Rattle.enc_stream.specs.Decoding.{DecoderState, has_ended, has_finished, remaining_sequences, PendingAreHeldBytes}
-use Rattle.enc_stream.specs.Decoding.{DecodesChunk, DecodesInto, TakesSmallTexts, AnswersDecode, AnswersDecodeInto}
+use Rattle.enc_stream.specs.LifeCycle.{encoding_of_mark_or, held_mark_bytes}
+use Rattle.enc_stream.specs.LifeCycle.{life_after}
+use Rattle.enc_stream.specs.Decoding.{DecoderState, has_finished, remaining_sequences, PendingAreHeldBytes}
+use Rattle.enc_stream.specs.Decoding.{DecodesInto, TakesSmallTexts, AnswersDecode, AnswersDecodeInto}
 use Rattle.enc_stream.specs.Decoding.{IsUnchangedButSkips}
 use Rattle.enc_decoder.proofs.NeedLemmas.{meets_need}
 use Rattle.enc_decoder.proofs.SequenceLemmas.{sequence_bytes-one}
 use Rattle.enc_decoder.proofs.RuleLemmas.{none_without_text, has_bytes, small_text}
-use Rattle.enc_decoder.proofs.SegmentationLemmas.{sequences_of-nil}
 use Rattle.enc_decoder_utf.proofs.Utf8Rule.{utf_8_has_texts}
 use Rattle.enc_decoder_utf.proofs.Utf16Rule.{utf_16_has_texts}
 use Rattle.enc_stream.proofs.EncodingLemmas.{small_texts}
 use Rattle.enc_stream.proofs.LifeCycleLemmas.{held_unmarked}
-use Rattle.enc_stream.proofs.UnmarkedTextLemmas.{marked_sequences}
 use Rattle.enc_stream.proofs.PendingBytesLemmas.{own_state}
-use Rattle.enc_decoder.proofs.JoinedCallLemmas.{no_bytes}
-use Rattle.enc_stream.proofs.EndOfInputLemmas.{ends_at_end}
-use Rattle.std.proofs.lemmas.Bool.{true≢false}
 use Rattle.enc_decoder.specs.CallRecord.{Call}
 use Rattle.enc_stream.specs.Decoding.{LeavesFewerBytes}
 use Rattle.enc_stream.proofs.RemainingRuleLemmas.{by_rule}
@@ -150,56 +133,56 @@ module _ {units_of : ℕ → List ℕ} (determine : DetermineTexts units_of) {ol
     (are_held : PendingAreHeldBytes old) (going : has_finished old ≡ false) (c : Call)
     (decodes : Decodes units_of old new (record c { result = OutputFull; read = 0; wrote = [] }))
   where
-  abbrev done : List Sequence
-  done = decodes.call.done
+    abbrev done : List Sequence
+    done = decodes.call.done
 
-  unmarked : mark_in (phase_of old.life) (old.pending ++ []) ≡ None
-  unmarked = own_unmarked (phase_of old.life) old.pending (held_mark_bytes old.life)
-      (held_unmarked old.life) are_held.in_front
+    unmarked : mark_in (phase_of old.life) (old.pending ++ []) ≡ None
+    unmarked = own_unmarked (phase_of old.life) old.pending (held_mark_bytes old.life)
+        (held_unmarked old.life) are_held.in_front
 
-  was_pending : old.pending ≡ sequence_bytes done ++ new.pending
-  was_pending = sym (append-nil old.pending) ∙ decodes.accounted
-      ∙ ap (λ o. mark_bytes o ++ (sequence_bytes done ++ new.pending)) unmarked
+    was_pending : old.pending ≡ sequence_bytes done ++ new.pending
+    was_pending = sym (append-nil old.pending) ∙ decodes.accounted
+        ∙ ap (λ o. mark_bytes o ++ (sequence_bytes done ++ new.pending)) unmarked
 
-  same_encoding : new.encoding ≡ old.encoding
-  same_encoding = decodes.encoding ∙ ap (λ o. encoding_of_mark_or o old.encoding) unmarked
+    same_encoding : new.encoding ≡ old.encoding
+    same_encoding = decodes.encoding ∙ ap (λ o. encoding_of_mark_or o old.encoding) unmarked
 
-  same_if_none : done ≡ [] → new ≡ old
-  same_if_none none = same_state new old same_encoding
-      (decodes.life ∙ ap (life_after old.life false (old.pending ++ [])) none
-      ∙ own_state old.life (old.pending ++ []) going
-      (λ awaits. append-nil old.pending ∙ are_held.in_front awaits)
-      (λ b rest some. append-nil old.pending ∙ are_held.held b rest some))
-      (decodes.call.set ∙ ap (set_after old.set) none)
-      (sym (was_pending ∙ ap (λ ss. sequence_bytes ss ++ new.pending) none))
+    same_if_none : done ≡ [] → new ≡ old
+    same_if_none none = same_state new old same_encoding
+        (decodes.life ∙ ap (life_after old.life false (old.pending ++ [])) none
+        ∙ own_state old.life (old.pending ++ []) going
+        (λ awaits. append-nil old.pending ∙ are_held.in_front awaits)
+        (λ b rest some. append-nil old.pending ∙ are_held.held b rest some))
+        (decodes.call.set ∙ ap (set_after old.set) none)
+        (sym (was_pending ∙ ap (λ ss. sequence_bytes ss ++ new.pending) none))
 
-  -- nothing that has a text is done
-  no_text : sequence_text done ≡ []
-  no_text = ap sequence_text decodes.call.stops.only_put
-      ∙ determine (sequence_text decodes.call.put) [] decodes.call.scalars refl
-      (sym decodes.call.text)
+    -- nothing that has a text is done
+    no_text : sequence_text done ≡ []
+    no_text = ap sequence_text decodes.call.stops.only_put
+        ∙ determine (sequence_text decodes.call.put) [] decodes.call.scalars refl
+        (sym decodes.call.text)
 
-  as_before : IsUnchangedButSkips c.src c.last old new
-  as_before = record {
-    skipped = done;
-    no_text = no_text;
-    come_first = decodes.call.residual;
-    pending = was_pending;
-    set = decodes.call.set;
-    encoding = same_encoding;
-    unfinished = finished_by (record c { result = OutputFull; read = 0; wrote = [] }) decodes;
-    same = same_if_none;
-  }
+    as_before : IsUnchangedButSkips c.src c.last old new
+    as_before = record {
+      skipped = done;
+      no_text = no_text;
+      come_first = decodes.call.residual;
+      pending = was_pending;
+      set = decodes.call.set;
+      encoding = same_encoding;
+      unfinished = finished_by (record c { result = OutputFull; read = 0; wrote = [] }) decodes;
+      same = same_if_none;
+    }
 
-  -- where each sequence has a text, nothing is done
-  just_the_same : HasTexts (rule_of old.encoding) → new ≡ old
-  just_the_same has =
-      let with_text =
-      by_rule HasTexts utf_8_has_texts (utf_16_has_texts true) (utf_16_has_texts false) old
-      (c.src ++ []) has in
-      same_if_none (none_without_text with_text.rule with_text.holds with_text.set with_text.bytes
-      done (remaining_sequences new (c.src ++ []))
-      (sym with_text.same ∙ decodes.call.residual [] (λ _. refl)) no_text)
+    -- where each sequence has a text, nothing is done
+    just_the_same : HasTexts (rule_of old.encoding) → new ≡ old
+    just_the_same has =
+        let with_text =
+        by_rule HasTexts utf_8_has_texts (utf_16_has_texts true) (utf_16_has_texts false) old
+        (c.src ++ []) has in
+        same_if_none (none_without_text with_text.rule with_text.holds with_text.set with_text.bytes
+        done (remaining_sequences new (c.src ++ []))
+        (sym with_text.same ∙ decodes.call.residual [] (λ _. refl)) no_text)
 
 -- what a call does, and what that says where it stops for want of room
 pub converts : {units_of : ℕ → List ℕ} {least : ℕ} {old new : DecoderState} (c : Call)

@@ -1,6 +1,6 @@
 -- The byte order mark of one encoding, by the one of all three that is found.
-use Rattle.std.proofs.Common.{◌≡◌, ℕ, Bool, true, false, List, [], ◌∷◌, drop, refl, ap, ◌∙◌, sym, subst, inl}
-use Rattle.std.proofs.Common.{inr, eqb, eqb-true, get_or, arith, Option, Some, None, if◌then◌else◌}
+use Rattle.std.proofs.Common.{◌≡◌, ℕ, true, false, List, [], ◌∷◌, drop, refl, ap, ◌∙◌, sym, inl}
+use Rattle.std.proofs.Common.{inr, eqb, eqb-true, get_or, arith, Option, Some, None}
 use Rattle.std.specs.Prelude.{nat_eq, option_map}
 use Rattle.std.specs.List.{starts_with}
 use Rattle.std.proofs.lemmas.Bool.{false≢true}
@@ -9,7 +9,7 @@ use Rattle.enc_names.specs.declared.encoding_id.EncodingId.{EncodingId}
 use Rattle.enc_names.specs.declared.encoding_id.EncodingId.TheVariants.{Utf8, Utf16be, Utf16le}
 use Rattle.enc_stream.specs.declared.bom.BomHandling.TheVariants.{Remove}
 use Rattle.enc_stream.specs.declared.encoding.Encoding.{Encoding}
-use Rattle.enc_stream.specs.Bom.{Mark, utf_8_mark, utf_16be_mark, utf_16le_mark, marks, marks_of_encoding, find_mark}
+use Rattle.enc_stream.specs.Bom.{Mark, marks, marks_of_encoding, find_mark}
 use Rattle.enc_stream.specs.Bom.{bom_of}
 use Rattle.enc_stream.specs.MarkLaws.{bytes_after_mark}
 use Rattle.enc_stream.specs.OwnText.{mark_looked_for}
@@ -40,17 +40,30 @@ record IsOwn (id : EncodingId) (m : Mark) : Type 0 where
 
 own_marks : (id : EncodingId) → EachMark (IsOwn id) (marks_of_encoding id)
 own_marks Utf8 = (record { is_own = refl; found = λ bytes starts. rw starts refl }, tt)
-own_marks Utf16be = (record {
-  is_own = refl;
-  found = λ bytes starts. rw (excludes bytes (0xFF ∷ []) (0xBB ∷ 0xBF ∷ []) 0xFE 0xEF
-      (λ e. omega arith) starts, starts) refl;
-}, tt)
-own_marks Utf16le = (record {
-  is_own = refl;
-  found = λ bytes starts. rw (excludes bytes (0xFE ∷ []) (0xBB ∷ 0xBF ∷ []) 0xFF 0xEF
-      (λ e. omega arith) starts, excludes bytes (0xFE ∷ []) (0xFF ∷ []) 0xFF 0xFE
-      (λ e. omega arith) starts, starts) refl;
-}, tt)
+own_marks Utf16be = (
+  record {
+    is_own = refl;
+    found = λ bytes starts. rw (
+      excludes bytes (0xFF ∷ []) (0xBB ∷ 0xBF ∷ []) 0xFE 0xEF
+          (λ e. omega arith) starts,
+      starts,
+    ) refl;
+  },
+  tt,
+)
+own_marks Utf16le = (
+  record {
+    is_own = refl;
+    found = λ bytes starts. rw (
+      excludes bytes (0xFE ∷ []) (0xBB ∷ 0xBF ∷ []) 0xFF 0xEF
+          (λ e. omega arith) starts,
+      excludes bytes (0xFE ∷ []) (0xFF ∷ []) 0xFF 0xFE
+          (λ e. omega arith) starts,
+      starts,
+    ) refl;
+  },
+  tt,
+)
 own_marks _ = tt
 
 -- If the one found among all three is of this encoding, it is found, and else none is.

@@ -1,45 +1,27 @@
--- The bytes pending of a decoder: those that it holds of a byte order mark, or else those of its codec.
+-- The bytes pending of a decoder: those that it holds of a byte order mark, or else those of its
+-- codec.
 use Rattle.std.specs.Prelude.{if◌then◌else◌, bytes_eq}
-use Rattle.std.proofs.Common.{◌≡◌, ℕ, ◌+◌, ◌-◌, ◌<◌, ◌≤◌, zero, suc, Bool, true, false, ◌&&◌, eqb, List, [], ◌∷◌}
-use Rattle.std.proofs.Common.{◌++◌, length, take, drop, refl, ap, ◌∙◌, sym, arith, append_assoc, inl, inr, ◌⊎◌, None}
-use Rattle.std.proofs.Common.{Some, subst}
+use Rattle.std.proofs.Common.{◌≡◌, ℕ, ◌<◌, ◌≤◌, zero, suc, Bool, true, false, eqb, List, [], ◌∷◌}
+use Rattle.std.proofs.Common.{◌++◌, length, refl, ap, sym, arith, inl, inr, ◌⊎◌, None}
+use Rattle.std.proofs.Common.{Some}
 use Rattle.std.proofs.lemmas.Bool.{false≢true, cond-false}
 use Rattle.std.proofs.lemmas.Bool.Decides.{nat_tests}
-use Rattle.std.proofs.lemmas.List.{append-nil, length-append, take-append-drop}
 use Rattle.std.proofs.lemmas.Slice.Eq.{bytes_eq-Decides}
-use Rattle.std.proofs.Math.ListN.{drop_of_length-le, length-take}
-use Rattle.std.proofs.Math.Seq.{take-append-add, drop-append-add, take-append_seam, drop-append_seam}
 use Rattle.enc_stream.specs.declared.encoding.Encoding.{Encoding}
 use Rattle.enc_stream.specs.declared.life_cycle.LifeCycle.{LifeCycle}
-use Rattle.enc_stream.specs.declared.life_cycle.LifeCycle.TheVariants.{AtStart, AtUtf8Start, AtUtf16BeStart}
-use Rattle.enc_stream.specs.declared.life_cycle.LifeCycle.TheVariants.{AtUtf16LeStart, SeenUtf8First, SeenUtf8Second}
-use Rattle.enc_stream.specs.declared.life_cycle.LifeCycle.TheVariants.{SeenUtf16BeFirst, SeenUtf16LeFirst}
-use Rattle.enc_stream.specs.declared.life_cycle.LifeCycle.TheVariants.{ConvertingWithPendingBb, Converting, Finished}
-use Rattle.enc_units.specs.declared.decoder_result.DecoderResult.{DecoderResult}
-use Rattle.enc_units.specs.declared.decoder_result.DecoderResult.TheVariants.{InputEmpty, OutputFull, Malformed}
-use Rattle.enc_units.specs.Output.{Output}
-use Rattle.enc_decoder.specs.Sequence.{Sequence, sequence_bytes, set_after}
-use Rattle.enc_decoder.specs.Segmentation.{Rule, sequences_of}
-use Rattle.enc_decoder.specs.CodecState.{CodecState, remainder_of}
-use Rattle.enc_decoder.specs.Remainder.{Remainder, AreBytes, AreFirstSequences, Determines}
-use Rattle.enc_decoder.specs.Call.{DecoderCall, DecoderAtInputEmpty, DecoderStops, DecodeErrorMode, reaches_end}
-use Rattle.enc_decoder.proofs.RuleLemmas.{has_bytes}
-use Rattle.enc_decoder.proofs.ByteLemmas.{bytes-append}
-use Rattle.enc_stream.specs.Encodings.{rule_of}
-use Rattle.enc_stream.specs.LifeCycle.{phase_of, awaits_mark, mark_bytes, encoding_of_mark_or, held_mark_bytes}
+use Rattle.enc_stream.specs.declared.life_cycle.LifeCycle.TheVariants.{AtStart}
+use Rattle.enc_stream.specs.declared.life_cycle.LifeCycle.TheVariants.{SeenUtf8Second}
+use Rattle.enc_stream.specs.declared.life_cycle.LifeCycle.TheVariants.{ConvertingWithPendingBb, Converting}
+use Rattle.enc_decoder.specs.Sequence.{Sequence, sequence_bytes}
+use Rattle.enc_decoder.specs.CodecState.{CodecState}
+use Rattle.enc_decoder.specs.Remainder.{AreBytes}
+use Rattle.enc_stream.specs.LifeCycle.{phase_of, awaits_mark, held_mark_bytes}
 use Rattle.enc_stream.specs.LifeCycle.{mark_prefixes, life_at_prefix, life_after_bytes, life_after_sequences}
-use Rattle.enc_stream.specs.LifeCycle.{life_after, Phase, InFront, Within, Ended, mark_in, sequences_in}
-use Rattle.enc_decoder.specs.Converting.{PrefixedCallInto, ReadsHeldFirst, shifted_result}
-use Rattle.enc_stream.specs.Decoding.{DecoderState, has_ended, remaining_sequences, decoder_remainder}
+use Rattle.enc_stream.specs.Decoding.{has_ended}
 use Rattle.enc_stream.specs.Decoding.{held_or_pending_bytes, decoder_state_of, unread_bytes, HeldBytesMatchCodec}
-use Rattle.enc_stream.specs.Decoding.{PendingAreHeldBytes, DecodesInto}
-use Rattle.enc_decoder.proofs.JoinedCallLemmas.{no_bytes}
-use Rattle.enc_stream.proofs.LifeCycleLemmas.{own_prefix, second_if_two, IsOpen, open_phase, held_unmarked}
-use Rattle.enc_stream.proofs.LifeCycleLemmas.{held_are_bytes, held_are_few, MayBegin, may_begin}
-use Rattle.enc_decoder.proofs.SegmentationLemmas.{sequences_of-nil}
-use Rattle.enc_stream.specs.Bom.{Mark, utf_8_mark, utf_16be_mark, utf_16le_mark, sequences_by_mark}
-use Rattle.enc_stream.specs.Sniffing.{HasNoMark}
-use Rattle.enc_stream.proofs.MarkFirstLemmas.{undetermined_in}
+use Rattle.enc_stream.specs.Decoding.{PendingAreHeldBytes}
+use Rattle.enc_stream.proofs.LifeCycleLemmas.{own_prefix}
+use Rattle.enc_stream.proofs.LifeCycleLemmas.{held_are_bytes, held_are_few}
 
 pub pending_of_held : (held pending : List ℕ) → pending ≡ []
     → held_or_pending_bytes held pending ≡ held

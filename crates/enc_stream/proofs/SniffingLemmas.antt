@@ -24,13 +24,13 @@ pub mark_byte_after : (state : LifeCycle) (m : Mark) (last byte : ℕ)
 mark_byte_after state m last byte whole awaits found no_front excludes {life} state_is what_is =
     rw (state_is, what_is) (elim (true_or_false (eqb byte last)) [
       | inl is_last ↦ rw is_last (rw (eqb-true byte last is_last) (record {
-          mark = m;
-          is_encoding = refl;
-          whole = whole;
-          found = found;
-          no_front = no_front;
-          awaits = awaits;
-        }))
+        mark = m;
+        is_encoding = refl;
+        whole = whole;
+        found = found;
+        no_front = no_front;
+        awaits = awaits;
+      }))
       | inr is_other ↦ rw is_other
           (excludes (ne_eqb last byte (λ same. eqb-false byte last is_other (sym same))))
     ])

@@ -1,7 +1,6 @@
 -- Text after bytes that might have begun a mark: the decoder makes the same of them, and of later
 -- bytes, as its codec.
-use Rattle.std.specs.Prelude.{if◌then◌else◌}
-use Rattle.std.proofs.Common.{◌≡◌, ℕ, ◌+◌, ◌-◌, ◌<◌, ◌≤◌, zero, suc, Bool, true, false, eqb, List, [], ◌∷◌, ◌++◌}
+use Rattle.std.proofs.Common.{◌≡◌, ℕ, ◌+◌, ◌-◌, ◌<◌, ◌≤◌, zero, suc, Bool, true, false, List, [], ◌∷◌, ◌++◌}
 use Rattle.std.proofs.Common.{length, take, drop, refl, ap, ◌∙◌, sym, arith, append_assoc, inl, inr, subst, ◌⊎◌, Some}
 use Rattle.std.proofs.Common.{None}
 use Rattle.std.proofs.lemmas.Bool.{false≢true}
@@ -13,9 +12,8 @@ use Rattle.enc_decoder.specs.Sequence.{Sequence}
 use Rattle.enc_decoder.specs.Segmentation.{Rule, sequences_of}
 use Rattle.enc_decoder.specs.CodecState.{CodecState, remainder_of}
 use Rattle.enc_decoder.specs.Remainder.{AreBytes, AreFirstSequences, Determines}
-use Rattle.enc_decoder.proofs.SegmentationLemmas.{sequences_of-nil}
 use Rattle.enc_stream.specs.Encodings.{rule_of}
-use Rattle.enc_stream.specs.Bom.{Mark, utf_8_mark, utf_16be_mark, utf_16le_mark, sequences_by_mark}
+use Rattle.enc_stream.specs.Bom.{Mark, sequences_by_mark}
 use Rattle.enc_stream.specs.LifeCycle.{Phase, InFront, Within, Ended, phase_of, awaits_mark, mark_in, sequences_in}
 use Rattle.enc_stream.specs.LifeCycle.{held_mark_bytes}
 use Rattle.enc_stream.specs.Sniffing.{HasNoMark}
@@ -23,7 +21,7 @@ use Rattle.enc_decoder.specs.Converting.{ReadsHeldFirst}
 use Rattle.enc_stream.specs.Decoding.{has_ended, remaining_sequences, decoder_remainder, held_or_pending_bytes}
 use Rattle.enc_stream.specs.Decoding.{decoder_state_of, unread_bytes, HeldBytesMatchCodec}
 use Rattle.enc_stream.proofs.MarkFirstLemmas.{undetermined_in}
-use Rattle.enc_stream.proofs.LifeCycleLemmas.{IsOpen, open_phase, held_unmarked, held_are_bytes, held_are_few}
+use Rattle.enc_stream.proofs.LifeCycleLemmas.{IsOpen, open_phase, held_unmarked}
 use Rattle.enc_stream.proofs.LifeCycleLemmas.{MayBegin, may_begin}
 use Rattle.enc_decoder.specs.CallRecord.{Call}
 use Rattle.enc_decoder.proofs.StageLemmas.{start_stage}

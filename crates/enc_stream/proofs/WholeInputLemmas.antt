@@ -1,15 +1,10 @@
 -- The sequences of a whole input, joined, are the bytes after the mark.
-use Rattle.std.proofs.Common.{◌≡◌, ℕ, true, List, [], ◌∷◌, ◌++◌, length, drop, refl, ap, ◌∙◌, sym, Option, Some, None}
-use Rattle.std.proofs.Common.{eqb, eqb-true, inl, inr, if◌then◌else◌}
-use Rattle.std.specs.Prelude.{nat_eq}
-use Rattle.std.specs.List.{starts_with}
-use Rattle.std.proofs.lemmas.Bool.{false≢true}
+use Rattle.std.proofs.Common.{◌≡◌, ℕ, List, ◌++◌, length, drop, refl, ap, ◌∙◌, Option, Some, None}
 use Rattle.enc_stream.specs.declared.encoding.Encoding.{Encoding}
 use Rattle.enc_stream.specs.declared.bom.BomHandling.{BomHandling}
 use Rattle.enc_decoder.specs.Sequence.{Sequence, sequence_bytes}
 use Rattle.enc_decoder.specs.Segmentation.{IsSegmentation}
 use Rattle.enc_decoder.proofs.SegmentationLemmas.{all_bytes, sequences_are_segmentation, is_one}
-use Rattle.enc_decoder.proofs.FirstSequenceLemmas.{true_or_false}
 use Rattle.enc_stream.specs.Encodings.{rule_of}
 use Rattle.enc_stream.specs.Bom.{Mark, find_mark, marks_looked_for, sequences_by_mark}
 use Rattle.enc_stream.specs.LifeCycle.{mark_bytes, encoding_of_mark_or}
@@ -22,7 +17,8 @@ pub joined_by : (found : Option Mark) (e : Encoding) (x : List ℕ)
     → mark_bytes found ++ sequence_bytes (sequences_by_mark found e x) ≡ x
 joined_by None e x starts = all_bytes (rule_of e) 0 x
 joined_by (Some m) e x starts =
-    ap (λ z. m.bytes ++ z) (all_bytes (rule_of m.encoding) 0 (drop (length m.bytes) x)) ∙ starts m refl
+    ap (λ z. m.bytes ++ z) (all_bytes (rule_of m.encoding) 0 (drop (length m.bytes) x))
+    ∙ starts m refl
 
 pub joined : (handling : BomHandling) (e : Encoding) (bytes : List ℕ)
     → mark_bytes (find_mark (marks_looked_for handling e) bytes)
@@ -45,7 +41,8 @@ one_by : (found : Option Mark) (e : Encoding) (x : List ℕ) (ss : List Sequence
     → IsSegmentation (rule_of (encoding_of_mark_or found e)) 0 (bytes_after_mark found x) ss
     → ss ≡ sequences_by_mark found e x
 one_by None e x ss segmented = is_one (rule_of e) 0 x ss segmented
-one_by (Some m) e x ss segmented = is_one (rule_of m.encoding) 0 (drop (length m.bytes) x) ss segmented
+one_by (Some m) e x ss segmented =
+    is_one (rule_of m.encoding) 0 (drop (length m.bytes) x) ss segmented
 
 pub is_segmented : (handling : BomHandling) (e : Encoding) (bytes : List ℕ)
     → IsSegmentation (rule_of
@@ -60,4 +57,5 @@ pub one : (handling : BomHandling) (e : Encoding) (bytes : List ℕ) (ss : List 
     (encoding_of_mark_or (find_mark (marks_looked_for handling e) bytes) e)) 0
     (bytes_after_mark (find_mark (marks_looked_for handling e) bytes) bytes) ss
     → ss ≡ whole_sequences handling e bytes
-one handling e bytes ss segmented = one_by (find_mark (marks_looked_for handling e) bytes) e bytes ss segmented
+one handling e bytes ss segmented =
+    one_by (find_mark (marks_looked_for handling e) bytes) e bytes ss segmented

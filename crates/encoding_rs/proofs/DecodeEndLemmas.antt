@@ -13,7 +13,6 @@ use Rattle.encoding_rs.specs.Run.{units_of_call, DecodeRunState, DecodeRunAdvanc
 use Rattle.encoding_rs.specs.DecodeEnd.{most_units, CanDecodeMore}
 use Rattle.enc_stream.proofs.DecoderProgressLemmas.{nearer}
 use Rattle.enc_stream.proofs.OutputFullLemmas.{four_bytes, two_units}
-use Rattle.encoding_rs.proofs.DecodeCallLemmas.{determined_by}
 use Rattle.encoding_rs.proofs.RunLemmas.{IsRun, ends_within}
 
 small_by : (utf16 : Bool) → TakesSmallTexts (units_of_call utf16) (most_units utf16)

@@ -1,4 +1,4 @@
-use Rattle.std.proofs.Common.{rules, true, false, refl}
+use Rattle.std.proofs.Common.{rules, true, false}
 use Rattle.std.specs.String.{string_bytes}
 use Rattle.enc_decoder.proofs.ByteLemmas.{bytes_of_slice}
 use Rattle.enc_stream.specs.declared.bom.BomHandling.TheVariants.{Off}

@@ -1,4 +1,4 @@
-use Rattle.std.proofs.Common.{rules, ◌≡◌, [], None, length, refl, ap, ◌∙◌, sym, inl, inr}
+use Rattle.std.proofs.Common.{rules, ◌≡◌, [], None, length, ap, ◌∙◌, sym, inl, inr}
 use Rattle.std.specs.String.{string_bytes}
 use Rattle.std.specs.Char.{encode_utf8}
 use Rattle.enc_units.specs.declared.coder_result.CoderResult.TheVariants.{InputEmpty}

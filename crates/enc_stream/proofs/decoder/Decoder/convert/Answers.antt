@@ -1,17 +1,11 @@
-use Rattle.std.proofs.Common.{◌≡◌, ℕ, List, [], Some, refl, sym, ◌∙◌, ap, subst, take}
+use Rattle.std.proofs.Common.{◌≡◌, refl, sym, ◌∙◌, ap, subst, take}
 use Rattle.std.proofs.lemmas.Bool.{false≢true}
 use Rattle.std.proofs.Math.Seq.{take-length}
 use Rattle.enc_codec.specs.Variant.{variant_decoder_state, variant_decoder_lengths}
 use Rattle.enc_decoder.proofs.ByteLemmas.{bytes_of_slice}
 use Rattle.enc_stream.specs.Sniffing.{ExtendsHeldMark}
-use Rattle.enc_names.specs.declared.encoding_id.EncodingId.{EncodingId}
-use Rattle.enc_stream.specs.declared.life_cycle.LifeCycle.{LifeCycle}
-use Rattle.enc_stream.specs.declared.life_cycle.LifeCycle.TheVariants.{AtStart, AtUtf8Start, AtUtf16BeStart}
-use Rattle.enc_stream.specs.declared.life_cycle.LifeCycle.TheVariants.{AtUtf16LeStart, SeenUtf8First, SeenUtf8Second}
-use Rattle.enc_stream.specs.declared.life_cycle.LifeCycle.TheVariants.{SeenUtf16BeFirst, SeenUtf16LeFirst}
-use Rattle.enc_stream.specs.declared.life_cycle.LifeCycle.TheVariants.{ConvertingWithPendingBb, Converting, Finished}
-use Rattle.enc_stream.specs.LifeCycle.{life_at_prefix, mark_prefixes}
-use Rattle.enc_stream.specs.Decoding.{DecoderState, HasFormulasOf, LooksForOwnMark}
+use Rattle.enc_stream.specs.declared.life_cycle.LifeCycle.TheVariants.{Converting}
+use Rattle.enc_stream.specs.Decoding.{DecoderState, HasFormulasOf}
 use Rattle.enc_stream.specs.Encodings.{rule_of}
 use Rattle.enc_stream.proofs.PendingBytesLemmas.{shows_held}
 use Rattle.enc_stream.proofs.OutputFullLemmas.{converts_into}

@@ -16,7 +16,8 @@ returns-clause-call c =
 pub returns-clause-appended : goal.returns-clause-appended
 returns-clause-appended c =
     in_front c.convert-outcome.ensures.wrote
-    (ap (λ (o : Output). o.written) c.convert-outcome.ensures.onto) (rw c.new-tail.ensures.now refl) refl (search rules)
+    (ap (λ (o : Output). o.written) c.convert-outcome.ensures.onto)
+    (rw c.new-tail.ensures.now refl) refl (search rules)
 
 pub returns-clause-read : goal.returns-clause-read
 returns-clause-read c = (returns-clause-call c).decodes.call.within
