@@ -26,7 +26,7 @@ mod pieces;
 
 use encoding_rs::Encoding;
 use kind::Kind;
-use pieces::{Setting, call_for_bytes, call_for_text, call_for_units};
+use pieces::{CutInput, Setting, call_for_bytes, call_for_text, call_for_units};
 use std::io::Read;
 use std::process::ExitCode;
 use std::{env, io};
@@ -125,7 +125,10 @@ fn run(setting: Setting, job: Job, input: &[u8]) -> u64 {
     let mut total = 0u64;
     for _ in 0..job.rounds {
         let sum = match job.kind {
-            Kind::Bytes(call) => call_for_bytes(setting, call, input, len, bytes, units),
+            Kind::Bytes(call) => {
+                let cut = CutInput { bytes: input, len };
+                call_for_bytes(setting, call, cut, bytes, units)
+            }
             Kind::Text(call) => call_for_text(setting, call, text, len, bytes),
             Kind::Units(call) => {
                 call_for_units(setting.encoding, call, &read[..count], len / 2, bytes)

@@ -14,22 +14,29 @@ pub struct Setting {
     pub encoding: Encoding,
 }
 
-/// Makes a call for each piece of `len` bytes, and returns the sum.
+/// An input, and the length in bytes of the pieces that it is cut into.
+#[derive(Clone, Copy)]
+pub struct CutInput<'a> {
+    pub bytes: &'a [u8],
+    pub len: usize,
+}
+
+/// Makes a call for each piece of an input, and returns the sum.
 pub(crate) fn call_for_bytes(
     setting: Setting,
     call: ByteCall,
-    input: &[u8],
-    len: usize,
+    input: CutInput<'_>,
     bytes: &mut [u8],
     units: &mut [u16],
 ) -> u64
-    requires len { 0 < len }
+    requires len { 0 < input.len }
     requires bytes { 4 ≤ length bytes.old }
     requires units { 2 ≤ length units.old }
 {
     let Setting { alloc, encoding } = setting;
+    let len = input.len;
     let mut decoder = encoding.new_decoder();
-    let mut unread = input;
+    let mut unread = input.bytes;
     let mut total = 0u64;
     'pieces: while let Some((src, rest)) = unread.split_at_checked(len) {
         unread = rest;

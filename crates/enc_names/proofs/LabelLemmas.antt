@@ -12,6 +12,7 @@ use Rattle.std.proofs.lemmas.Str.Ascii.{trim_ascii_is}
 use Rattle.enc_names.specs.Place.{word_place}
 use Rattle.enc_names.specs.Table.{table}
 use Rattle.enc_names.specs.declared.encoding_id.EncodingId.{EncodingId}
+use Rattle.enc_names.proofs.WordSearchLemmas.{differs}
 use Rattle.enc_names.specs.LabelIds.{id_pairs, id_paired_with, trim_start, trim_end, id_of_label}
 
 -- at the place of a word stands that word
@@ -19,30 +20,22 @@ placed : (labels : List (List ℕ)) (word : List ℕ) (i : ℕ) → word_place l
     → get_or labels i [] ≡ word
 placed [] word i found_at = absurd (let no : ⊥ = cc in no)
 placed (label ∷ labels) word i found_at =
-    by_test (bytes_eq label word) refl (λ j e. placed labels word j e)
+    by_test (bytes_eq label word) refl i found_at (λ j e. placed labels word j e)
   where
-    later : (o : Option ℕ) → ((j : ℕ) → o ≡ Some j → get_or labels j [] ≡ word)
-        → option_map suc o ≡ Some i
-        → get_or (label ∷ labels) i [] ≡ word
-    later None f g = absurd (let no : ⊥ = cc in no)
-    later (Some j) f g =
-        let same_place : suc j ≡ i = cc in
-        ap (λ n. get_or (label ∷ labels) n []) (sym same_place) ∙ f j refl
+    later : (o : Option ℕ) (n : ℕ) → option_map suc o ≡ Some n
+        → ((j : ℕ) → o ≡ Some j → get_or labels j [] ≡ word) → get_or (label ∷ labels) n [] ≡ word
+    later None n at in_rest = absurd (let no : ⊥ = cc in no)
+    later (Some j) zero at in_rest = absurd (let no : ⊥ = cc in no)
+    later (Some j) (suc n) at in_rest =
+        in_rest n (let same_place : Some j ≡ Some n = cc in same_place)
 
-    by_test : (b : Bool) → bytes_eq label word ≡ b → ((j : ℕ) → word_place labels word ≡ Some j
-        → get_or labels j [] ≡ word) → get_or (label ∷ labels) i [] ≡ word
-    by_test true equal_is f =
-        let found_first : Some 0 ≡ Some i =
-        sym (ap (λ (b : Bool). if b then Some 0 else option_map suc (word_place labels word))
-        equal_is)
-        ∙ found_at in
-        let same_place : 0 ≡ i = cc in
-        ap (λ n. get_or (label ∷ labels) n []) (sym same_place)
-        ∙ (bytes_eq-Decides label word).0 equal_is
-    by_test false equal_is f =
-        later (word_place labels word) f
-        (sym (ap (λ (b : Bool). if b then Some 0 else option_map suc (word_place labels word))
-        equal_is) ∙ found_at)
+    by_test : (b : Bool) → bytes_eq label word ≡ b → (n : ℕ)
+        → (if b then Some 0 else option_map suc (word_place labels word)) ≡ Some n
+        → ((j : ℕ) → word_place labels word ≡ Some j → get_or labels j [] ≡ word)
+        → get_or (label ∷ labels) n [] ≡ word
+    by_test true equal zero at in_rest = (bytes_eq-Decides label word).0 equal
+    by_test true equal (suc n) at in_rest = absurd (let no : ⊥ = cc in no)
+    by_test false equal n at in_rest = later (word_place labels word) n at in_rest
 
 -- the encodings in the order of the labels
 
@@ -72,19 +65,12 @@ unplaced [] word places_hold not_found = refl
 unplaced (pair ∷ pairs) word places_hold not_found =
     let first : is_some (word_place table pair.0) ≡ true =
     first_so (is_some (word_place table pair.0)) (have_places pairs) places_hold in
-    let differs : bytes_eq pair.0 word ≡ false = other (bytes_eq pair.0 word) refl first in
+    let other : bytes_eq pair.0 word ≡ false = differs pair.0 word
+    (λ same. false≢true (sym (ap is_some (ap (word_place table) same ∙ not_found)) ∙ first)) in
     let rest : id_paired_with pairs word ≡ None =
     unplaced pairs word (second_so (is_some (word_place table pair.0)) (have_places pairs)
     places_hold) not_found in
-    rw (differs, rest) refl
-  where
-    other : (b : Bool) → bytes_eq pair.0 word ≡ b → is_some (word_place table pair.0) ≡ true
-        → bytes_eq pair.0 word ≡ false
-    other true e s =
-        absurd (false≢true (sym
-        (ap is_some (ap (word_place table) ((bytes_eq-Decides pair.0 word).0 e) ∙ not_found))
-        ∙ s))
-    other false e s = e
+    rw (other, rest) refl
 
 -- the place of a trimmed label gives its encoding
 module _ (label trimmed : List ℕ) (trim : IsTrimAscii label trimmed) where

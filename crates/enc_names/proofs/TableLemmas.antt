@@ -7,12 +7,11 @@ use Rattle.std.specs.Char.{to_ascii_lowercase}
 use Rattle.std.specs.List.{list_all}
 use Rattle.std.specs.Str.{bytes_eq}
 use Rattle.std.specs.Cmp.{first_so, second_so}
-use Rattle.std.proofs.lemmas.Slice.Eq.{bytes_eq-Decides}
 use Rattle.enc_names.specs.Order.{are_ascending_words}
 use Rattle.enc_names.specs.Place.{word_place, texts_of}
 use Rattle.enc_names.specs.Table.{table}
 use Rattle.enc_names.specs.declared.words.TheConstants.{LONGEST}
-use Rattle.enc_names.proofs.WordSearchLemmas.{texts_len}
+use Rattle.enc_names.proofs.WordSearchLemmas.{differs, texts_len}
 
 pub table_ascends : are_ascending_words table ≡ true
 unfolding are_ascending_words table
@@ -39,17 +38,12 @@ none_longer (one ∷ words) word all_short l =
     let is_short : length one ≤ LONGEST =
     leb-true (length one) LONGEST
     (first_so (nat_le (length one) LONGEST) (are_short words) all_short) in
-    let differs : bytes_eq one word ≡ false = other (bytes_eq one word) refl is_short in
+    let other : bytes_eq one word ≡ false = differs one word
+    (λ same. let same_length = ap length same in let no : ⊥ = omega arith in no) in
     let not_in_rest : word_place words word ≡ None =
     none_longer words word (second_so (nat_le (length one) LONGEST) (are_short words) all_short)
     l in
-    rw (differs, not_in_rest) refl
-  where
-    other : (b : Bool) → bytes_eq one word ≡ b → length one ≤ LONGEST → bytes_eq one word ≡ false
-    other true compared m =
-        absurd (let same_length = ap length ((bytes_eq-Decides one word).0 compared) in
-        let no : ⊥ = omega arith in no)
-    other false compared m = compared
+    rw (other, not_in_rest) refl
 
 pub longer_is_none : (word : List ℕ) → LONGEST < length word
     → word_place table (map to_ascii_lowercase word) ≡ None

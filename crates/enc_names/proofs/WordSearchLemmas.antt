@@ -16,14 +16,13 @@ pub record Halving (words : List (List ℕ)) (word : List ℕ) (low high : ℕ) 
   pub after : (i : ℕ) → high ≤ i → i < length words
       → word_number word < word_number (get_or words i [])
 
--- words with other numbers are others
-
-differs : (label word : List ℕ) → word_number label ≢ word_number word → bytes_eq label word ≡ false
-differs label word n = by_test (bytes_eq label word) refl
+-- other words are found different
+pub differs : (label word : List ℕ) → label ≢ word → bytes_eq label word ≡ false
+differs label word other = by_test (bytes_eq label word) refl
   where
     by_test : (b : Bool) → bytes_eq label word ≡ b → b ≡ false
-    by_test true h = absurd (n (ap word_number ((bytes_eq-Decides label word).0 h)))
-    by_test false h = refl
+    by_test true equal = absurd (other ((bytes_eq-Decides label word).0 equal))
+    by_test false equal = refl
 
 found : (words : List (List ℕ)) (word : List ℕ) (i : ℕ) → i < length words
     → ((j : ℕ) → j < i → word_number (get_or words j []) ≢ word_number word)
@@ -32,7 +31,7 @@ found [] word i l differ is_word = absurd (let no : ⊥ = omega arith in no)
 found (one ∷ words) word zero l differ is_word = rw ((bytes_eq-Decides one word).1 is_word) refl
 found (one ∷ words) word (suc i) l differ is_word =
     rw (
-      differs one word (differ 0 (omega arith)),
+      differs one word (λ same. differ 0 (omega arith) (ap word_number same)),
       found words word i (omega arith) (λ j m. differ (suc j) (omega arith)) is_word,
     ) refl
 
@@ -42,9 +41,8 @@ missing : (words : List (List ℕ)) (word : List ℕ)
 missing [] word differ = refl
 missing (one ∷ words) word differ =
     rw (
-      differs one word (differ 0 (omega arith)),
-      missing words word
-          (λ j m. differ (suc j) (omega arith)),
+      differs one word (λ same. differ 0 (omega arith) (ap word_number same)),
+      missing words word (λ j m. differ (suc j) (omega arith)),
     ) refl
 
 -- the halves, at a word in the middle

@@ -37,17 +37,27 @@ struct Filled {
     is_full: bool,
 }
 
-/// Makes a call, without replacement if it is `reporting`, and records its answer.
+/// A chunk of bytes, and how it is decoded.
+#[derive(Clone, Copy)]
+struct Chunk<'a> {
+    bytes: &'a [u8],
+    /// Whether it is the last.
+    last: bool,
+    /// Whether malformed sequences are reported, and not replaced.
+    reporting: bool,
+}
+
+/// Makes a call with a chunk, and records its answer.
 fn make_call(
     rt: &impl Abort,
     decoder: &mut Decoder,
-    (src, last): (&[u8], bool),
+    chunk: &Chunk<'_>,
     dst: &mut [u8],
     filled: &mut Filled,
-    reporting: bool,
 ) {
     assert!(rt; !decoder.is_finished());
-    if reporting {
+    let (src, last) = (chunk.bytes, chunk.last);
+    if chunk.reporting {
         let (result, read, written) = decoder.decode_to_utf8_without_replacement(src, dst, last);
         filled.read = filled.read.saturating_add(read);
         filled.written = filled.written.saturating_add(written);
@@ -88,16 +98,18 @@ fn fill(
         }
         assert!(rt; filled.read <= bytes.len() && filled.written <= dst.len());
         let unread = &bytes[filled.read..];
-        let chunk = &unread[..step.min(unread.len())];
-        let last = chunk.len() == unread.len();
-        let room = &mut dst[filled.written..];
+        let len = step.min(unread.len());
+        let chunk = Chunk {
+            bytes: &unread[..len],
+            last: len == unread.len(),
+            reporting,
+        };
         make_call(
             rt,
             &mut decoder,
-            (chunk, last),
-            room,
+            &chunk,
+            &mut dst[filled.written..],
             &mut filled,
-            reporting,
         );
     }
     assert!(rt; false, "no end of {encoding:?} {bytes:?}");
