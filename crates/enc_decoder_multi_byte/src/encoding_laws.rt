@@ -1,4 +1,6 @@
 //! The laws of these encodings: functions that do nothing, whose contracts are lemmas.
+//!
+//! Written by scripts/make-sources from data/templates: change the text there, and not this file.
 
 ghost use Rattle.enc_decoder_multi_byte.specs.DoubleByte.{ArePairs};
 ghost use Rattle.enc_decoder_multi_byte.specs.MultiByte.{ArePrefixes};

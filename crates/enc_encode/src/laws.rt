@@ -1,4 +1,6 @@
 //! The law of each encoding without escape sequences: functions that do nothing.
+//!
+//! Written by scripts/make-sources from data/templates: change the text there, and not this file.
 
 use crate::encoders::big5::Big5;
 use crate::encoders::euc_jp::EucJp;
