@@ -53,12 +53,12 @@ module _ {units_of : ℕ → List ℕ} {old now : Remainder} {before at : Output
       → Progress units_of old (remainder_of v) stage.src stage.last stage.mode before after
       (stage.read + n + m) true
   replaces_one {v} {end = end} {after} {n} {m} {l} {a} next written is_rest given =
-      let c : Call = call_at stage (Fatal true) (stage.room - length stage.wrote) (Malformed l a) n
-      next.wrote false in
-      let call : IsRawCall units_of now (remainder_of v) c =
-      subst (λ r. IsRawCall units_of now (remainder_of v) (record c { room = r }))
+      let reported : Call = call_at stage (Fatal true) (stage.room - length stage.wrote)
+      (Malformed l a) n next.wrote false in
+      let call : IsRawCall units_of now (remainder_of v) reported =
+      subst (λ r. IsRawCall units_of now (remainder_of v) (record reported { room = r }))
       (room_at reaches) next.call in
-      let is_settled : IsSettledIn stage.mode c = record {
+      let is_settled : IsSettledIn stage.mode reported = record {
         keeps = ap keeps_room replaces;
         fatal = λ _. refl;
         not_ended = refl;
@@ -66,8 +66,8 @@ module _ {units_of : ℕ → List ℕ} {old now : Remainder} {before at : Output
         replaces = λ _ _ _. replaces;
       } in
       let replaced = reaches_on reaches
-      (malformed_leaves c (bytes-drop stage.read stage.src reaches.bytes) call)
-      (settled_written c (Malformed l a) is_settled call) call.accounted
+      (malformed_leaves reported (bytes-drop stage.read stage.src reaches.bytes) call)
+      (settled_written reported (Malformed l a) is_settled call) call.accounted
       (written ∙ ap (λ o. with_appended o (units_of 0xFFFD)) next.onto
       ∙ with_appended-with_appended at next.wrote (units_of 0xFFFD)) in
       let run = subst (λ x. TakesSequences units_of v v x m end after) is_rest given in

@@ -146,8 +146,8 @@ fn is_reported<U: Units>(out: &U, kind: Kind, mode: ErrorMode) -> bool
 /// Decodes by a codec that takes one byte at a time: the loop of every decoder's call.
 ///
 /// It stops when all input is read, the next sequence does not fit, or one is malformed. In error
-/// mode "replacement" a malformed sequence is reported only if U+FFFD fits, and otherwise the output
-/// is full. Takes no memory.
+/// mode "replacement" a malformed sequence is reported only if U+FFFD fits, and otherwise the
+/// output is full. Takes no memory.
 pub fn run<C: ByteCodec, U: Units>(
     codec: &mut C,
     src: &[u8],

@@ -27,13 +27,12 @@ pub trait RawDecoder: Copy {
     // the formulas for lengths to allocate
     ghost formulas: { Self → TextLengths };
 
-    /// Decodes a chunk up to a malformed sequence, which it reports (Encoding Standard 4.1, "process
-    /// a queue").
+    /// Decodes a chunk up to a malformed sequence, and reports it (Encoding Standard 4.1).
     ///
     /// It stops when all of `src` is read, the next sequence does not fit into `out`, or one is
-    /// malformed. With `last` nothing follows `src`. In error mode "replacement", in which the
-    /// caller writes U+FFFD for it, a malformed sequence is reported only if U+FFFD fits into `out`,
-    /// and otherwise the output is full. Takes no memory.
+    /// malformed. With `last` nothing follows `src`. In error mode "replacement" the caller writes
+    /// U+FFFD for a malformed sequence. So it is reported only if U+FFFD fits into `out`, and
+    /// otherwise the output is full. Takes no memory.
     fn decode<U: Units>(
         &mut self,
         src: &[u8],

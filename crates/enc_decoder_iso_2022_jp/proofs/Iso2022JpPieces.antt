@@ -197,12 +197,3 @@ takes_in_ascii {units_of} {c} {src} {front} m {n} {before} {after} in_ascii is_f
     subst (λ (d : Iso2022JpState). TakesSequences units_of (jp_state d) (jp_state d) src n before
     after) (sym in_ascii)
     (takes_replaced (jp_state (state_with_held Ascii None)) refl (puts_wider m is_front puts))
-
--- A run is taken, and another after it.
-pub takes_run_after : {units_of : ℕ → List ℕ} {c m n : Iso2022JpState} {src rest : List ℕ}
-    {read more : ℕ}
-    {before mid after : Output} → rest ≡ drop read src
-    → TakesRun units_of jp_state c m src read before mid
-    → TakesRun units_of jp_state m n rest more mid after
-    → TakesRun units_of jp_state c n src (read + more) before after
-takes_run_after rest_is first_run next_run = takes_both rest_is first_run next_run

@@ -1,5 +1,6 @@
 -- Steps that follow one another leave what the last of them leave.
-use Rattle.std.proofs.Common.{◌≡◌, ℕ, ◌≤◌, Bool, true, false, Option, Some, None, List, [], ◌∷◌, ◌++◌, length, take, drop}
+use Rattle.std.proofs.Common.{◌≡◌, ℕ, ◌≤◌, Bool, true, false, Option, Some, None, List, [], ◌∷◌, ◌++◌, length, take}
+use Rattle.std.proofs.Common.{drop}
 use Rattle.std.proofs.Common.{refl, ap, ◌∙◌, sym, subst, arith, append_assoc, append-nil, length-append, length-drop}
 use Rattle.std.proofs.lemmas.List.{length-take, take-append-drop}
 use Rattle.std.proofs.lemmas.Slice.{drop-append-drop}
@@ -156,7 +157,8 @@ whatever_follows {last = true} {src = src} {rest} leaves z none =
     rw (none refl, append-nil src, append-nil rest) leaves.remaining
 whatever_follows {last = false} {old} {new} {src} {rest} {done} leaves z none =
     let remaining = steps_from_state new false rest in
-    let set_after : set_after_steps old.set (done ++ remaining) ≡ set_after_steps new.set remaining =
+    let set_after : set_after_steps old.set (done ++ remaining)
+    ≡ set_after_steps new.set remaining =
     set_after_steps-append old.set done remaining
     ∙ ap (λ s. set_after_steps s remaining) (sym leaves.set) in
     steps_of-append old.rule true old.set src z

@@ -20,7 +20,8 @@ use Rattle.enc_encoder.proofs.TextLemmas.{done_is, keeps_text}
 use Rattle.enc_encoder.proofs.NeedLemmas.{meets_need}
 
 -- the code units of the characters left, and of those read
-pub units_read : (units_of : ℕ → List ℕ) (front rest : List ℕ) {src : List ℕ} {a b : ℕ} → src ≡ front ++ rest
+pub units_read : (units_of : ℕ → List ℕ) (front rest : List ℕ) {src : List ℕ} {a b : ℕ}
+    → src ≡ front ++ rest
     → a ≡ length (units_of_text units_of src) → b ≡ length (units_of_text units_of rest)
     → (b ≤ a) × (a - b ≡ length (units_of_text units_of front))
 units_read units_of front rest parts all left =
@@ -155,7 +156,8 @@ module _ (units_of : ℕ → List ℕ) {last : Bool} {old : RawEncoderState} {sr
         (place new left now.slice now.written) (Unmappable k) (a - b)
     stop_report counted left_count {k} reported none_written read =
         stop (leaves_on writes.leaves next)
-        (rw (step_bytes-one writes.done q, none_written) (sym (append-nil (step_bytes writes.done))))
+        (rw (step_bytes-one writes.done q, none_written)
+        (sym (append-nil (step_bytes writes.done))))
         counted left_count (Unmappable k) (record {
           before = writes.done;
           none_reported = writes.none_reported;

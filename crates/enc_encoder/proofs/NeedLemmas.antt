@@ -77,7 +77,10 @@ module _ {old new : RawEncoderState} {src rest : List ℕ} {last : Bool} {room :
       let none : encode_need new last rest ≡ 0 =
       ap (encode_need new last) stops.all_read ∙ at_end new last stops.ended in
       rw call.bytes (record {
-        full = (λ e. cc, λ l. absurd (omega (arith, falls, none, call.fits, ap length call.bytes, l)));
+        full = (
+          λ e. cc,
+          λ l. absurd (omega (arith, falls, none, call.fits, ap length call.bytes, l)),
+        );
         falls = falls;
       })
   meets_need OutputFull call =
@@ -85,7 +88,10 @@ module _ {old new : RawEncoderState} {src rest : List ℕ} {last : Bool} {room :
       let falls = need_left (leaves_of call) stops.none_reported in
       let next = at_next stops.next stops.others (steps_from_state new last rest) stops.comes
       stops.not_report in
-      rw call.bytes (record { full = (λ e. omega (arith, falls, next, stops.full), λ l. refl); falls = falls })
+      rw call.bytes (record {
+        full = (λ e. omega (arith, falls, next, stops.full), λ l. refl);
+        falls = falls;
+      })
   meets_need (Unmappable k) call =
       let falls : encode_need old last src ≡ length wrote + 0 =
       omega (arith, need_to_report (leaves_of call) call.stops, ap length call.bytes) in

@@ -81,7 +81,8 @@ module _ (units_of : ℕ → List ℕ) (kept : ℕ) {last : Bool} {old : RawEnco
 pub stop_small : (units_of : ℕ → List ℕ) (kept : ℕ) (last : Bool) (old : RawEncoderState)
     (src slice : List ℕ) → length slice < kept → {result : EncoderResult}
     → result ≡ result_when_full (is_nothing_left old src last)
-    → CallOnto units_of (Html kept) last (place old src slice 0) (place old src slice 0) result 0 false
+    → CallOnto units_of (Html kept) last (place old src slice 0) (place old src slice 0) result 0
+    false
 unfolding no_turn
 stop_small units_of kept last old src slice small {result} result_is =
     let none = no_turn last (length slice - kept) (place old src slice 0) (omega arith)
@@ -129,7 +130,8 @@ module _ (units_of : ℕ → List ℕ) (kept : ℕ) {last : Bool} {old : RawEnco
 
   -- after a reference
   pub stop_after : {k : ℕ} {next : Place}
-      (encodes : EncodesTo last (length slice - kept - now.written) now next (Unmappable k)) {final : List ℕ}
+      (encodes : EncodesTo last (length slice - kept - now.written) now next (Unmappable k))
+      {final : List ℕ}
       {written : ℕ} (adds : Adds next.slice final next.written written (reference k))
       → length slice - kept ≤ written → {result : EncoderResult}
       → result ≡ result_when_full (is_nothing_left next.state next.rest last)

@@ -14,7 +14,8 @@ use Rattle.enc_encoder.specs.Call.{EncoderCall, EncoderCallInto}
 use Rattle.enc_encoder.specs.ErrorMode.{StepFits, StepsFit, ends_in_report}
 use Rattle.enc_encoder.proofs.StepLemmas.{any_reported-append, or_true, or_false}
 use Rattle.enc_encoder.proofs.LeavesLemmas.{no_step, leaves_of, leaves_on, adds_none, adds_on, same_length}
-use Rattle.enc_encoder.proofs.TextLemmas.{bytes_with_references-append, unreferred, done_is, reported_bytes, is_reported}
+use Rattle.enc_encoder.proofs.TextLemmas.{bytes_with_references-append, unreferred, done_is, reported_bytes}
+use Rattle.enc_encoder.proofs.TextLemmas.{is_reported}
 use Rattle.enc_encoder.proofs.ReferenceStopLemmas.{FitsBefore, AllBefore, fits-append, before-append, all_fit}
 use Rattle.enc_encoder.proofs.ReferenceStopLemmas.{unreported_before}
 use Rattle.enc_encoder.proofs.SliceLemmas.{adds_in_part}
@@ -202,6 +203,7 @@ module _ {last : Bool} {limit : ℕ} {from now next : Place} {replaced : Bool}
         before =
             before-append limit from.written turns.refers.done encodes.call.done turns.before
             (rw (sym turns.refers.adds.count, stops.then_report)
-            (before-append limit now.written before (report ∷ []) fits_before_report (report_fits, tt)));
+            (before-append limit now.written before (report ∷ []) fits_before_report
+            (report_fits, tt)));
         below = omega (arith, below);
       }

@@ -206,7 +206,8 @@ pub done_is : {old new : RawEncoderState} {src rest : List ℕ} {last : Bool} {r
     (call : EncoderCall old new src rest last room result wrote)
     → bytes_with_references call.done ≡ wrote ++ reference_after result
 done_is {new = new} {rest = rest} {last} {room} {result} call =
-    bytes_by_result new rest last room call.done result call.stops ∙ ap (λ t. t ++ reference_after result) (sym call.bytes)
+    bytes_by_result new rest last room call.done result call.stops
+    ∙ ap (λ t. t ++ reference_after result) (sym call.bytes)
 
 pub keeps_text : {last : Bool} {old new : RawEncoderState} {src rest : List ℕ} {done : List Step}
     → Leaves last old new src rest done → IsLawfulEncoderRule old.rule

@@ -22,8 +22,8 @@ pub enum ErrorMode {
 
 /// Encodes a chunk in an error mode.
 ///
-/// With [`ErrorMode::Html`] and fewer than 10 bytes in `dst` it does nothing. After a reference that
-/// reaches the last 10 bytes it writes no more. Takes no memory.
+/// With [`ErrorMode::Html`] and fewer than 10 bytes in `dst` it does nothing. After a reference
+/// that reaches the last 10 bytes it writes no more. Takes no memory.
 #[inline(always)]
 pub fn encode_in_mode<E: RawEncoder, C: Chars>(
     encoder: &mut E,

@@ -26,7 +26,7 @@ pub use error_mode::{ErrorMode, encode_in_mode};
 pub use lawful_repertoire::LawfulRepertoire;
 pub use machine::run;
 pub use made_bytes::{four, one, two};
-pub use outcome::{EncoderOutcome, RawOutcome};
+pub use outcome::{EncoderOutcome, EncoderStop};
 pub use raw_encoder::RawEncoder;
 pub use reference::{LONGEST_REFERENCE, put_reference};
 pub use stateless::{Repertoire, StatelessEncoder};

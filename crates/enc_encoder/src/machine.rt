@@ -11,7 +11,7 @@ ghost use Rattle.enc_encoder.specs.Runs.{WritesRun};
 
 use crate::char_encoder::CharEncoder;
 use crate::character_set::CharacterSet;
-use crate::outcome::RawOutcome;
+use crate::outcome::EncoderStop;
 use crate::transition::Transition;
 use crate::transitions::{first_written_char, take_char, take_escape};
 use enc_units::{Bytes, Chars, EncoderResult};
@@ -86,7 +86,7 @@ pub fn run<E: CharEncoder, C: Chars>(
     src: &mut C,
     dst: &mut [u8],
     last: bool,
-) -> RawOutcome
+) -> EncoderStop
     requires { IsLawfulEncoderRule (E.state encoder.old).rule }
     ensures { EncoderCallInto C.units_of last
         (place (E.state encoder.old) (C.rest src.old) dst.old 0)
@@ -99,7 +99,7 @@ pub fn run<E: CharEncoder, C: Chars>(
     loop {
         let Some(taken) = what_comes(state, src, last) else {
             *encoder = state;
-            return RawOutcome {
+            return EncoderStop {
                 result: EncoderResult::InputEmpty,
                 read: unread - src.unread(),
                 written,
@@ -108,7 +108,7 @@ pub fn run<E: CharEncoder, C: Chars>(
         if let Some(c) = taken.report {
             src.advance();
             *encoder = taken.next;
-            return RawOutcome {
+            return EncoderStop {
                 result: EncoderResult::Unmappable(c),
                 read: unread - src.unread(),
                 written,
@@ -116,7 +116,7 @@ pub fn run<E: CharEncoder, C: Chars>(
         }
         if !put(dst, written, taken.bytes) {
             *encoder = state;
-            return RawOutcome {
+            return EncoderStop {
                 result: EncoderResult::OutputFull,
                 read: unread - src.unread(),
                 written,

@@ -2,9 +2,9 @@
 
 use enc_units::EncoderResult;
 
-/// The outcome of a call of a raw encoder.
+/// The outcome of a call up to an unmappable character.
 #[derive(Clone, Copy)]
-pub struct RawOutcome {
+pub struct EncoderStop {
     /// Why it stopped.
     pub result: EncoderResult,
     /// The number of code units read.

@@ -10,7 +10,7 @@ ghost use Rattle.enc_encoder.specs.Lengths.{from_utf_8_length, from_utf_16_lengt
 ghost use Rattle.enc_encoder.specs.declared.byte_lengths.ByteLengths.{ByteLengths};
 
 use crate::byte_lengths::ByteLengths;
-use crate::outcome::RawOutcome;
+use crate::outcome::EncoderStop;
 use enc_units::Chars;
 
 /// An encoder of one encoding (Encoding Standard 4.1).
@@ -31,7 +31,7 @@ pub trait RawEncoder {
     ///
     /// The bytes of a character are written together; an escape sequence before it may be written
     /// alone. The bytes of `dst` after those written are unchanged. Takes no memory.
-    fn encode<C: Chars>(&mut self, src: &mut C, dst: &mut [u8], last: bool) -> RawOutcome
+    fn encode<C: Chars>(&mut self, src: &mut C, dst: &mut [u8], last: bool) -> EncoderStop
         ensures call { EncoderCallInto C.units_of last
             (place (state self.old) (C.rest src.old) dst.old 0)
             (place (state self.new) (C.rest src.new) dst.new result.written)

@@ -12,7 +12,7 @@ use crate::character_set::CharacterSet;
 use crate::lawful_repertoire::LawfulRepertoire;
 use crate::machine::run;
 use crate::made_bytes::one;
-use crate::outcome::RawOutcome;
+use crate::outcome::EncoderStop;
 use crate::raw_encoder::RawEncoder;
 use enc_units::{Bytes, Chars, Mapping, ascii_in};
 use std::simd::prelude::*;
@@ -171,7 +171,7 @@ impl<R: LawfulRepertoire> RawEncoder for StatelessEncoder<Barring<R>> {
 
     ghost formulas = { λ e. R.lengths e.repertoire.repertoire };
 
-    fn encode<C: Chars>(&mut self, src: &mut C, dst: &mut [u8], last: bool) -> RawOutcome {
+    fn encode<C: Chars>(&mut self, src: &mut C, dst: &mut [u8], last: bool) -> EncoderStop {
         let repertoire = self.repertoire.repertoire;
         let barred = self.repertoire.barred;
         repertoire.laws();

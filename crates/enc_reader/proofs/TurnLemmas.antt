@@ -79,8 +79,7 @@ module _ (before : ReaderState) {new : DecoderState} {room : ℕ} (result : Code
         none_after = λ f. (refl, f);
         done = decodes.call.done;
         residual = decodes.call.residual;
-        encoding = λ z none. still_ahead encode_utf8 Replacement before.decoder new before.unread
-            before.ended room (decoder_result_of result) read wrote replaced decodes z none;
+        encoding = λ z none. still_ahead (call result) decodes z none;
         scalars = subst (λ ss. AreScalars (sequence_text ss)) all_put decodes.call.scalars;
         text = decodes.call.text
             ∙ ap (λ ss. units_of_text encode_utf8 (sequence_text ss)) all_put;

@@ -212,7 +212,8 @@ char_read s c has_char = elim (true_or_false (nat_lt c 0x80)) [
 
 -- texts
 
-one : (s : CharacterSet) (c : ℕ) (b : Option (List ℕ)) → IfSome b (λ x. IsReadIn s x (lookup_char c))
+one : (s : CharacterSet) (c : ℕ) (b : Option (List ℕ))
+    → IfSome b (λ x. IsReadIn s x (lookup_char c))
     → is_some b ≡ true → IsReadIn s (list_or_empty b) (lookup_char c)
 one s c None read some = cc
 one s c (Some b) read some = read

@@ -176,7 +176,8 @@ module _ {units_of : ℕ → List ℕ} (barred : List ℕ) (encoding : Encoding)
         (same new (call.rule ∙ keeps)) call);
     ended =
         λ at_end is_last. ap with_set
-        (ends_in_ascii c.mode new c.rest c.last c.room call.done c.result call.stops at_end is_last);
+        (ends_in_ascii c.mode new c.rest c.last c.room call.done c.result call.stops at_end
+        is_last);
   })
 
 -- a call whose bytes are at the end of another list than the one that it wrote into

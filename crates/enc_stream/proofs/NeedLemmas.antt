@@ -1,5 +1,5 @@
 -- How many bytes a call of an encoder has to write, and which lengths are enough for it.
-use Rattle.std.proofs.Common.{◌≡◌, ℕ, ◌≤◌, Bool, Option, Some, None, List, length, take, IfSome, refl, ap, ◌∙◌, sym, subst}
+use Rattle.std.proofs.Common.{◌≡◌, ℕ, ◌≤◌, Bool, Option, Some, None, List, length, IfSome, refl, ap, ◌∙◌, sym, subst}
 use Rattle.std.proofs.Common.{arith, length-take}
 use Rattle.std.specs.Char.{encode_utf8}
 use Rattle.std.specs.Char.Escape.{encode_utf16}

@@ -152,7 +152,8 @@ module _ (old new : EncoderState) {c : CallInMode}
         let text_kept : bytes_by (raw_state old).rule old.set c.src ≡ c.wrote ++ later =
         ap (bytes_by (raw_state old).rule old.set) (sym (append-nil c.src))
         ∙ call.text [] (λ _. refl) ∙ rw (result_is, none_after stop, append-nil c.rest) refl in
-        written_so_far.whole ∙ ap (λ x. before ++ x) text_kept ∙ sym (append_assoc before c.wrote later)
+        written_so_far.whole ∙ ap (λ x. before ++ x) text_kept
+        ∙ sym (append_assoc before c.wrote later)
         ∙ ap (λ x. x ++ later)
         (ap (λ x. before ++ x) follows ∙ ap (λ x. x ++ drop (length before) after) (sym keeps)
         ∙ take-append-drop (length before) after)

@@ -7,9 +7,8 @@ use Rattle.std.proofs.lemmas.Bool.{false≢true}
 use Rattle.std.proofs.lemmas.List.{append-nil, length-append, take-append-drop}
 use Rattle.std.proofs.lemmas.Slice.Eq.{bytes_eq-Decides}
 use Rattle.std.proofs.Math.ListN.{drop_of_length-le}
-use Rattle.enc_units.specs.declared.decoder_result.DecoderResult.{DecoderResult}
 use Rattle.enc_decoder.specs.Sequence.{Sequence, sequence_bytes}
-use Rattle.enc_decoder.specs.Call.{DecodeErrorMode, reaches_end}
+use Rattle.enc_decoder.specs.Call.{reaches_end}
 use Rattle.enc_decoder.proofs.SegmentationLemmas.{all_bytes}
 use Rattle.enc_decoder.proofs.SequenceLemmas.{sequence_bytes-append}
 use Rattle.enc_decoder.proofs.FirstSequenceLemmas.{true_or_false}
@@ -29,11 +28,11 @@ use Rattle.enc_stream.specs.LifeCycle.{Phase, InFront, Within, Ended, phase_of, 
 use Rattle.enc_stream.specs.LifeCycle.{encoding_of_mark_or, sequences_in, mark_prefixes, life_at_prefix}
 use Rattle.enc_stream.specs.LifeCycle.{life_after_bytes, life_after_sequences, life_after}
 use Rattle.enc_stream.specs.Decoding.{DecoderState, has_finished, has_ended, removal_start, fresh_decoder}
-use Rattle.enc_stream.specs.Decoding.{remaining_sequences, whole_encoding, DecodesChunk}
+use Rattle.enc_stream.specs.Decoding.{remaining_sequences, whole_encoding}
 use Rattle.enc_stream.proofs.FoundMarkLemmas.{start_fits, found_is}
 use Rattle.enc_stream.proofs.WholeInputLemmas.{joined_by}
 use Rattle.enc_decoder.specs.CallRecord.{Call}
-use Rattle.enc_stream.proofs.DecoderCallLemmas.{finished_by}
+use Rattle.enc_stream.proofs.DecoderCallLemmas.{Decodes, finished_by}
 use Rattle.enc_stream.proofs.DecoderProgressLemmas.{ends_read}
 
 -- where a sequence is done, no mark may come any more
@@ -188,12 +187,14 @@ fresh_ahead Sniff e bytes = refl
 fresh_ahead Remove e bytes = removal_ahead e.id e bytes
 
 -- A call does not change it.
-module _ (units_of : ℕ → List ℕ) (mode : DecodeErrorMode) (old new : DecoderState) (src : List ℕ)
-    (last : Bool)
-    (room : ℕ) (result : DecoderResult) (read : ℕ) (wrote : List ℕ) (replaced : Bool)
-    (decodes : DecodesChunk units_of mode old new src last room result read wrote replaced)
-    (y : List ℕ)
-    (none : last ≡ true → y ≡ []) where
+module _ {units_of : ℕ → List ℕ} {old new : DecoderState} (c : Call)
+    (decodes : Decodes units_of old new c) (y : List ℕ) (none : c.last ≡ true → y ≡ []) where
+  abbrev src : List ℕ
+  src = c.src
+
+  abbrev read : ℕ
+  read = c.read
+
   abbrev x : List ℕ
   x = old.pending ++ take read src
 
@@ -266,21 +267,11 @@ module _ (units_of : ℕ → List ℕ) (mode : DecodeErrorMode) (old new : Decod
   goes_within is_within =
       by_read (same_in (phase_of old.life) refl is_within) (settled new rest Within is_within refl)
 
-  goes_to_end : reaches_end last result ≡ true
+  goes_to_end : reaches_end c.last c.result ≡ true
       → encoding_ahead new rest ≡ encoding_ahead old (src ++ y)
   goes_to_end h =
-      let call : Call = record {
-        src = src;
-        last = last;
-        mode = mode;
-        room = room;
-        result = result;
-        read = read;
-        wrote = wrote;
-        replaced = replaced;
-      } in
-      let finished = finished_by call decodes ∙ h in
-      let ends = ends_read call decodes finished in
+      let finished = finished_by c decodes ∙ h in
+      let ends = ends_read c decodes finished in
       let none_unread : rest ≡ [] = ap (λ z. drop read src ++ z) (none ends.0)
       ∙ append-nil (drop read src)
       ∙ drop_of_length-le src (let all_read = ends.1 in omega arith) in
@@ -322,7 +313,7 @@ module _ (units_of : ℕ → List ℕ) (mode : DecodeErrorMode) (old new : Decod
   by_state (Some front) (one ∷ others) s n l =
       goes_within (ap phase_of l ∙ within_after (Some front) one others)
 
-  by_end : (end : Bool) → reaches_end last result ≡ end
+  by_end : (end : Bool) → reaches_end c.last c.result ≡ end
       → encoding_ahead new rest ≡ encoding_ahead old (src ++ y)
   by_end true h = goes_to_end h
   by_end false h =
@@ -330,4 +321,4 @@ module _ (units_of : ℕ → List ℕ) (mode : DecodeErrorMode) (old new : Decod
       ∙ ap (λ b. life_after old.life b x decodes.call.done) h)
 
   pub still_ahead : encoding_ahead new rest ≡ encoding_ahead old (src ++ y)
-  still_ahead = by_end (reaches_end last result) refl
+  still_ahead = by_end (reaches_end c.last c.result) refl

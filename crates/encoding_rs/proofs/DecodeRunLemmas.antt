@@ -13,6 +13,7 @@ use Rattle.encoding_rs.specs.declared.run.DecodeCall.{DecodeCall}
 use Rattle.enc_units.specs.Output.{units_of_text}
 use Rattle.enc_decoder.specs.Sequence.{Sequence, sequence_bytes, sequence_text, any_malformed}
 use Rattle.enc_decoder.specs.Call.{reaches_end, is_replacement_mode, DecoderStops}
+use Rattle.enc_decoder.specs.CallRecord.{Call}
 use Rattle.enc_decoder.specs.Replacing.{decode_error_mode}
 use Rattle.enc_stream.specs.Bom.{marks_looked_for, find_mark}
 use Rattle.enc_stream.specs.LifeCycle.{Within, phase_of, mark_bytes, life_after}
@@ -88,6 +89,18 @@ module _ {handling : BomHandling} {e : Encoding} {bytes : List ℕ} {made : Deco
   abbrev last : Bool
   last = nat_le (length unread) made.offer
 
+  abbrev call : Call
+  call = record {
+    src = chunk;
+    last = last;
+    mode = decode_error_mode made.replace;
+    room = made.room;
+    result = advances.result;
+    read = advances.more;
+    wrote = units_of_text (units_of_call made.utf16) advances.call.answers.text;
+    replaced = advances.replaced;
+  }
+
   abbrev decodes : DecodesChunk (units_of_call made.utf16) (decode_error_mode made.replace)
       old.decoder new.decoder chunk last made.room advances.result advances.more
       (units_of_text (units_of_call made.utf16) advances.call.answers.text) advances.replaced
@@ -133,16 +146,7 @@ module _ {handling : BomHandling} {e : Encoding} {bytes : List ℕ} {made : Deco
       in_input.within,
     );
     all_read = λ finished.
-        let ends = ends_read (record {
-          src = chunk;
-          last = last;
-          mode = decode_error_mode made.replace;
-          room = made.room;
-          result = advances.result;
-          read = advances.more;
-          wrote = _;
-          replaced = advances.replaced;
-        }) decodes finished in
+        let ends = ends_read call decodes finished in
         omega (
           arith,
           advances.read,
@@ -153,7 +157,7 @@ module _ {handling : BomHandling} {e : Encoding} {bytes : List ℕ} {made : Deco
           in_input.within,
         );
     encoding = ap (encoding_ahead new.decoder) (sym rest_is)
-        ∙ still_ahead _ _ _ _ chunk last _ _ _ _ _ decodes following none_following
+        ∙ still_ahead call decodes following none_following
         ∙ ap (encoding_ahead old.decoder) (take-append-drop made.offer unread)
         ∙ in_input.encoding;
     remaining = omega (arith, remaining_length, in_input.remaining);

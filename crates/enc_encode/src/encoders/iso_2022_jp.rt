@@ -13,8 +13,8 @@ ghost use Rattle.enc_encoder.specs.CharLaw.{AreBytesOf};
 use super::japanese::{is_halfwidth_katakana, with_fullwidth_minus};
 use super::katakana::KATAKANA;
 use enc_encoder::{
-    BarredChars, ByteLengths, CharEncoder, CharList, CharacterSet, NoChars, RawEncoder, RawOutcome,
-    one, run, two,
+    BarredChars, ByteLengths, CharEncoder, CharList, CharacterSet, EncoderStop, NoChars,
+    RawEncoder, one, run, two,
 };
 use enc_index_pointers::jis0208;
 use enc_units::{Bytes, Chars, Mapping, unshifted_len};
@@ -261,7 +261,7 @@ impl RawEncoder for Iso2022JpEncoder {
 
     ghost formulas = { λ _. lengths.Iso2022Jp };
 
-    fn encode<C: Chars>(&mut self, src: &mut C, dst: &mut [u8], last: bool) -> RawOutcome {
+    fn encode<C: Chars>(&mut self, src: &mut C, dst: &mut [u8], last: bool) -> EncoderStop {
         let set = self.set;
         if self.barred.is_empty() {
             let barred = NoChars;

@@ -19,7 +19,8 @@ pub returns-in-Some-report : goal.returns-in-Some-report
 returns-in-Some-report g c =
     let read = report_reads c.in-Some.ensures c.in-Some-report.is c.advance.ensures in
     stop_report g.C.Chars.units_of c.loop-taken.invariant c.requires
-    (step_leaves c.in-Some.ensures read.0) c.unread-unread.ensures c.unread-in-Some-report.ensures c.in-Some-report.is
+    (step_leaves c.in-Some.ensures read.0) c.unread-unread.ensures c.unread-in-Some-report.ensures
+    c.in-Some-report.is
     (c.in-Some.ensures.reports _ c.in-Some-report.is).1 read.1
 
 pub overflow_sub-result-in-Some-report : goal.overflow_sub-result-in-Some-report
@@ -69,4 +70,5 @@ loop-taken-preserved g c =
     let put = c.put.ensures in
     let one = step_writes c.in-Some.ensures left (no_report _ c.in_default-report.not-Some)
     put.count (put.fits c.if-not-put.false) (put.put c.if-not-put.false) in
-    writes_on c.loop-taken.invariant (writes_on one (c.write_run-written.ensures c.args.last _ refl))
+    writes_on c.loop-taken.invariant
+    (writes_on one (c.write_run-written.ensures c.args.last _ refl))

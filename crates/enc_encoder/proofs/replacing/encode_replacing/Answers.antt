@@ -47,7 +47,8 @@ returns-then-written-limit g c =
     let put = c.put_reference-written.ensures in
     let stopped = stop_after g.C.Chars.units_of 10 c.loop-c.invariant encoded
     (adds_reference _ put.len put.onto put.bound (search rules)) c.if-written-limit.true
-    c.full_result-then-written-limit.ensures c.if-dst-lt-LONGEST_REFERENCE.false c.encode-outcome.ensures.lawful
+    c.full_result-then-written-limit.ensures c.if-dst-lt-LONGEST_REFERENCE.false
+    c.encode-outcome.ensures.lawful
     c.unread-unread.ensures c.unread-then-written-limit.ensures in
     record { within = stopped.within; rest = stopped.rest_stays; call = stopped.call }
 

@@ -35,11 +35,11 @@ loop-read-preserved c =
     omega (arith, gathered.few, gathered.within, written.few, written.long) in
     let put = put_part state.written end state.dst c.copy_from_slice.ensures.after count room in
     let long = put_length put in
-    let n = next - state.read in
-    let whole : state.read + n ≡ next = omega (arith, gathered.some) in
+    let more = next - state.read in
+    let whole : state.read + more ≡ next = omega (arith, gathered.some) in
     let stored = put_front put
     ∙ ap (λ z. take state.written state.dst ++ z) gathered.gathered in
-    let front = units_further c.args.src.now 0 state.read state.read n (state.read + n)
+    let front = units_further c.args.src.now 0 state.read state.read more (state.read + more)
     written.front stored (omega arith) refl in
     let all : state.written + end ≤ length (units_from c.args.src.now 0 c.args.len) =
     omega (
@@ -49,8 +49,9 @@ loop-read-preserved c =
       long,
       room,
       whole,
-      units_grow c.args.src.now (state.read + n) c.args.len (omega (arith, whole, gathered.within)),
+      units_grow c.args.src.now (state.read + more) c.args.len
+          (omega (arith, whole, gathered.within)),
     ) in
-    let further = written_further n written (omega (arith, whole, gathered.within)) long
+    let further = written_further more written (omega (arith, whole, gathered.within)) long
     (omega (arith, long, room)) stored (put_rest put _ all) in
     (gathered.len ∙ state.invariant.0, rw whole at further)

@@ -1,8 +1,7 @@
 use Rattle.std.proofs.Common.{◌∙◌, ap, sym, arith}
 use Rattle.enc_decoder_iso_2022_jp.specs.Iso2022JpState.{Iso2022JpState, bytes_of_held, iso_2022_jp_state}
 use Rattle.enc_decoder.proofs.PieceLemmas.{takes_pieces}
-use Rattle.enc_decoder.proofs.TakingLemmas.{takes_none}
-use Rattle.enc_decoder_iso_2022_jp.proofs.Iso2022JpPieces.{takes_run_after}
+use Rattle.enc_decoder.proofs.TakingLemmas.{takes_none, takes_both}
 use Rattle.enc_decoder_iso_2022_jp.proofs.iso_2022_jp.Iso2022JpDecoderByteCodec.take_run.Goals as goal
 
 pub returns-in_default : goal.returns-in_default
@@ -33,18 +32,18 @@ take_escape-next-requires g c = c.loop-state.invariant.none_held
 
 pub returns-then-taken-eq0 : goal.returns-then-taken-eq0
 returns-then-taken-eq0 g c =
-    takes_run_after c.split_at.ensures.back c.loop-state.invariant.run
+    takes_both c.split_at.ensures.back c.loop-state.invariant.run
     c.take_escape-next.ensures.run
 
 pub loop-state-smaller : goal.loop-state-smaller
 loop-state-smaller g c =
-    let run = takes_run_after c.split_at.ensures.back c.loop-state.invariant.run
+    let run = takes_both c.split_at.ensures.back c.loop-state.invariant.run
     c.take_escape-next.ensures.run in
     omega (arith, run.run.within, c.if-taken-eq0.false)
 
 pub loop-state-preserved : goal.loop-state-preserved
 loop-state-preserved g c = record {
-  run = takes_run_after c.split_at.ensures.back c.loop-state.invariant.run
+  run = takes_both c.split_at.ensures.back c.loop-state.invariant.run
       c.take_escape-next.ensures.run;
   none_held = c.take_escape-next.ensures.none_held;
 }

@@ -30,4 +30,5 @@ returns-clause-read c =
 pub returns-clause-progress : goal.returns-clause-progress
 returns-clause-progress c = λ on room.
     let encodes = (returns-clause-call c).encodes in
-    rw (lossy_unread _ (λ i. (c.type_inv.src i).fits) encodes) (goes_on encodes.call (lawful_of _ _) room on)
+    rw (lossy_unread _ (λ i. (c.type_inv.src i).fits) encodes)
+    (goes_on encodes.call (lawful_of _ _) room on)
