@@ -34,7 +34,6 @@ LABEL = re.compile(r"(?:`(\w+)`|(its clause|every clause))(?: \((.*?)\))?")
 @dataclass(eq=False)
 class Function:
     """A function: its type or trait, the names that may qualify it, and what each condition and clause says."""
-
     path: str
     name: str
     crate: str

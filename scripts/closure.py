@@ -27,7 +27,6 @@ TYPE = r"^(?:pub(?:\(crate\))? )?(?:enum|struct) {}\b.*?(?:;$|^\}})"
 
 class Definition(NamedTuple):
     """A definition or a type of the code: its file, its name and its number of lines."""
-
     path: str
     name: str
     lines: int

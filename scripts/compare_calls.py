@@ -77,7 +77,6 @@ LENGTHS["ISO-2022-JP"] = lambda n: (3 * n, 3 * n, n, 4 * n + 3, 5 * n + 3)
 
 class Line(NamedTuple):
     """A call, after one for the bytes `before`."""
-
     direction: str
     label: str
     marks: str
@@ -119,7 +118,6 @@ class Line(NamedTuple):
 
 class Answer(NamedTuple):
     """The answer of a program to a line."""
-
     result: str
     read: int
     written: int

@@ -22,7 +22,6 @@ LINES = {"call": "# call: ", "shown": "# shown by: ", "reason": "# not shown: ",
 
 class Pair(NamedTuple):
     """A text of a file, and the one that takes its place."""
-
     file: str
     old: str
     new: str
@@ -30,7 +29,6 @@ class Pair(NamedTuple):
 
 class Place(NamedTuple):
     """What a pair changes: the file, and in it the function, by its name, its owner's head line and its own; or no function."""
-
     file: str
     name: str = ""
     owner: str = ""

@@ -31,14 +31,11 @@ def sources():
     return sorted(it for it in found if "/out/" not in it and not is_written(it))
 
 
-def wide_lines(path, text):
-    """The lines that have too many columns."""
-    found = []
-    for at, line in enumerate(text.split("\n"), 1):
-        most = MOST_OF_IMPORTS if IMPORT.match(line) else MOST_COLUMNS
-        if len(line) > most and not WHOLE_LINE.match(line):
-            found.append(f"{path}:{at}: a line of too many columns")
-    return found
+def wide_lines(text):
+    """The places of lines that have too many columns."""
+    every = ((it.start(), it[0]) for it in re.finditer(".+", text))
+    wide = ((at, line) for at, line in every if len(line) > (MOST_OF_IMPORTS if IMPORT.match(line) else MOST_COLUMNS))
+    return [(at, "a line of too many columns") for at, line in wide if not WHOLE_LINE.match(line)]
 
 
 def parameters(text, at):
@@ -50,19 +47,19 @@ def parameters(text, at):
     return number
 
 
-def long_heads(path, text):
-    """The functions that have too many parameters."""
+def long_heads(text):
+    """The places of functions that have too many parameters."""
     found = []
     for it in FUNCTION.finditer(text):
         inner, parts = None, text[it.end():end_of_group(text, it.end()) - 1].replace("->", "")
         while parts != inner:
             inner, parts = parts, INNER.sub("", parts)
         if sum(bool(part.strip()) for part in parts.split(",")) > MOST_OF_FUNCTIONS:
-            found.append(f"{path}:{text.count(chr(10), 0, it.start()) + 1}: more than {MOST_OF_FUNCTIONS} parameters")
+            found.append((it.start(), f"more than {MOST_OF_FUNCTIONS} parameters"))
     return found
 
 
-def unnamed(path, text):
+def unnamed(text):
     """Places of a proof where names are wanted: `_` side by side, many parameters, facts of one letter cited twice."""
     found = [(it.start(), "six `_` or more side by side") for it in HOLES.finditer(text)]
     heads = (it for it in HEAD.finditer(text) if parameters(text, it.end()) > MOST_PARAMETERS)
@@ -71,7 +68,7 @@ def unnamed(path, text):
         for it in LOCAL.finditer(block[0]):
             if len(re.findall(rf"(?<![\w.]){it[1]}(?!\w)", block[0])) > 2:
                 found.append((block.start() + it.start(), f"`{it[1]}` is cited more than once, and has one letter"))
-    return [f"{path}:{text.count(chr(10), 0, place) + 1}: {what}" for place, what in found]
+    return found
 
 
 def names_out_of_date():
@@ -90,9 +87,9 @@ def broken_rules():
     """What is against a rule, in the order of files."""
     found = []
     for path in sources():
-        text = read(path)
-        proof = "/proofs/" in path
+        text, proof = read(path), "/proofs/" in path
         most = MOST_OF_PROOFS if proof else MOST_LINES
         found += [f"{path}: more than {most} lines"] * (text.count("\n") > most)
-        found += wide_lines(path, text) + (unnamed(path, text) if proof else long_heads(path, text))
+        places = wide_lines(text) + (unnamed(text) if proof else long_heads(text))
+        found += [f"{path}:{text.count(chr(10), 0, place) + 1}: {what}" for place, what in places]
     return found

@@ -26,7 +26,6 @@ def snake_of(ident):
 
 class Encoding(NamedTuple):
     """A line of data/encodings.txt."""
-
     name: str
     constant: str
     section: str
@@ -47,7 +46,6 @@ class Encoding(NamedTuple):
 
 class Codec(NamedTuple):
     """A line `codec` of data/codecs.txt."""
-
     name: str
     decoder: str
     encoder: str
@@ -73,7 +71,6 @@ class Named:
 
 class Index(NamedTuple):
     """A line `index`."""
-
     name: str
     title: str
     size: str
@@ -103,7 +100,6 @@ class Index(NamedTuple):
 
 class LookUp(NamedTuple):
     """A line `lookup`."""
-
     name: str
     index: str
     users: str
@@ -129,7 +125,6 @@ class LookUp(NamedTuple):
 
 class Pairs(NamedTuple):
     """A line `pairs`."""
-
     decoder: str
     index: str
     leads: str
@@ -159,7 +154,6 @@ class Pairs(NamedTuple):
 
 class Lists(NamedTuple):
     """All lines of data/codecs.txt, each kind in its order."""
-
     codecs: list
     indexes: list
     lookups: list

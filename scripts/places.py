@@ -18,7 +18,6 @@ CRATE_OF = dict.fromkeys("AB", "enc_decoder_single_byte") | dict.fromkeys("CD", 
 
 class Decoder(NamedTuple):
     """A decoder, by the name that its codecs have in the code: the crate of its family and the module there, if any."""
-
     name: str
     codecs: list
     encoder: str

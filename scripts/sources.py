@@ -6,8 +6,9 @@ import re
 from common import paths, read
 
 HEAD = re.compile(r"(?:(?:abbrev|unfoldable|pub|record|data) )+(?!mod |use )([^\s:({]+)")
-CLAUSE = re.compile(r"^ *(?:requires|ensures)\b[^{\n]*\{", re.M)
-GHOST = re.compile(r"^ *(?:pub |ghost )*(?:use|mod|ghost) [^;]*;", re.M)
+# a clause of a contract, with brackets within brackets, and what else is no code
+CLAUSE = r"^ *(?:requires|ensures)\b[^{\n]*\{(?:[^{}]|\{(?:[^{}]|\{[^{}]*\})*\})*\}"
+NO_CODE = re.compile(CLAUSE + r"|^ *(?:pub |ghost )*(?:use|mod|ghost) [^;]*;", re.M)
 IMPORTS = re.compile(r"^(?:pub |ghost )*use [^{\n]*(?:\{[^}]*\})?.*$|^pub mod .*$", re.M)
 
 
@@ -57,10 +58,7 @@ def lines_of(path):
 
 def executable_lines(path):
     """The lines of a file of code that are neither blank, comments, imports, contracts nor ghost."""
-    text, code, at = re.sub(r"^ *//.*", "", read(path), flags=re.M), "", 0
-    for it in CLAUSE.finditer(text):
-        code, at = code + text[at:it.start()], end_of_group(text, it.end())
-    return counted(GHOST.sub("", code + text[at:]), "//")
+    return counted(NO_CODE.sub("", read(path)), "//")
 
 
 def is_written(path):

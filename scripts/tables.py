@@ -35,9 +35,6 @@ INDEXES = {it.name: it for it in lists().indexes}
 SINGLE_BYTE = [it for it in single_byte() if it.index == it.ident]
 
 
-# The entries of indexes, and what follows from them.
-
-
 def runs_of(entries):
     """The entries as runs: first pointer, last pointer, first code point."""
     runs = []
@@ -124,9 +121,6 @@ def word_of(character):
 def unit_of(character):
     """The UTF-16 code unit of a character, or 0 if it takes two."""
     return ord(character) if "" < character < "\U00010000" else 0
-
-
-# Sources of data.
 
 
 def lines_of(items, each):
@@ -263,9 +257,6 @@ def data():
     made[f"{DATA}/gb18030_ranges.rt"] = source(title, text_of("gb18030-ranges"), [runs], OF_RUNS)
     made[f"{PAGES}/gb18030_ranges.rt"] = ranges_by_code_point()
     return made | single_byte_sources()
-
-
-# Other sources.
 
 
 def ends_of(mask):

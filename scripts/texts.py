@@ -15,7 +15,6 @@ ALSO = {"iso-2022-jp": "cp932"}
 
 class Text(NamedTuple):
     """A line of the list, and whether its encoding has an encoder."""
-
     codec: str
     text: str
     decoded_alone: str

@@ -16,9 +16,6 @@ def names_of(ident, constant):
     return {"Name": ident, "NAME": constant, "name": constant.lower()}
 
 
-# Encodings.
-
-
 def words_of_labels(labels):
     """Labels as the words of a definition."""
     lines = textwrap.wrap(" ".join(labels), 88, break_on_hyphens=False)
@@ -67,8 +64,6 @@ def of_encodings():
         "those_not_single_byte": pattern([it for it in every if "single-byte" not in it.properties]),
     }
 
-
-# Codecs.
 
 # The functions of test_support that return samples, of a codec that has more than one.
 SAMPLES = {"SingleByte": ("windows_1252", "windows_1251", "windows_1257")}
@@ -136,9 +131,6 @@ def of_codecs():
     }
 
 
-# Indexes and look-ups.
-
-
 def depth(length):
     """How often a list of this length is halved."""
     return (length - 1).bit_length()
@@ -164,7 +156,7 @@ def words_of_lookup(it):
         "bound": said.removeprefix("below ") if kind == "below" else index.length,
         "counts": f"is_{it.module}_pointer" if kind in ("from", "not") else "any_pointer",
         "by_last": f"is_last_in_{it.module}" if last else "no_character",
-        "depths": f"{depth(index.length)} {depths}", "depths_of_pages": depths,
+        "depths": f"{depth(index.length)} {depths}",
     }
 
 
