@@ -1,6 +1,5 @@
--- What is left once whole sequences are taken at once.
-use Rattle.std.proofs.Common.{◌||◌}
-use Rattle.std.proofs.Common.{◌≡◌, ℕ, ◌+◌, ◌<◌, false, List, [], ◌++◌}
+-- A run of whole sequences leads from a stage of calls to a later one.
+use Rattle.std.proofs.Common.{◌≡◌, ℕ, ◌+◌, ◌<◌, false, List, [], ◌++◌, ◌||◌}
 use Rattle.std.proofs.Common.{take, refl, ap, ◌∙◌, sym, arith, append-nil, inl, inr}
 use Rattle.std.proofs.lemmas.Bool.{cases_lt}
 use Rattle.enc_units.specs.Output.{Output, units_of_text}
@@ -16,24 +15,29 @@ use Rattle.enc_decoder.proofs.StageLemmas.{Stage}
 use Rattle.enc_decoder.proofs.LeavesLemmas.{stage_after}
 use Rattle.enc_decoder.proofs.OutputStageLemmas.{Reaches, Progress, progress_at, room_at, reaches_state}
 
+-- At a stage, a codec takes whole sequences: the next n bytes lead it from the state v to w, and
+-- their text is put out, from the output `at` to `then`.
 module _ {units_of : ℕ → List ℕ} {v w : CodecState} (stage : Stage) {n : ℕ} {at then : Output}
     (run : TakesSequences units_of v w (unread stage) n at then) where
   abbrev pub run_units : List ℕ
   run_units = units_of_text units_of (sequence_text run.taken)
 
-  none_pending : 0 < n → w.pending ≡ []
-  none_pending some = ap (λ (s : CodecState). s.pending) run.next_state ∙ run.none_pending some
+  -- after a run that reads something, no byte is pending
+  none_pending_after : 0 < n → w.pending ≡ []
+  none_pending_after some = ap (λ (s : CodecState). s.pending) run.next_state ∙ run.none_pending some
 
   leads_on : LeadsOn v w stage n run.taken
   leads_on = record {
     within = run.within;
     same_rule = ap (λ (s : CodecState). s.rule) run.next_state;
     set = ap (λ (s : CodecState). s.set) run.next_state;
+    -- If bytes are read, none was pending and they are those of the sequences. If none is read, no
+    -- sequence is taken, and the pending bytes stay.
     accounted = elim (cases_lt 0 n) [
       | inl some ↦
-          ap (λ q. q ++ take n (unread stage)) (run.none_pending some) ∙ sym run.bytes
+          ap (λ bytes. bytes ++ take n (unread stage)) (run.none_pending some) ∙ sym run.bytes
           ∙ sym (append-nil (sequence_bytes run.taken))
-          ∙ ap (λ q. sequence_bytes run.taken ++ q) (sym (none_pending some))
+          ∙ ap (λ bytes. sequence_bytes run.taken ++ bytes) (sym (none_pending_after some))
       | inr none ↦
           let none_read : n ≡ 0 = omega arith in
           ap (λ k. v.pending ++ take k (unread stage)) none_read ∙ append-nil v.pending
@@ -41,10 +45,11 @@ module _ {units_of : ℕ → List ℕ} {v w : CodecState} (stage : Stage) {n : �
           ∙ sym (ap (λ ss. sequence_bytes ss ++ w.pending) (run.none_taken none_read))
     ];
     first = λ y follows. run.first y follows.more;
-    undetermined = λ some. nothing_pending w (none_pending some);
+    undetermined = λ some. nothing_pending w (none_pending_after some);
   }
 
-  -- Calls that have come to the stage go on after the run.
+  -- Calls that have come to the stage go on after the run. `old` and `before` are the codec and the
+  -- output at the start of the call.
   pub reaches_run : {old : Remainder} {before : Output}
       → Reaches units_of old (remainder_of v) before at stage
       → (is_replacement_mode stage.mode ≡ false → any_malformed run.taken ≡ false)
@@ -59,7 +64,7 @@ module _ {units_of : ℕ → List ℕ} {v w : CodecState} (stage : Stage) {n : �
         none_replaced = none_replaced;
       }) run.written
 
--- the same after a run of valid sequences
+-- The same as a loop knows it, after a run without malformed sequences: `replaced` stays as it was.
 pub past_run : {units_of : ℕ → List ℕ} {v w : CodecState} {old : Remainder}
     {before at then : Output} {stage : Stage} {n : ℕ}
     → Reaches units_of old (remainder_of v) before at stage
@@ -67,6 +72,6 @@ pub past_run : {units_of : ℕ → List ℕ} {v w : CodecState} {old : Remainder
     → any_malformed run.taken ≡ false
     → Progress units_of old (remainder_of w) stage.src stage.last stage.mode before then
     (stage.read + n) stage.replaced
-past_run {stage = stage} reaches run none =
-    progress_at (reaches_run stage run reaches (λ _. none)) refl
-    (ap (λ b. stage.replaced || b) none ∙ or_false stage.replaced)
+past_run {stage = stage} reaches run none_malformed =
+    progress_at (reaches_run stage run reaches (λ _. none_malformed)) refl
+    (ap (λ b. stage.replaced || b) none_malformed ∙ or_false stage.replaced)

@@ -2,7 +2,7 @@
 use Rattle.std.proofs.Common.{◌≡◌, ℕ, ◌+◌, ◌-◌, ◌<◌, ◌≤◌, Bool, true, false, refl, sym, ap, ◌∙◌, subst, cond, ◌&&◌}
 use Rattle.std.proofs.Common.{◌||◌, ◌==◌, nat_lt, nat_le, List, [], ◌∷◌, Option, Some, None, arith, inl, inr, le-leb}
 use Rattle.std.specs.Prelude.{◌⊎◌}
-use Rattle.std.proofs.lemmas.Bool.{cond-true, cond-false, and_parts, and_from, cases_lt, true≢false}
+use Rattle.std.proofs.lemmas.Bool.{cond-true, cond-false, cases_Bool, and_parts, and_from, cases_lt, true≢false}
 use Rattle.std.proofs.lemmas.Bool.Decides.{nat_tests}
 use Rattle.enc_index.specs.declared.table.Planes.TheVariants.{All}
 use Rattle.enc_index.specs.Index.{Run, entry_character, is_entry_code_point, index_at}
@@ -22,7 +22,8 @@ by_code_point (run ∷ runs) =
     let rest = by_code_point runs in
     cond (run.0 == 7457) rest (turned run ∷ rest)
 
--- whether a run has code points that an entry can have, and pointers that count, or just 7457
+-- Whether each code point of a run is one that an entry can have, and its pointers either all count
+-- and are below 1237576, or are 7457 alone.
 unfoldable pub is_range : Run → Bool
 is_range run =
     (nat_lt 0 run.2 &&
@@ -36,27 +37,23 @@ unfoldable pub are_ranges : List Run → Bool
 are_ranges [] = true
 are_ranges (run ∷ runs) = is_range run && are_ranges runs
 
--- what the test says of a run from a to b whose first code point is v
+-- consequences of the test, for a run of the pointers from a to b whose first code point is v
 module _ (a b v : ℕ) (h : is_range (a, b, v) ≡ true) where
   is_entry : (c : ℕ) → v ≤ c → c ≤ v + (b - a) → is_entry_code_point All c ≡ true
   unfolding is_range
-  is_entry c low high = grind (arith, nat_tests)
+  is_entry c from to = grind (arith, nat_tests)
 
   counts : (a == 7457) ≡ false → (q : ℕ) → a ≤ q → q ≤ b → is_ranges_pointer q ≡ true
   unfolding is_range
-  counts other q low high = grind (arith, nat_tests)
+  counts other q from to = grind (arith, nat_tests)
 
   is_below : (a == 7457) ≡ false → (q : ℕ) → q ≤ b → q < 1237576
   unfolding is_range
-  is_below other q high = grind (arith, nat_tests)
+  is_below other q to = grind (arith, nat_tests)
 
   is_alone : (a == 7457) ≡ true → (q : ℕ) → a ≤ q → q ≤ b → is_ranges_pointer q ≡ false
   unfolding is_range
-  is_alone same q low high = grind (arith, nat_tests)
-
-by_test : (b : Bool) → (b ≡ true) ⊎ (b ≡ false)
-by_test true = inl refl
-by_test false = inr refl
+  is_alone same q from to = grind (arith, nat_tests)
 
 by_code_point-alone : (run : Run) (runs : List Run) → (run.0 == 7457) ≡ true
     → by_code_point (run ∷ runs) ≡ by_code_point runs
@@ -70,19 +67,20 @@ by_code_point-more run runs h = cond-false _ _ _ h
 
 run_with_pointer-here : (run : Run) (runs : List Run) (n : ℕ) → run.0 ≤ n → n ≤ run.1
     → run_with_pointer (run ∷ runs) n ≡ Some run
-run_with_pointer-here run runs n low high =
-    cond-true _ _ _ (and_from _ _ (le-leb run.0 n low) (le-leb n run.1 high))
+run_with_pointer-here run runs n from to =
+    cond-true _ _ _ (and_from _ _ (le-leb run.0 n from) (le-leb n run.1 to))
 
 run_with_pointer-past : (run : Run) (runs : List Run) (n : ℕ) → (run.1 < n) ⊎ (n < run.0)
     → run_with_pointer (run ∷ runs) n ≡ run_with_pointer runs n
 run_with_pointer-past run runs n h = cond-false _ _ _ (outside run n h)
 
--- a pointer that counts has the character, and lies from `low` on
-pub record IsPointerOf (runs : List Run) (c q low : ℕ) : Type 0 where
+-- q is a pointer of the character c: it counts, its entry is c, and it lies below 1237576, and from
+-- `low_pointer` on. The induction needs this: a pointer of a later run lies after the first run.
+pub record IsPointerOf (runs : List Run) (c q low_pointer : ℕ) : Type 0 where
   pub is_counted : is_ranges_pointer q ≡ true
   pub has : index_at All runs q ≡ Some c
   pub below : q < 1237576
-  pub from : low ≤ q
+  pub from : low_pointer ≤ q
 
 module _ (low : ℕ) (run : Run) (runs : List Run) (c : ℕ)
     (up : are_ascending_runs low (run ∷ runs) ≡ true)
@@ -123,33 +121,34 @@ pub sound : (low : ℕ) (runs : List Run) (c : ℕ) (found : Run) → are_ascend
 unfolding by_code_point are_ranges
 sound low [] c found up ok is_found = cc
 sound low (run ∷ runs) c found up ok is_found =
-    let parts = and_parts (is_range run) (are_ranges runs) ok in
-    let rest = (ascending_parts low run runs up).2 in
-    let later : run_with_pointer (by_code_point runs) c ≡ Some found
-    → IsPointerOf (run ∷ runs) c (found.2 + (c - found.0)) low =
-    λ e. later_is_pointer low run runs c up parts.0 _
-    (sound (run.1 + 1) runs c found rest parts.1 e) in
-    elim (by_test (run.0 == 7457)) [
-      | inl alone ↦ later (sym (ap (λ l. run_with_pointer l c) (by_code_point-alone run runs alone))
+    let tests = and_parts (is_range run) (are_ranges runs) ok in
+    let rest_ascends = (ascending_parts low run runs up).2 in
+    let in_rest = λ (is_in_rest : run_with_pointer (by_code_point runs) c ≡ Some found).
+    later_is_pointer low run runs c up tests.0 (found.2 + (c - found.0))
+    (sound (run.1 + 1) runs c found rest_ascends tests.1 is_in_rest) in
+    elim (cases_Bool (run.0 == 7457)) [
+      | inl alone ↦
+          in_rest (sym (ap (λ l. run_with_pointer l c) (by_code_point-alone run runs alone))
           ∙ is_found)
       | inr other ↦
-          let more : run_with_pointer (turned run ∷ by_code_point runs) c ≡ Some found =
+          let is_in_turned : run_with_pointer (turned run ∷ by_code_point runs) c ≡ Some found =
           sym (ap (λ l. run_with_pointer l c) (by_code_point-more run runs other)) ∙ is_found in
           elim (cases_lt c run.2) [
-            | inl before ↦ later (sym
-                (run_with_pointer-past (turned run) (by_code_point runs) c (inr before)) ∙ more)
+            | inl before ↦ in_rest (sym
+                (run_with_pointer-past (turned run) (by_code_point runs) c (inr before))
+                ∙ is_in_turned)
             | inr begins ↦
                 elim (cases_lt (run.2 + (run.1 - run.0)) c) [
                   | inl after ↦
-                      later (sym (run_with_pointer-past (turned run) (by_code_point runs) c
-                      (inl after)) ∙ more)
+                      in_rest (sym (run_with_pointer-past (turned run) (by_code_point runs) c
+                      (inl after)) ∙ is_in_turned)
                   | inr ends ↦
                       let here : Some (turned run) ≡ Some found =
                       sym (run_with_pointer-here (turned run) (by_code_point runs) c begins ends)
-                      ∙ more in
+                      ∙ is_in_turned in
                       let same : turned run ≡ found = cc in
                       subst (λ r. IsPointerOf (run ∷ runs) c (r.2 + (c - r.0)) low) same
-                      (first_is_pointer low run runs c up parts.0 other begins ends)
+                      (first_is_pointer low run runs c up tests.0 other begins ends)
                 ]
           ]
     ]
@@ -159,18 +158,28 @@ abbrev pub pointer_in_run : ℕ → Option Run → Option ℕ
 pointer_in_run c None = None
 pointer_in_run c (Some run) = Some (run.2 + (c - run.0))
 
-entry_is : (b : Bool) (d c : ℕ) → cond b (Some d) None ≡ Some c → d ≡ c
-entry_is true d c h = cc
-entry_is false d c h = cc
+-- an entry that has a character has that of its code point
+entry_code_point : (is_entry : Bool) (d c : ℕ) → cond is_entry (Some d) None ≡ Some c → d ≡ c
+entry_code_point true d c h = cc
+entry_code_point false d c h = cc
 
+-- In runs by code point, the search for c gives the pointer q, and c is at least `low_char`. The
+-- induction needs this: a character of a later run lies after the first run.
 abbrev IsFound : List Run → ℕ → ℕ → ℕ → Type 0
-IsFound runs c q low = (pointer_in_run c (run_with_pointer runs c) ≡ Some q) × (low ≤ c)
+IsFound runs c q low_char =
+    (pointer_in_run c (run_with_pointer runs c) ≡ Some q) × (low_char ≤ c)
+
+turned_ascends : (low : ℕ) (run : Run) (runs : List Run) → (run.0 == 7457) ≡ false
+    → are_ascending_runs low (by_code_point (run ∷ runs)) ≡ true
+    → are_ascending_runs low (turned run ∷ by_code_point runs) ≡ true
+turned_ascends low run runs other up =
+    subst (λ l. are_ascending_runs low l ≡ true) (by_code_point-more run runs other) up
 
 module _ (low : ℕ) (run : Run) (rest : List Run) (c q : ℕ)
     (up : are_ascending_runs low (turned run ∷ rest) ≡ true) where
   first_is_found : run.0 ≤ q → q ≤ run.1 → run.2 + (q - run.0) ≡ c
       → IsFound (turned run ∷ rest) c q low
-  first_is_found from to is =
+  first_is_found from to has_code_point =
       let begins : run.2 ≤ c = omega arith in
       let ends : c ≤ run.2 + (run.1 - run.0) = omega arith in
       let same : run.0 + (c - run.2) ≡ q = omega arith in
@@ -198,40 +207,37 @@ pub complete : (low : ℕ) (runs : List Run) (c q : ℕ)
 unfolding are_ranges
 complete low [] c q up ok counted has_char = cc
 complete low (run ∷ runs) c q up ok counted has_char =
-    let parts = and_parts (is_range run) (are_ranges runs) ok in
-    let later : index_at All runs q ≡ Some c → IsFound (by_code_point (run ∷ runs)) c q low =
-    λ has_it. elim (by_test (run.0 == 7457)) [
+    let tests = and_parts (is_range run) (are_ranges runs) ok in
+    let in_rest : index_at All runs q ≡ Some c → IsFound (by_code_point (run ∷ runs)) c q low =
+    λ has_it. elim (cases_Bool (run.0 == 7457)) [
       | inl alone ↦
           let same = by_code_point-alone run runs alone in
           subst (λ l. IsFound l c q low) (sym same)
-          (complete low runs c q (subst (λ l. are_ascending_runs low l ≡ true) same up) parts.1
+          (complete low runs c q (subst (λ l. are_ascending_runs low l ≡ true) same up) tests.1
           counted has_it)
       | inr other ↦
-          let same = by_code_point-more run runs other in
-          let more : are_ascending_runs low (turned run ∷ by_code_point runs) ≡ true =
-          subst (λ l. are_ascending_runs low l ≡ true) same up in
-          let rest = (ascending_parts low (turned run) (by_code_point runs) more).2 in
-          subst (λ l. IsFound l c q low) (sym same)
-          (later_is_found low run (by_code_point runs) c q more
-          (complete (run.2 + (run.1 - run.0) + 1) runs c q rest parts.1 counted has_it))
+          let ascends = turned_ascends low run runs other up in
+          let rest_ascends = (ascending_parts low (turned run) (by_code_point runs) ascends).2 in
+          subst (λ l. IsFound l c q low) (sym (by_code_point-more run runs other))
+          (later_is_found low run (by_code_point runs) c q ascends
+          (complete (run.2 + (run.1 - run.0) + 1) runs c q rest_ascends tests.1 counted has_it))
     ] in
     elim (cases_lt q run.0) [
-      | inl before ↦ later (sym (index_at-before All run runs q before) ∙ has_char)
+      | inl before ↦ in_rest (sym (index_at-before All run runs q before) ∙ has_char)
       | inr from ↦
           elim (cases_lt run.1 q) [
-            | inl after ↦ later (sym (index_at-after All run runs q after) ∙ has_char)
+            | inl after ↦ in_rest (sym (index_at-after All run runs q after) ∙ has_char)
             | inr to ↦
-                elim (by_test (run.0 == 7457)) [
+                elim (cases_Bool (run.0 == 7457)) [
+                  -- 7457 doesn't count
                   | inl alone ↦ absurd (true≢false
-                      (sym counted ∙ is_alone run.0 run.1 run.2 parts.0 alone q from to))
+                      (sym counted ∙ is_alone run.0 run.1 run.2 tests.0 alone q from to))
                   | inr other ↦
-                      let same = by_code_point-more run runs other in
-                      let more : are_ascending_runs low (turned run ∷ by_code_point runs) ≡ true =
-                      subst (λ l. are_ascending_runs low l ≡ true) same up in
-                      let is = entry_is _ _ _
+                      let has_code_point = entry_code_point _ _ _
                       (sym (index_at-within All run runs q from to) ∙ has_char) in
-                      subst (λ l. IsFound l c q low) (sym same)
-                      (first_is_found low run (by_code_point runs) c q more from to is)
+                      subst (λ l. IsFound l c q low) (sym (by_code_point-more run runs other))
+                      (first_is_found low run (by_code_point runs) c q
+                      (turned_ascends low run runs other up) from to has_code_point)
                 ]
           ]
     ]

@@ -17,7 +17,7 @@ use Rattle.enc_units.specs.declared.marked.TheConstants.{MARKED}
 use Rattle.enc_units.specs.Utf8Units.{marked_places, marked_code_units}
 use Rattle.enc_units.proofs.GatherLemmas.{stored_lanes}
 
--- bytes at places below sixteen
+-- u8x16::swizzle_dyn: with places below sixteen, lane k is the byte at the k-th place
 
 pub places_fit : (places : List ℕ) → length places ≡ 16
     → ((k : ℕ) → k < 16 → get_or places k 0 < 16)
@@ -38,16 +38,18 @@ picked bytes places long h =
     ∙ ap (λ i. get_or bytes i 0) place
     ∙ sym (get_or-map (λ p. get_or bytes p 0) places k 0 0 (omega arith)))
 
--- the places are those of the lowest eight bits
+-- A mask modulo p = 2^n has the same first n places.
+abbrev KeepsLowBits : ℕ → ℕ → Type 0
+KeepsLowBits p n = (m from : ℕ) → marked_places (m % p) from n ≡ marked_places m from n
 
-abbrev Low : ℕ → ℕ → Type 0
-Low p n = (m from : ℕ) → marked_places (m % p) from n ≡ marked_places m from n
-
-one_more : (q p m from n : ℕ) → m % q % 2 ≡ m % 2 → m % q / 2 ≡ m / 2 % p → Low p n
+-- one bit more, where q = 2 * p
+one_more : (q p m from n : ℕ) → m % q % 2 ≡ m % 2 → m % q / 2 ≡ m / 2 % p → KeepsLowBits p n
     → marked_places (m % q) from (suc n) ≡ marked_places m from (suc n)
-one_more q p m from n a b rest = rw (a, b, rest (m / 2) (suc from)) refl
+one_more q p m from n same_bit same_rest keeps =
+    rw (same_bit, same_rest, keeps (m / 2) (suc from)) refl
 
-low_bits : Low 256 8
+-- step by step, since `omega` takes no modulus that isn't a number
+low_bits : KeepsLowBits 256 8
 low_bits m from =
     one_more 256 128 m from 7 (omega arith) (omega arith) (λ m from.
     one_more 128 64 m from 6 (omega arith) (omega arith) (λ m from.
@@ -64,15 +66,18 @@ abbrev both_bytes : List ℕ → List ℕ
 both_bytes [] = []
 both_bytes (p ∷ ps) = 2 * p ∷ (2 * p + 1) ∷ both_bytes ps
 
+-- whether a row begins with this prefix
 unfoldable begins : List ℕ → List ℕ → Bool
-begins [] ys = true
-begins (x ∷ xs) [] = Bool.false
-begins (x ∷ xs) (y ∷ ys) = eqb y x && begins xs ys
+begins [] row = true
+begins (x ∷ prefix) [] = Bool.false
+begins (x ∷ prefix) (y ∷ row) = eqb y x && begins prefix row
 
 unfoldable all_under : ℕ → List ℕ → Bool
 all_under n [] = true
 all_under n (x ∷ xs) = ltb x n && all_under n xs
 
+-- The tests of a row: it begins with both bytes of each marked code unit, its places are below 16,
+-- the marked code units are below 8, and the mask has as many bits.
 abbrev row_ok : ℕ → List ℕ → Bool
 row_ok m row =
     begins (both_bytes (marked_places m 0 8)) row
@@ -90,6 +95,7 @@ marked_ok = refl
 marked_count : length MARKED ≡ 4096
 marked_count = refl
 
+-- of n rows, from that of the mask m on, the one at k
 row_at : (n m k : ℕ) (rows : List ℕ) → rows_ok n m rows ≡ true → k < n
     → row_ok (m + k) (take 16 (drop (k * 16) rows)) ≡ true
 unfolding rows_ok
@@ -137,17 +143,18 @@ begin_both (p ∷ ps) (a ∷ b ∷ row) begin (suc j) l =
       ap (λ i. get_or (a ∷ b ∷ row) i 0) (sym odd) ∙ rest.1,
     )
 
--- a row of the table
+-- The row of a mask: sixteen places of bytes. It begins with the bytes 2p and 2p + 1 of each marked
+-- code unit p, in order.
 pub record IsRow (mask : ℕ) (row : List ℕ) : Type 0 where
   pub within : (k : ℕ) → k < 16 → get_or row k 0 < 16
   pub count : length (marked_places mask 0 8) ≡ ones mask
-  pub units : (j : ℕ) → j < ones mask → get_or (marked_places mask 0 8) j 0 < 8
+  pub below_eight : (j : ℕ) → j < ones mask → get_or (marked_places mask 0 8) j 0 < 8
   pub evens : (j : ℕ) → j < ones mask
       → get_or row (2 * j) 0 ≡ 2 * get_or (marked_places mask 0 8) j 0
   pub odds : (j : ℕ) → j < ones mask
       → get_or row (2 * j + 1) 0 ≡ 2 * get_or (marked_places mask 0 8) j 0 + 1
 
--- the row of a mask, as it is read from a part of the table
+-- the sixteen places that u8x16::from_slice(&MARKED[mask * 16..]) loads
 abbrev pub row_of : ℕ → List ℕ
 row_of mask = take 16 (take (4096 - mask * 16) (drop (mask * 16) MARKED))
 
@@ -166,16 +173,17 @@ row_is mask is_byte =
     (subst (λ z. row_ok (0 + mask) z ≡ true) (sym (row_of_table mask is_byte))
     (row_at 256 0 mask MARKED marked_ok is_byte)) in
     let long = row_long mask is_byte in
-    let pairs_begin = and_parts _ _ ok in
-    let row_within = and_parts _ _ pairs_begin.1 in
-    let units_within = and_parts _ _ row_within.1 in
-    let count : length (marked_places mask 0 8) ≡ ones mask = eqb-true _ _ units_within.1 in
+    -- each .0 is a test, each .1 the tests after it
+    let from_bytes = and_parts _ _ ok in
+    let from_within = and_parts _ _ from_bytes.1 in
+    let units_and_count = and_parts _ _ from_within.1 in
+    let count : length (marked_places mask 0 8) ≡ ones mask = eqb-true _ _ units_and_count.1 in
     record {
-      within = λ k l. under 16 row row_within.0 k (omega arith);
+      within = λ k l. under 16 row from_within.0 k (omega arith);
       count = count;
-      units = λ j l. under 8 (marked_places mask 0 8) units_within.0 j (omega arith);
-      evens = λ j l. (begin_both (marked_places mask 0 8) row pairs_begin.0 j (omega arith)).0;
-      odds = λ j l. (begin_both (marked_places mask 0 8) row pairs_begin.0 j (omega arith)).1;
+      below_eight = λ j l. under 8 (marked_places mask 0 8) units_and_count.0 j (omega arith);
+      evens = λ j l. (begin_both (marked_places mask 0 8) row from_bytes.0 j (omega arith)).0;
+      odds = λ j l. (begin_both (marked_places mask 0 8) row from_bytes.0 j (omega arith)).1;
     }
 
 digit_below : (n x k : ℕ) → get_or (digits_l 0x100 n x) k 0 < 0x100
@@ -193,6 +201,8 @@ two_of xs i h =
     next : suc i ≡ i + 1
     next = omega arith
 
+-- store_marked: the code units as little-endian bytes, those that the row of the mask picks, and
+-- these as code units again
 module _ (units row : List ℕ) (mask : ℕ) (long : length units ≡ 8) (fit : Each1 (Fits w16) units)
     (sixteen : length row ≡ 16) (is_row : IsRow mask row) where
   abbrev bytes : List ℕ
@@ -242,18 +252,18 @@ module _ (units row : List ℕ) (mask : ℕ) (long : length units ≡ 8) (fit : 
       (omega (arith, length-map row (λ p. get_or bytes p 0))))
       ∙ omega arith
 
-  unit_at : (j : ℕ) → j < ones mask → mask < 0x100
+  stored_unit : (j : ℕ) → j < ones mask → mask < 0x100
       → get_or stored j 0 ≡ get_or units (get_or (marked_places mask 0 8) j 0) 0
-  unit_at j below_count m =
+  stored_unit j below_count is_byte =
       let place = get_or (marked_places mask 0 8) j 0 in
-      let few : j < 8 = omega (arith, ones-le 8 mask m) in
+      let few : j < 8 = omega (arith, ones-le 8 mask is_byte) in
       let low : get_or chosen (2 * j) 0 ≡ get_or units place 0 % 0x100 =
       chosen_at (2 * j) (omega arith) ∙ ap (λ i. get_or bytes i 0) (is_row.evens j below_count)
-      ∙ low_byte place (is_row.units j below_count) in
+      ∙ low_byte place (is_row.below_eight j below_count) in
       let high : get_or chosen (2 * j + 1) 0 ≡ get_or units place 0 / 0x100 % 0x100 =
       chosen_at (2 * j + 1) (omega arith) ∙ ap (λ i. get_or bytes i 0) (is_row.odds j below_count)
-      ∙ high_byte place (is_row.units j below_count) in
-      stored_at j few ∙ omega (arith, low, high, unit_below place (is_row.units j below_count))
+      ∙ high_byte place (is_row.below_eight j below_count) in
+      stored_at j few ∙ omega (arith, low, high, unit_below place (is_row.below_eight j below_count))
 
   pub marked_units : mask < 0x100
       → take (ones mask) stored ≡ map (λ k. get_or units k 0) (marked_places mask 0 8)
@@ -268,22 +278,23 @@ module _ (units row : List ℕ) (mask : ℕ) (long : length units ≡ 8) (fit : 
       ))
       (λ k h.
       let below_count : k < ones mask = omega (arith, lengths) in
-      get_or-take (ones mask) stored k 0 below_count ∙ unit_at k below_count is_byte
+      get_or-take (ones mask) stored k 0 below_count ∙ stored_unit k below_count is_byte
       ∙ sym (get_or-map (λ k. get_or units k 0) (marked_places mask 0 8) k 0 0
       (omega (arith, is_row.count))))
 
--- the marked units are stored
-pub stores_marked : (at marks : ℕ) (units row picked old : List ℕ) → at + 8 ≤ length old
+-- The marked units follow the first `at`. `stored_lanes` cuts them off, `marked_units` says which
+-- they are, and `low_bits` allows marks above the lowest eight.
+pub stores_marked : (at marks : ℕ) (units row picked_bytes old : List ℕ) → at + 8 ≤ length old
     → length units ≡ 8
     → Each1 (Fits w16) units → length row ≡ 16 → IsRow (marks % 0x100) row
-    → picked ≡ map (λ p. get_or (digits_l 0x100 16 (number_l 0x1_0000 units)) p 0) row
+    → picked_bytes ≡ map (λ p. get_or (digits_l 0x100 16 (number_l 0x1_0000 units)) p 0) row
     → take (at + ones (marks % 0x100))
-    (put_chunk at old (digits_l 0x1_0000 8 (number_l 0x100 picked))) ≡ take at old
+    (put_chunk at old (digits_l 0x1_0000 8 (number_l 0x100 picked_bytes))) ≡ take at old
     ++ marked_code_units marks units
-stores_marked at marks units row picked old room long fit row_long is_row e =
+stores_marked at marks units row picked_bytes old room long fit row_long is_row are_picked =
     let below : marks % 0x100 < 0x100 = omega arith in
     ap (λ z. take (at + ones (marks % 0x100))
-    (put_chunk at old (digits_l 0x1_0000 8 (number_l 0x100 z)))) e
+    (put_chunk at old (digits_l 0x1_0000 8 (number_l 0x100 z)))) are_picked
     ∙ stored_lanes at (ones (marks % 0x100)) old
     (stored units row (marks % 0x100) long fit row_long is_row) room
     (ones-le 8 (marks % 0x100) below)
