@@ -24,7 +24,8 @@ module _ {units_of : ℕ → List ℕ} {v w : CodecState} (stage : Stage) {n : �
 
   -- after a run that reads something, no byte is pending
   none_pending_after : 0 < n → w.pending ≡ []
-  none_pending_after some = ap (λ (s : CodecState). s.pending) run.next_state ∙ run.none_pending some
+  none_pending_after some =
+      ap (λ (s : CodecState). s.pending) run.next_state ∙ run.none_pending some
 
   leads_on : LeadsOn v w stage n run.taken
   leads_on = record {

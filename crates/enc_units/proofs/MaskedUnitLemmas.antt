@@ -263,7 +263,8 @@ module _ (units row : List ℕ) (mask : ℕ) (long : length units ≡ 8) (fit : 
       let high : get_or chosen (2 * j + 1) 0 ≡ get_or units place 0 / 0x100 % 0x100 =
       chosen_at (2 * j + 1) (omega arith) ∙ ap (λ i. get_or bytes i 0) (is_row.odds j below_count)
       ∙ high_byte place (is_row.below_eight j below_count) in
-      stored_at j few ∙ omega (arith, low, high, unit_below place (is_row.below_eight j below_count))
+      let below = unit_below place (is_row.below_eight j below_count) in
+      stored_at j few ∙ omega (arith, low, high, below)
 
   pub marked_units : mask < 0x100
       → take (ones mask) stored ≡ map (λ k. get_or units k 0) (marked_places mask 0 8)

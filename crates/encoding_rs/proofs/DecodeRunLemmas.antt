@@ -89,8 +89,8 @@ module _ {handling : BomHandling} {e : Encoding} {bytes : List ℕ} {made : Deco
   abbrev last : Bool
   last = nat_le (length unread) made.offer
 
-  abbrev call : Call
-  call = record {
+  abbrev of_call : Call
+  of_call = record {
     src = chunk;
     last = last;
     mode = decode_error_mode made.replace;
@@ -146,7 +146,7 @@ module _ {handling : BomHandling} {e : Encoding} {bytes : List ℕ} {made : Deco
       in_input.within,
     );
     all_read = λ finished.
-        let ends = ends_read call decodes finished in
+        let ends = ends_read of_call decodes finished in
         omega (
           arith,
           advances.read,
@@ -157,7 +157,7 @@ module _ {handling : BomHandling} {e : Encoding} {bytes : List ℕ} {made : Deco
           in_input.within,
         );
     encoding = ap (encoding_ahead new.decoder) (sym rest_is)
-        ∙ still_ahead call decodes following none_following
+        ∙ still_ahead of_call decodes following none_following
         ∙ ap (encoding_ahead old.decoder) (take-append-drop made.offer unread)
         ∙ in_input.encoding;
     remaining = omega (arith, remaining_length, in_input.remaining);
