@@ -1,10 +1,13 @@
-//! Calls with a decimal reference for each unmappable character (Encoding Standard 4.1, error mode
-//! "html").
+//! Calls by error mode: with a decimal reference for each unmappable character, or up to one
+//! (Encoding Standard 4.1).
 
 ghost use Rattle.std.specs.Prelude.{◌≡◌, ◌≤◌, length, take, drop};
 ghost use Rattle.enc_encoder.specs.Replacing.{result_when_full};
-ghost use Rattle.enc_encoder.specs.ErrorMode.{EncoderCallInMode, Html, is_nothing_left};
+ghost use Rattle.enc_encoder.specs.ErrorMode.{EncoderCallInMode, MapsEveryCharacter, mode_of};
+ghost use Rattle.enc_encoder.specs.ErrorMode.{is_nothing_left};
+ghost use Rattle.enc_encoder.specs.declared.error_mode.ErrorMode.TheVariants.{HtmlOfMappable};
 
+use crate::error_mode::ErrorMode;
 use crate::outcome::EncoderOutcome;
 use crate::raw_encoder::RawEncoder;
 use crate::reference::{LONGEST_REFERENCE, put_reference};
@@ -27,23 +30,38 @@ fn full_result<E: RawEncoder, C: Chars>(encoder: &E, src: &C, last: bool) -> Enc
     }
 }
 
-/// Encodes a chunk, with a decimal reference for each unmappable character.
+/// Encodes a chunk in an error mode.
 ///
-/// The last 10 bytes of `dst` are kept free for references. With fewer than 10 bytes it does
-/// nothing. After a reference that ends at the kept part or in it, it writes no more. Takes no
-/// memory.
-pub fn encode_replacing<E: RawEncoder, C: Chars>(
+/// With [`ErrorMode::Html`] the last 10 bytes of `dst` are kept free for references. With fewer
+/// than 10 bytes it does nothing. After a reference that ends at the kept part or in it, it writes
+/// no more. Takes no memory.
+#[inline(always)]
+pub fn encode_in_mode<E: RawEncoder, C: Chars>(
     encoder: &mut E,
     src: &mut C,
     dst: &mut [u8],
     last: bool,
+    mode: ErrorMode,
 ) -> EncoderOutcome
+    requires { mode ≡ HtmlOfMappable → MapsEveryCharacter (E.state encoder.old).rule }
     ensures within { result.written ≤ length dst.old }
     ensures rest { drop result.written dst.new ≡ drop result.written dst.old }
-    ensures call { EncoderCallInMode C.units_of (Html 10)
+    ensures call { EncoderCallInMode C.units_of (mode_of mode)
         (E.state encoder.old) (E.state encoder.new) (C.rest src.old) (C.rest src.new) last
         (length dst.old) result.result result.read (take result.written dst.new) result.replaced }
 {
+    match mode {
+        ErrorMode::Html => (),
+        ErrorMode::Fatal | ErrorMode::HtmlOfMappable => {
+            let stop = encoder.encode(src, dst, last);
+            return EncoderOutcome {
+                result: stop.result,
+                read: stop.read,
+                written: stop.written,
+                replaced: false,
+            };
+        }
+    }
     if dst.len() < LONGEST_REFERENCE {
         return EncoderOutcome {
             result: full_result(encoder, src, last),

@@ -1,14 +1,20 @@
 use Rattle.std.proofs.Common.{◌-◌, length, refl, arith, rules}
 use Rattle.enc_encoder.proofs.LeavesLemmas.{leaves_of, leaves_on}
 use Rattle.enc_encoder.proofs.MachineLemmas.{units_read}
+use Rattle.enc_encoder.proofs.RawCallLemmas.{unreplaced_call}
 use Rattle.enc_encoder.proofs.ReferenceTurnLemmas.{adds_reference, encodes_part, no_turn, next_turn}
 use Rattle.enc_encoder.proofs.ReferenceCallLemmas.{stop_small, stop_raw, stop_after}
-use Rattle.enc_encoder.proofs.replacing.encode_replacing.Goals as goal
+use Rattle.enc_encoder.proofs.replacing.encode_in_mode.Goals as goal
+
+pub returns-in-Fatal : goal.returns-in-Fatal
+returns-in-Fatal g c =
+    let call = unreplaced_call c.encode-stop.ensures.call c.args.mode c.in-Fatal.is c.requires in
+    record { within = call.within; rest = call.rest_stays; call = call.call }
 
 pub returns-then-dst-lt-LONGEST_REFERENCE-clause-call :
     goal.returns-then-dst-lt-LONGEST_REFERENCE-clause-call
 returns-then-dst-lt-LONGEST_REFERENCE-clause-call g c =
-    (stop_small g.C.Chars.units_of 10 c.args.last _ _ c.args.dst.now
+    rw c.in-Html.is (stop_small g.C.Chars.units_of 10 c.args.last _ _ c.args.dst.now
     c.if-dst-lt-LONGEST_REFERENCE.true c.full_result.ensures).call
 
 pub loop-c-init : goal.loop-c-init
@@ -29,7 +35,11 @@ returns-in_default g c =
     let stopped = stop_raw g.C.Chars.units_of 10 c.loop-c.invariant _ c.in_default.not-Unmappable
     encoded c.if-dst-lt-LONGEST_REFERENCE.false c.encode-outcome.ensures.lawful
     c.unread-unread.ensures c.unread.ensures in
-    record { within = stopped.within; rest = stopped.rest_stays; call = stopped.call }
+    record {
+      within = stopped.within;
+      rest = stopped.rest_stays;
+      call = rw c.in-Html.is stopped.call;
+    }
 
 pub overflow_sub-result-then-written-limit : goal.overflow_sub-result-then-written-limit
 overflow_sub-result-then-written-limit g c =
@@ -50,7 +60,11 @@ returns-then-written-limit g c =
     c.full_result-then-written-limit.ensures c.if-dst-lt-LONGEST_REFERENCE.false
     c.encode-outcome.ensures.lawful
     c.unread-unread.ensures c.unread-then-written-limit.ensures in
-    record { within = stopped.within; rest = stopped.rest_stays; call = stopped.call }
+    record {
+      within = stopped.within;
+      rest = stopped.rest_stays;
+      call = rw c.in-Html.is stopped.call;
+    }
 
 pub loop-c-preserved : goal.loop-c-preserved
 loop-c-preserved g c =

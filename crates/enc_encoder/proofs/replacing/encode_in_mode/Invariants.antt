@@ -2,7 +2,7 @@ use Rattle.std.proofs.Common.{◌-◌, length}
 use Rattle.enc_encoder.specs.Steps.{steps_from_state}
 use Rattle.enc_encoder.specs.Writes.{place}
 use Rattle.enc_encoder.proofs.ReferenceTurnLemmas.{Turns}
-use Rattle.enc_encoder.proofs.replacing.encode_replacing.Given as goal
+use Rattle.enc_encoder.proofs.replacing.encode_in_mode.Given as goal
 
 abbrev pub invariant-loop-c : goal.invariant-loop-c
 invariant-loop-c g l =
