@@ -12,17 +12,18 @@ use crate::outcome::{DecoderOutcome, HeldFirstOutcome};
 use enc_units::{DecoderResult, Units};
 
 /// A call of a decoder in either error mode.
+///
+/// Its values come one by one, since an outcome would be copied through memory.
 macro_rules! decode_in_mode {
     ($codec:expr, $src:expr, $out:expr, $last:expr, $mode:expr) => {
         match $mode {
-            ErrorMode::Replacement => $codec.decode_replacing($src, $out, $last),
+            ErrorMode::Replacement => {
+                let outcome = $codec.decode_replacing($src, $out, $last);
+                (outcome.result, outcome.read, outcome.replaced)
+            }
             ErrorMode::Fatal => {
                 let stop = $codec.decode($src, $out, $last, ErrorMode::Fatal);
-                DecoderOutcome {
-                    result: stop.result,
-                    read: stop.read,
-                    replaced: false,
-                }
+                (stop.result, stop.read, false)
             }
         }
     };
@@ -47,23 +48,29 @@ pub fn convert<D: RawDecoder, U: Units>(
     let mut had = false;
     if !held.is_empty() {
         let alone = src.is_empty();
-        let first = decode_in_mode!(codec, held, out, alone & options.last, options.mode);
-        if alone | (first.result != DecoderResult::InputEmpty) {
+        let (result, given, replaced) = decode_in_mode!(
+            codec,
+            held,
+            out,
+            alone & options.last,
+            options.mode
+        );
+        if alone | (result != DecoderResult::InputEmpty) {
             return HeldFirstOutcome {
-                result: first.result,
-                left: held.len() - first.read,
+                result,
+                left: held.len() - given,
                 read: 0,
-                replaced: first.replaced,
+                replaced,
             };
         }
-        had = first.replaced;
+        had = replaced;
     }
-    let then = decode_in_mode!(codec, src, out, options.last, options.mode);
+    let (result, read, replaced) = decode_in_mode!(codec, src, out, options.last, options.mode);
     HeldFirstOutcome {
-        result: then.result,
+        result,
         left: 0,
-        read: then.read,
-        replaced: had | then.replaced,
+        read,
+        replaced: had | replaced,
     }
 }
 
