@@ -38,7 +38,7 @@ pub none_determined : (remaining rest : List ℕ → List Sequence) (x : List �
 none_determined remaining rest x done e u s d =
     u s (λ z b. begins_after done (s ∷ []) (rest z) (remaining (x ++ z)) (e z) (d z b))
 
--- what is determined after the sequences that a call has done, by what follows them
+-- the sequences determined after those that a call has done, by the bytes that follow
 module _ (old new : List ℕ → List Sequence) (src rest : List ℕ) (done : List Sequence) where
   abbrev pub LeavesOff : Bool → Type 0
   LeavesOff last = (z : List ℕ) → (last ≡ true → z ≡ []) → old (src ++ z) ≡ done ++ new (rest ++ z)

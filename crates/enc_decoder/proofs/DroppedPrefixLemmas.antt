@@ -18,7 +18,7 @@ pub record LeadsTo (old mid : Remainder) (src : List ℕ) (len : ℕ) : Type 0 w
   pub nothing : (s : Sequence) (ss : List Sequence)
       → Determines old.sequences (take len src) (s ∷ ss) → ⊥
 
--- what is left after the dropped bytes
+-- the dropped bytes leave the remainder of the bytes after them
 abbrev pub dropped : {old mid : Remainder} {src : List ℕ} {len : ℕ} (last : Bool)
     (mode : DecodeErrorMode) (room : ℕ) → LeadsTo old mid src len
     → Leaves old mid (record (start_stage src last mode room) { read = len })

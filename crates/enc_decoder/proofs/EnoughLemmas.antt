@@ -108,7 +108,7 @@ pub needed_less : (units_of : ℕ → List ℕ) (mode : DecodeErrorMode) (ss : L
 needed_less units_of Replacement ss = omega arith
 needed_less units_of (Fatal keeps) ss = before_less units_of keeps ss
 
--- what is needed is a part of what all bytes need
+-- the need of a call is part of the need of all bytes
 pub needs_all : (units_of : ℕ → List ℕ) (mode : DecodeErrorMode) (v : CodecState) (src : List ℕ)
     (last : Bool) (n : ℕ)
     → NeedExceeds units_of mode (remainder_of v) src last n
@@ -208,7 +208,7 @@ module _ (v : CodecState) (few : HasFewUnits v.rule) where
             (sequences_of v.rule v.set z),
       )
 
-  -- by formulas that have so many code units for all bytes
+  -- by formulas that have this number of code units for all bytes
   enough_by : (formulas : TextLengths)
       → ((src : List ℕ) (n : ℕ) → utf_8_length formulas (length src) (length v.pending) ≡ Some n
       → 3 * (length v.pending + length src) ≤ n)

@@ -44,7 +44,7 @@ abbrev pub AreAccounted : Remainder → Remainder → Stage → Type 0
 AreAccounted old mid stage =
     old.pending ++ take stage.read stage.src ≡ sequence_bytes stage.done ++ mid.pending
 
--- a call over what is left at a stage, with this room
+-- a call over the unread bytes of a stage, with this room
 abbrev pub call_at : Stage → DecodeErrorMode → ℕ → DecoderResult → ℕ → List ℕ → Bool → Call
 call_at stage mode room result read wrote replaced = record {
   src = drop stage.read stage.src;
@@ -57,7 +57,7 @@ call_at stage mode room result read wrote replaced = record {
   replaced = replaced;
 }
 
--- a stage of calls over what is left at a stage
+-- a stage of calls over the unread bytes of a stage
 abbrev pub stage_at : Stage → ℕ → List Sequence → List ℕ → Bool → Stage
 stage_at stage read done wrote replaced = record {
   src = drop stage.read stage.src;
@@ -279,7 +279,7 @@ module _ {old mid : Remainder} {stage : Stage} (bytes : AreBytes stage.src)
         ];
       }
 
--- what is written by both
+-- the text of both is written
 pub written_on : {units_of : ℕ → List ℕ} {stage : Stage} {n : ℕ} {ss : List Sequence}
     {more : List ℕ} {replaced : Bool} → HasWritten units_of stage
     → HasWritten units_of (stage_at stage n ss more replaced)

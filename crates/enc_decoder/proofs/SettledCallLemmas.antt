@@ -18,7 +18,7 @@ use Rattle.enc_decoder.proofs.StageLemmas.{Stage, HasWritten}
 use Rattle.enc_decoder.proofs.InnerInputLemmas.{most_or_more}
 use Rattle.enc_decoder.proofs.LeavesLemmas.{Leaves}
 
--- what is written once a call is done, with U+FFFD for the sequence that it reports
+-- the text after a call, with U+FFFD for the sequence that it reports
 abbrev pub settled_units : (ℕ → List ℕ) → DecoderResult → List ℕ → List ℕ
 settled_units units_of InputEmpty wrote = wrote
 settled_units units_of OutputFull wrote = wrote

@@ -1,4 +1,4 @@
--- What is left where a codec goes on from one state to another.
+-- A codec that goes on from one state to another leaves the remainder of the second.
 use Rattle.std.proofs.Common.{◌≡◌, ℕ, ◌+◌, ◌<◌, ◌≤◌, suc, Bool, true, List, [], ◌∷◌, ◌++◌, length, take, drop}
 use Rattle.std.proofs.Common.{get_or, refl, ap, ◌∙◌, sym, arith, append_assoc, inl, inr, drop-cons}
 use Rattle.std.proofs.Math.ListN.{drop_of_length-le}

@@ -51,7 +51,7 @@ settled_leaves c OutputFull bytes is_settled call = absurd (is_settled.not_full 
 settled_leaves c (Malformed l a) bytes is_settled call =
     (malformed_leaves c bytes call, inr (ap is_replacement_mode (is_settled.replaces l a refl)))
 
--- what is left of a whole input, where nothing may follow or more follows
+-- the same of a whole input, where nothing may follow or more follows
 grown_or : {old mid : Remainder} {stage : Stage} (more : List ℕ) (was last : Bool)
     → stage.last ≡ was → AreBytes stage.src → AreBytes more
     → (was ≡ true → (last ≡ true) × (more ≡ [])) → (leaves : Leaves old mid stage)

@@ -20,7 +20,7 @@ use Rattle.enc_decoder.proofs.FirstSequenceLemmas.{true_or_false}
 use Rattle.enc_decoder_iso_2022_jp.proofs.Iso2022JpLemmas.{is_escape_byte, escape_first, no_escape_first, lead_first}
 use Rattle.enc_decoder_iso_2022_jp.proofs.Iso2022JpLemmas.{alone_first, lead_alone, lead_and_trail}
 
--- what is asked of the first sequence, by its bytes and its head, for each of its forms
+-- a property of the first sequence, by its bytes and its head, for each of its forms
 pub record HoldsOfEachForm (set : ℕ) (Holds : ℕ → List ℕ → Head → Type 0) : Type 0 where
   pub no_escape : (z : List ℕ) → designated_set (0x1B ∷ z) ≡ None
       → Holds 0x1B z (malformed_head set 0)

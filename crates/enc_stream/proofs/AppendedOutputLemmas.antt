@@ -66,7 +66,7 @@ pub in_front : (wrote : List ℕ) {before after text now : List ℕ} {len : ℕ}
 in_front wrote {text} appended text_is len_is now_is =
     rw (← now_is, appended, text_is, ← len_is) (take-append_seam text wrote)
 
--- what is written comes out of the spare capacity, so the capacity does not shrink
+-- the text written comes out of the spare capacity, so the capacity does not shrink
 pub capacity_stays : (before wrote : List ℕ) {after : List ℕ}
     {len room room_after capacity capacity_after end : ℕ}
     → after ≡ before ++ wrote → room_after ≡ room - length wrote

@@ -56,7 +56,7 @@ some_bytes units_of rule set bytes (s ∷ ss) rest cut some_units =
 -- A call with room for a small text that stops for want of room.
 module _ {units_of : ℕ → List ℕ} {least : ℕ} (takes : TakesSmallTexts units_of least)
     {old new : DecoderState} (c : Call) (roomy : least ≤ c.room) where
-  -- what is done has a text, and bytes
+  -- the sequences done have a text, and bytes
   some_done : (decodes : Decodes units_of old new (record c { result = OutputFull }))
       → (0 < length (units_of_text units_of (sequence_text decodes.call.done)))
       × (0 < length (sequence_bytes decodes.call.done))

@@ -61,7 +61,7 @@ pub held_or_pending : (life : LifeCycle) (n : ℕ) → (length (unread_bytes lif
 held_or_pending life zero = inr refl
 held_or_pending life (suc n) = inl (ap length (none_unread life (suc n) (omega arith)))
 
--- The life cycle after a call, by what is held before it.
+-- The life cycle after a call, by the bytes held before it.
 
 -- the state of the bytes held is its own
 pub own_state : (life : LifeCycle) (pending : List ℕ) → has_ended life ≡ false

@@ -163,7 +163,7 @@ module _ {handling : BomHandling} {e : Encoding} {bytes : List ℕ} {made : Deco
     remaining = omega (arith, remaining_length, in_input.remaining);
   }
 
-  -- What is done is what is put out, and the sequence that is reported.
+  -- The sequences done are those put out, and the one that is reported.
 
   abbrev Stops : DecoderResult → Type 0
   Stops r = DecoderStops (units_of_call made.utf16) (decoder_remainder old.decoder)

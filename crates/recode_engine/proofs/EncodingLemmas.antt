@@ -128,7 +128,7 @@ HasEncoded-longer_text {a} {b} t has_encoded =
       taken = has_encoded.taken;
     }
 
--- Of what is written a prefix is taken.
+-- A prefix of the bytes written is taken.
 pub StopsWithin-part : {a b : TextToEncode} {last : Bool} {wrote : List ℕ} {replaced : Bool}
     {k₀ k₁ : Option (List ℕ)} → EncodesText a b last wrote replaced → AppendsPrefix k₀ k₁ wrote
     → StopsWithin a last k₀ k₁

@@ -13,7 +13,7 @@ invariant-loop-state g l = record {
   rule : (g.C.ByteCodec.state l.state).rule ≡ (g.C.ByteCodec.state l.initial.codec).rule;
 }
 
--- what is unread counts twice, so that it may be held
+-- an unread byte counts twice, so that it may be held
 abbrev pub decreases-loop-state : goal.decreases-loop-state
 decreases-loop-state g l =
     2 * (length l.src - l.read) + length (g.C.ByteCodec.state l.state).pending
