@@ -30,7 +30,7 @@ settled_flag InputEmpty replaced = replaced
 settled_flag OutputFull replaced = replaced
 settled_flag (Malformed l a) replaced = true
 
--- the stage after a call, in a mode of which its own is a part
+-- the stage after a call, in a mode that its own is a part of
 abbrev pub settled_stage : (ℕ → List ℕ) → DecodeErrorMode → Call → List Sequence → Stage
 settled_stage units_of mode c done = record {
   src = c.src;

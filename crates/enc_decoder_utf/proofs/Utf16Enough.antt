@@ -117,7 +117,7 @@ module _ (units_of : ℕ → List ℕ) (each : ℕ) (most : ℕ → ℕ) (one : 
         with_rest set b z 0 0 (bytes_are_within b z are_bytes.0 are_bytes.1) (omega (arith, rest)),
       )
 
-  -- after a pending byte, and after two or three, of which the first sequence has two at least
+  -- after a pending byte, and after two or three: the first sequence has two of these at least
 
   first_bounded : (set b : ℕ) (z : List ℕ) → AreBytes z
       → after set 0 (b ∷ z) ≤ most (suc (length z)) + 1
