@@ -15,7 +15,7 @@ use Rattle.enc_decoder.specs.CallRecord.{Call}
 use Rattle.enc_units.specs.declared.coder_result.CoderResult.{CoderResult}
 use Rattle.enc_units.specs.declared.coder_result.CoderResult.TheVariants.{InputEmpty, OutputFull}
 use Rattle.enc_units.specs.Results.{decoder_result_of}
-use Rattle.enc_stream.specs.Decoding.{DecoderState, has_finished, DecodesReplacing}
+use Rattle.enc_stream.specs.Decoding.{DecoderState, has_finished, DecodesChunk, replacing_call}
 use Rattle.enc_stream.proofs.WholeEncodingLemmas.{still_ahead}
 use Rattle.enc_stream.proofs.DecoderProgressLemmas.{nearer, ends_read}
 use Rattle.enc_stream.proofs.DecoderCallLemmas.{only_put}
@@ -37,8 +37,7 @@ pub record CanDecode (s : ReaderState) (room : ℕ) : Type 0 where
 -- a call of the decoder with the unread bytes
 module _ (before : ReaderState) {new : DecoderState} {room : ℕ} (result : CoderResult) {read : ℕ}
     {wrote : List ℕ} {replaced : Bool}
-    (decodes : DecodesReplacing encode_utf8 before.decoder new before.unread before.ended room
-    result read wrote replaced)
+    (decodes : DecodesChunk encode_utf8 before.decoder new (replacing_call before.unread before.ended room result read wrote replaced))
     (can_decode : CanDecode before room) where
   abbrev after : ReaderState
   after = record { decoder = new; unread = drop read before.unread; ended = before.ended }
@@ -92,8 +91,7 @@ module _ (before : ReaderState) {new : DecoderState} {room : ℕ} (result : Code
   waits_for_more none going = by_result result decodes
     where
       by_result : (r : CoderResult)
-          → DecodesReplacing encode_utf8 before.decoder new before.unread before.ended room r read
-          wrote replaced → IsWaiting after
+          → DecodesChunk encode_utf8 before.decoder new (replacing_call before.unread before.ended room r read wrote replaced) → IsWaiting after
       by_result InputEmpty at_empty = record {
         unread = ap (λ n. drop n before.unread) at_empty.call.stops.all_read
             ∙ drop-length before.unread;
@@ -202,7 +200,7 @@ all_read filled at read xs h r = omega (arith, h, r, length-take (filled - at) (
 
 pub only_at_end : {old new : DecoderState} {src : List ℕ} {last : Bool} {room read : ℕ}
     (result : CoderResult) {wrote : List ℕ} {replaced : Bool}
-    → DecodesReplacing encode_utf8 old new src last room result read wrote replaced
+    → DecodesChunk encode_utf8 old new (replacing_call src last room result read wrote replaced)
     → has_finished new ≡ true → last ≡ true
 only_at_end {src = src} {last} {room} {read} result {wrote} {replaced} decodes finished =
     (ends_read (record {

@@ -8,8 +8,10 @@ ghost use Rattle.enc_stream.specs.declared.bom.BomHandling.TheVariants.{Sniff};
 ghost use Rattle.enc_stream.specs.declared.constants.TheConstants.{UTF_8};
 ghost use Rattle.std.specs.Char.{encode_utf8};
 ghost use Rattle.std.specs.Io.KnownBytes.{IsAtEnd};
+ghost use Rattle.enc_units.specs.Results.{decoder_result_of};
+ghost use Rattle.enc_decoder.specs.Call.{Replacement};
 ghost use Rattle.enc_stream.specs.Latin1.{DecoderMayBeLatin1};
-ghost use Rattle.enc_stream.specs.Decoding.{has_finished, AnswersDecodeReplacing};
+ghost use Rattle.enc_stream.specs.Decoding.{has_finished, AnswersDecode};
 ghost use Rattle.enc_reader.specs.Source.{ConsumesRemaining, IsExhausted};
 ghost use Rattle.std.proofs.Props.{props};
 
@@ -107,9 +109,16 @@ fn decode_unread(
     requires going { has_finished decoder.old ≡ false }
     requires before { unread.at ≤ unread.filled }
     requires within { unread.filled ≤ length input.old }
-    ensures call { AnswersDecodeReplacing encode_utf8 4 decoder.old decoder.new
-        (take (unread.filled - unread.at) (drop unread.at input.old)) last (length dst.old)
-        result.result result.read (take result.written dst.new) result.replaced }
+    ensures call { AnswersDecode encode_utf8 4 decoder.old decoder.new (record {
+      src = take (unread.filled - unread.at) (drop unread.at input.old);
+      last = last;
+      mode = Replacement;
+      room = length dst.old;
+      result = decoder_result_of result.result;
+      read = result.read;
+      wrote = take result.written dst.new;
+      replaced = result.replaced;
+    }) }
     ensures written { result.written ≤ length dst.old }
     ensures rest { drop result.written dst.new ≡ drop result.written dst.old }
     ensures kept { input.new ≡ input.old }

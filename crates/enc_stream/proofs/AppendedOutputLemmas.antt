@@ -36,7 +36,16 @@ pub over_slice : {units_of : ℕ → List ℕ} {least : ℕ} → TakesSmallTexts
     → AnswersDecodeInto units_of mode old new src last before after result read replaced
     → {text : List ℕ} {room : ℕ} {flag : Bool}
     → before.written ≡ [] → before.room ≡ room → after.written ≡ text → replaced ≡ flag
-    → AnswersDecode units_of least mode old new src last room result read text flag
+    → AnswersDecode units_of least old new (record {
+      src = src;
+      last = last;
+      mode = mode;
+      room = room;
+      result = result;
+      read = read;
+      wrote = text;
+      replaced = flag;
+    })
 over_slice {least} takes answers {text} none_before room_is text_is flag_is =
     let wrote_text : answers.wrote ≡ text =
     sym (ap (λ x. x ++ answers.wrote) none_before)
@@ -52,7 +61,16 @@ pub over_text : {units_of : ℕ → List ℕ} {least : ℕ} {text now : List ℕ
     → AnswersDecodeInto units_of mode old new src last before after result read replaced
     → before.written ≡ text → length text ≡ len → before.room ≡ room → after.written ≡ now
     → replaced ≡ flag
-    → AnswersDecode units_of least mode old new src last room result read (drop len now) flag
+    → AnswersDecode units_of least old new (record {
+      src = src;
+      last = last;
+      mode = mode;
+      room = room;
+      result = result;
+      read = read;
+      wrote = drop len now;
+      replaced = flag;
+    })
 over_text {least} {text} {now} {len} takes {before} answers text_is len_is room_is now_is flag_is =
     let all : text ++ answers.wrote ≡ now =
     rw (← text_is) (sym (ap (λ (o : Output). o.written) answers.onto) ∙ now_is) in

@@ -16,8 +16,7 @@ use Rattle.enc_stream.specs.Decoding.{LeavesFewerBytes}
 
 -- a call of a decoder
 abbrev pub Decodes : (ℕ → List ℕ) → DecoderState → DecoderState → Call → Type 0
-Decodes units_of old new c =
-    DecodesChunk units_of c.mode old new c.src c.last c.room c.result c.read c.wrote c.replaced
+Decodes units_of old new c = DecodesChunk units_of old new c
 
 module _ {units_of : ℕ → List ℕ} {old new : DecoderState} (c : Call)
     (decodes : Decodes units_of old new c) where

@@ -26,7 +26,7 @@ use Rattle.enc_stream.specs.LifeCycle.{life_after_sequences, life_after}
 use Rattle.enc_units.specs.Results.{decoder_result_of}
 use Rattle.enc_stream.specs.Decoding.{DecoderState, has_ended, has_finished, removal_start, fresh_decoder}
 use Rattle.enc_stream.specs.Decoding.{remaining_sequences, whole_sequences, whole_utf_8, whole_malformed}
-use Rattle.enc_stream.specs.Decoding.{DecodesReplacing, HasDecoded}
+use Rattle.enc_stream.specs.Decoding.{DecodesChunk, replacing_call, HasDecoded}
 
 -- Whether a call reaches the end.
 
@@ -105,7 +105,8 @@ ends_at_end life false bytes done = open_at (mark_prefixes life) bytes done (non
 -- so a call that replaces has finished exactly if it came to the end
 pub finishes : (result : CoderResult) {old new : DecoderState} {src : List ℕ} {last : Bool}
     {room read : ℕ} {wrote : List ℕ} {replaced : Bool}
-    → DecodesReplacing encode_utf8 old new src last room result read wrote replaced
+    → DecodesChunk encode_utf8 old new
+    (replacing_call src last room result read wrote replaced)
     → has_finished new ≡ reaches_end last (decoder_result_of result)
 finishes result {old} {src = src} {last} {read = read} decodes =
     ap has_ended decodes.life

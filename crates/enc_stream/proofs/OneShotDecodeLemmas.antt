@@ -25,8 +25,9 @@ use Rattle.enc_stream.specs.Encodings.{rule_of}
 use Rattle.enc_stream.specs.Bom.{Mark, marks_of_encoding, find_mark, sequences_by_mark}
 use Rattle.enc_stream.specs.LifeCycle.{encoding_of_mark_or}
 use Rattle.enc_stream.specs.Decoding.{DecoderState, has_finished, fresh_decoder, decoder_remainder, remaining_sequences}
-use Rattle.enc_stream.specs.Decoding.{whole_sequences, whole_utf_8, whole_malformed, DecodesChunk, DecodesReplacing}
-use Rattle.enc_stream.specs.Decoding.{AnswersDecodeReplacing, HasDecoded}
+use Rattle.enc_stream.specs.Decoding.{whole_sequences, whole_utf_8, whole_malformed, DecodesChunk}
+use Rattle.enc_stream.specs.Decoding.{replacing_call, reporting_call}
+use Rattle.enc_stream.specs.Decoding.{AnswersDecode, HasDecoded}
 use Rattle.enc_units.specs.Checked.{checked_add}
 use Rattle.enc_stream.specs.declared.lengths.Query.TheVariants as query
 use Rattle.enc_stream.specs.declared.lengths.Query.TheVariants.{Utf8Reporting}
@@ -121,8 +122,7 @@ pub next_call : (result : CoderResult) {handling : BomHandling} {e : Encoding}
     → HasDecoded handling e bytes unread true old wrote had
     → {src before after : List ℕ} → src ≡ unread → before ≡ wrote
     → {room read : ℕ} {replaced : Bool}
-    → DecodesReplacing encode_utf8 old new src true room result read (drop (length before) after)
-    replaced
+    → DecodesChunk encode_utf8 old new (replacing_call src true room result read (drop (length before) after) replaced)
     → take (length before) after ≡ before
     → HasDecoded handling e bytes (drop read src) true new after (had || replaced)
 next_call result {old} {new} decoded {src} {before} {after} src_is before_is {room} {read}
@@ -144,8 +144,7 @@ pub first_call : (result : CoderResult) {handling : BomHandling} {e : Encoding} 
     {old new : DecoderState}
     → old ≡ fresh_decoder handling e → {before after : List ℕ} → before ≡ []
     → {room read : ℕ} {replaced : Bool}
-    → DecodesReplacing encode_utf8 old new bytes true room result read (drop (length before) after)
-    replaced
+    → DecodesChunk encode_utf8 old new (replacing_call bytes true room result read (drop (length before) after) replaced)
     → take (length before) after ≡ before
     → HasDecoded handling e bytes (drop read bytes) true new after replaced
 first_call result {handling} {e} {bytes} {old} is_fresh is_empty decodes keeps =
@@ -184,14 +183,14 @@ not_at_end coder.OutputFull goes_on = refl
 -- a call that is not at the end leaves a decoder open
 pub still_open : (result : CoderResult) {old new : DecoderState} {src : List ℕ} {room : ℕ}
     {read : ℕ} {wrote : List ℕ} {replaced : Bool}
-    → DecodesReplacing encode_utf8 old new src true room result read wrote replaced
+    → DecodesChunk encode_utf8 old new (replacing_call src true room result read wrote replaced)
     → ¬ (result ≡ coder.InputEmpty) → has_finished new ≡ false
 still_open result decodes goes_on = finishes result decodes ∙ not_at_end result goes_on
 
 -- and one that is leaves it finished
 pub now_finished : (result : CoderResult) {old new : DecoderState} {src : List ℕ} {room : ℕ}
     {read : ℕ} {wrote : List ℕ} {replaced : Bool}
-    → DecodesReplacing encode_utf8 old new src true room result read wrote replaced
+    → DecodesChunk encode_utf8 old new (replacing_call src true room result read wrote replaced)
     → result ≡ coder.InputEmpty → has_finished new ≡ true
 now_finished result decodes at_end = finishes result decodes
     ∙ ap (λ r. reaches_end true (decoder_result_of r)) at_end
@@ -243,7 +242,7 @@ pub too_long_after : {handling : BomHandling} {e : Encoding} {bytes : List ℕ}
     → HasRoomExactlyFor length_answered room
     → (result : CoderResult) → ¬ (result ≡ coder.InputEmpty)
     → {read : ℕ} {wrote : List ℕ} {replaced : Bool}
-    → AnswersDecodeReplacing encode_utf8 4 old new bytes true room result read wrote replaced
+    → AnswersDecode encode_utf8 4 old new (replacing_call bytes true room result read wrote replaced)
     → checked_add (max_length query.Utf8 new (length (drop read bytes))) (length wrote) ≡ None
     → IsTooLongAfterFull handling e bytes
 too_long_after is_fresh length_is exact coder.InputEmpty goes_on call passes = absurd (goes_on refl)
@@ -262,8 +261,7 @@ too_long_after {handling} {e} {bytes} {new} is_fresh length_is {room} exact code
       wrote = wrote;
       replaced = replaced;
       call =
-          subst (λ d. AnswersDecodeReplacing encode_utf8 4 d new bytes true room coder.OutputFull
-          read wrote replaced)
+          subst (λ d. AnswersDecode encode_utf8 4 d new (replacing_call bytes true room coder.OutputFull read wrote replaced))
           is_fresh
           call;
       passes = passes;
@@ -322,8 +320,7 @@ strict_text {e} {bytes} {text} decoded finished =
 module _ {e : Encoding} {bytes : List ℕ} {old new : DecoderState} {before : List ℕ} where
   pub strict_end : (result : DecoderResult) {src after : List ℕ} {room read : ℕ}
       → HasDecoded Off e bytes src true old before false
-      → DecodesChunk encode_utf8 (Fatal false) old new src true room result read
-      (drop (length before) after) false
+      → DecodesChunk encode_utf8 old new (reporting_call src true room result read (drop (length before) after))
       → take (length before) after ≡ before → result ≡ InputEmpty
       → Some after ≡ utf_8_without_replacement e bytes
   strict_end InputEmpty {src} {after} {room} {read} decoded decodes keeps at_end =
@@ -344,7 +341,7 @@ module _ {e : Encoding} {bytes : List ℕ} {old new : DecoderState} {before : Li
 
   pub strict_report : (result : DecoderResult) {l a : ℕ} {src wrote : List ℕ} {room read : ℕ}
       → HasDecoded Off e bytes src true old before false
-      → DecodesChunk encode_utf8 (Fatal false) old new src true room result read wrote false
+      → DecodesChunk encode_utf8 old new (reporting_call src true room result read wrote)
       → result ≡ Malformed l a → None ≡ utf_8_without_replacement e bytes
   strict_report InputEmpty decoded decodes is_malformed_now = cc
   strict_report OutputFull decoded decodes is_malformed_now = cc

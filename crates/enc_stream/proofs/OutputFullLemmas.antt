@@ -188,7 +188,7 @@ module _ {units_of : ℕ → List ℕ} (determine : DetermineTexts units_of) {ol
 pub converts : {units_of : ℕ → List ℕ} {least : ℕ} {old new : DecoderState} (c : Call)
     → DetermineTexts units_of → TakesSmallTexts units_of least → PendingAreHeldBytes old
     → has_finished old ≡ false → Decodes units_of old new c
-    → AnswersDecode units_of least c.mode old new c.src c.last c.room c.result c.read c.wrote
+    → AnswersDecode units_of least old new c
     c.replaced
 converts {units_of} c determine takes are_held going decodes = record {
   decodes = decodes;

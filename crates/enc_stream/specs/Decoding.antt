@@ -19,7 +19,8 @@ use Rattle.enc_units.specs.Output.{Output, with_appended, units_of_text}
 use Rattle.enc_decoder.specs.Sequence.{Sequence, sequence_bytes, sequence_text, any_malformed, set_after}
 use Rattle.enc_decoder.specs.CodecState.{CodecState}
 use Rattle.enc_decoder.specs.Remainder.{Remainder}
-use Rattle.enc_decoder.specs.Call.{DecoderCall, DecodeErrorMode, Replacement, Fatal, reaches_end}
+use Rattle.enc_decoder.specs.Call.{DecodeErrorMode, Replacement, Fatal, reaches_end}
+use Rattle.enc_decoder.specs.CallRecord.{Call, IsCall}
 use Rattle.enc_decoder.specs.Need.{MeetsDecodeNeed}
 use Rattle.enc_decoder.specs.RuleLaws.{HasTexts, IsSmallText}
 use Rattle.enc_decoder.specs.declared.text_lengths.TextLengths.{TextLengths}
@@ -141,21 +142,19 @@ pub record PendingAreHeldBytes (d : DecoderState) : Type 0 where
       → d.pending ≡ held_mark_bytes d.life
 
 -- A call of a decoder, into an output of `room` code units.
-pub record DecodesChunk (units_of : ℕ → List ℕ) (mode : DecodeErrorMode) (old new : DecoderState)
-    (src : List ℕ) (last : Bool) (room : ℕ) (result : DecoderResult) (read : ℕ) (wrote : List ℕ)
-    (replaced : Bool) : Type 0 where
-  pub call : DecoderCall units_of (decoder_remainder old) (decoder_remainder new) src last mode room
-      result read wrote replaced
+pub record DecodesChunk (units_of : ℕ → List ℕ) (old new : DecoderState) (c : Call)
+    : Type 0 where
+  pub call : IsCall units_of (decoder_remainder old) (decoder_remainder new) c
   -- A byte order mark is dropped, and sets the encoding. All other bytes read belong to the
   -- sequences done or are pending.
-  pub accounted : old.pending ++ take read src
-      ≡ mark_bytes (mark_in (phase_of old.life) (old.pending ++ take read src))
+  pub accounted : old.pending ++ take c.read c.src
+      ≡ mark_bytes (mark_in (phase_of old.life) (old.pending ++ take c.read c.src))
       ++ (sequence_bytes call.done ++ new.pending)
   pub encoding : new.encoding
-      ≡ encoding_of_mark_or (mark_in (phase_of old.life) (old.pending ++ take read src))
+      ≡ encoding_of_mark_or (mark_in (phase_of old.life) (old.pending ++ take c.read c.src))
       old.encoding
-  pub life : new.life ≡ life_after old.life (reaches_end last result) (old.pending ++ take read src)
-      call.done
+  pub life : new.life ≡ life_after old.life (reaches_end c.last c.result)
+      (old.pending ++ take c.read c.src) call.done
 
 -- the same, for a call that appends what it writes to an output
 pub record DecodesInto (units_of : ℕ → List ℕ) (mode : DecodeErrorMode) (old new : DecoderState)
@@ -163,20 +162,42 @@ pub record DecodesInto (units_of : ℕ → List ℕ) (mode : DecodeErrorMode) (o
     (replaced : Bool) : Type 0 where
   pub wrote : List ℕ
   pub onto : after ≡ with_appended before wrote
-  pub decodes : DecodesChunk units_of mode old new src last before.room result read wrote replaced
+  pub decodes : DecodesChunk units_of old new (record {
+    src = src;
+    last = last;
+    mode = mode;
+    room = before.room;
+    result = result;
+    read = read;
+    wrote = wrote;
+    replaced = replaced;
+  })
 
--- A call of a decoder with replacement.
-abbrev pub DecodesReplacing : (ℕ → List ℕ) → DecoderState → DecoderState → List ℕ → Bool → ℕ
-    → CoderResult → ℕ → List ℕ → Bool → Type 0
-DecodesReplacing units_of old new src last room result read wrote replaced =
-    DecodesChunk units_of Replacement old new src last room (decoder_result_of result) read wrote
-    replaced
+-- A call with replacement, by its values one by one.
+abbrev pub replacing_call : List ℕ → Bool → ℕ → CoderResult → ℕ → List ℕ → Bool → Call
+replacing_call src last room result read wrote replaced = record {
+  src = src;
+  last = last;
+  mode = Replacement;
+  room = room;
+  result = decoder_result_of result;
+  read = read;
+  wrote = wrote;
+  replaced = replaced;
+}
 
--- A call of a decoder without replacement.
-abbrev pub DecodesReporting : (ℕ → List ℕ) → DecoderState → DecoderState → List ℕ → Bool → ℕ
-    → DecoderResult → ℕ → List ℕ → Type 0
-DecodesReporting units_of old new src last room result read wrote =
-    DecodesChunk units_of (Fatal false) old new src last room result read wrote false
+-- A call without replacement, by its values one by one.
+abbrev pub reporting_call : List ℕ → Bool → ℕ → DecoderResult → ℕ → List ℕ → Call
+reporting_call src last room result read wrote = record {
+  src = src;
+  last = last;
+  mode = Fatal false;
+  room = room;
+  result = result;
+  read = read;
+  wrote = wrote;
+  replaced = false;
+}
 
 -- A decoder that has read nothing of src is unchanged, except that it may drop pending sequences
 -- without a text (escape sequences): src shows that they are skipped.
@@ -202,34 +223,21 @@ LeavesFewerBytes old new src read =
     length new.pending + (length src - read) < length old.pending + length src
 
 -- A call of a decoder, for any output. `least` code units hold the text of any sequence.
-pub record AnswersDecode (units_of : ℕ → List ℕ) (least : ℕ) (mode : DecodeErrorMode)
-    (old new : DecoderState) (src : List ℕ) (last : Bool) (room : ℕ) (result : DecoderResult)
-    (read : ℕ) (wrote : List ℕ) (replaced : Bool) : Type 0 where
-  pub decodes : DecodesChunk units_of mode old new src last room result read wrote replaced
-  -- The output is full exactly if the call needs more than `room`.
-  pub need : MeetsDecodeNeed units_of mode (decoder_remainder old) (decoder_remainder new) src last
-      room result read (length wrote)
+pub record AnswersDecode (units_of : ℕ → List ℕ) (least : ℕ) (old new : DecoderState) (c : Call)
+    : Type 0 where
+  pub decodes : DecodesChunk units_of old new c
+  -- The output is full exactly if the call needs more than its room.
+  pub need : MeetsDecodeNeed units_of c.mode (decoder_remainder old) (decoder_remainder new) c.src
+      c.last c.room c.result c.read (length c.wrote)
   -- If it is full, with nothing read and nothing written, the decoder is unchanged, except for
   -- pending escape sequences that are now skipped. In an encoding without these it is unchanged.
-  pub unchanged : result ≡ raw.OutputFull → read ≡ 0 → wrote ≡ []
-      → IsUnchangedButSkips src last old new
-  pub same : result ≡ raw.OutputFull → read ≡ 0 → wrote ≡ [] → HasTexts (rule_of old.encoding)
+  pub unchanged : c.result ≡ raw.OutputFull → c.read ≡ 0 → c.wrote ≡ []
+      → IsUnchangedButSkips c.src c.last old new
+  pub same : c.result ≡ raw.OutputFull → c.read ≡ 0 → c.wrote ≡ [] → HasTexts (rule_of old.encoding)
       → new ≡ old
   -- With `least` code units of room, a call makes progress.
-  pub progress : (result ≡ raw.InputEmpty → ⊥) → least ≤ room → LeavesFewerBytes old new src read
-
--- the same with replacement
-abbrev pub AnswersDecodeReplacing : (ℕ → List ℕ) → ℕ → DecoderState → DecoderState → List ℕ → Bool
-    → ℕ → CoderResult → ℕ → List ℕ → Bool → Type 0
-AnswersDecodeReplacing units_of least old new src last room result read wrote replaced =
-    AnswersDecode units_of least Replacement old new src last room (decoder_result_of result) read
-    wrote replaced
-
--- the same without replacement
-abbrev pub AnswersDecodeReporting : (ℕ → List ℕ) → ℕ → DecoderState → DecoderState → List ℕ → Bool
-    → ℕ → DecoderResult → ℕ → List ℕ → Type 0
-AnswersDecodeReporting units_of least old new src last room result read wrote =
-    AnswersDecode units_of least (Fatal false) old new src last room result read wrote false
+  pub progress : (c.result ≡ raw.InputEmpty → ⊥) → least ≤ c.room
+      → LeavesFewerBytes old new c.src c.read
 
 -- the same, for a call that appends what it writes to an output
 pub record AnswersDecodeInto (units_of : ℕ → List ℕ) (mode : DecodeErrorMode)
@@ -238,7 +246,16 @@ pub record AnswersDecodeInto (units_of : ℕ → List ℕ) (mode : DecodeErrorMo
   pub wrote : List ℕ
   pub onto : after ≡ with_appended before wrote
   pub converts : (least : ℕ) → TakesSmallTexts units_of least
-      → AnswersDecode units_of least mode old new src last before.room result read wrote replaced
+      → AnswersDecode units_of least old new (record {
+        src = src;
+        last = last;
+        mode = mode;
+        room = before.room;
+        result = result;
+        read = read;
+        wrote = wrote;
+        replaced = replaced;
+      })
 
 -- The result of some calls of an encoding's decoder: of the bytes given so far, `unread` remain. If
 -- `ended`, nothing follows them.

@@ -12,7 +12,8 @@ use Rattle.enc_stream.specs.declared.bom.BomHandling.{BomHandling}
 use Rattle.enc_stream.specs.declared.bom.BomHandling.TheVariants.{Off}
 use Rattle.enc_stream.specs.declared.encoding.Encoding.{Encoding}
 use Rattle.enc_stream.specs.declared.lengths.Query.TheVariants.{Utf8, Utf8Reporting}
-use Rattle.enc_stream.specs.Decoding.{DecoderState, fresh_decoder, whole_utf_8, whole_malformed, AnswersDecodeReplacing}
+use Rattle.enc_stream.specs.Decoding.{DecoderState, fresh_decoder, whole_utf_8, whole_malformed, AnswersDecode}
+use Rattle.enc_stream.specs.Decoding.{replacing_call}
 use Rattle.enc_stream.specs.Encoder.{EncoderState, EncodesChunk, fresh_encoder, raw_state, html_mode, whole_bytes}
 use Rattle.enc_stream.specs.Encoder.{room_kept_for_references}
 use Rattle.enc_stream.specs.Properties.{output_encoding_of}
@@ -49,9 +50,8 @@ pub record IsTooLongAfterFull (handling : BomHandling) (e : Encoding)
   pub read : ℕ
   pub wrote : List ℕ
   pub replaced : Bool
-  pub call : AnswersDecodeReplacing encode_utf8 4 (fresh_decoder handling e) state bytes true room
-      OutputFull read wrote
-      replaced
+  pub call : AnswersDecode encode_utf8 4 (fresh_decoder handling e) state
+      (replacing_call bytes true room OutputFull read wrote replaced)
   pub passes : checked_add (max_length Utf8 state (length (drop read bytes))) (length wrote)
       ≡ None
 

@@ -5,10 +5,10 @@ ghost use Rattle.std.specs.Char.{encode_utf8};
 ghost use Rattle.std.specs.Char.Escape.{encode_utf16};
 ghost use Rattle.std.specs.Str.{IsUtf8};
 ghost use Rattle.enc_units.specs.Results.{decoder_result_of};
-ghost use Rattle.enc_decoder.specs.Call.{reaches_end};
+ghost use Rattle.enc_decoder.specs.Call.{Replacement, Fatal, reaches_end};
 ghost use Rattle.enc_decoder.specs.Replacing.{replaces, decode_error_mode};
 ghost use Rattle.enc_stream.specs.Decoding.{has_finished, LeavesFewerBytes, AnswersDecodeInto};
-ghost use Rattle.enc_stream.specs.Decoding.{AnswersDecodeReplacing, AnswersDecodeReporting};
+ghost use Rattle.enc_stream.specs.Decoding.{AnswersDecode};
 
 mod queries;
 mod start;
@@ -138,8 +138,16 @@ impl Decoder {
         last: bool,
     ) -> (CoderResult, usize, usize, bool)
         requires { has_finished self.old ≡ false }
-        ensures call { AnswersDecodeReplacing encode_utf8 4 self.old self.new src.now last
-            (length dst.old) result.0 result.1 (take result.2 dst.new) result.3 }
+        ensures call { AnswersDecode encode_utf8 4 self.old self.new (record {
+          src = src.now;
+          last = last;
+          mode = Replacement;
+          room = length dst.old;
+          result = decoder_result_of result.0;
+          read = result.1;
+          wrote = take result.2 dst.new;
+          replaced = result.3;
+        }) }
         ensures read { result.1 ≤ length src.now }
         ensures written { result.2 ≤ length dst.old }
         ensures text { IsUtf8 (take result.2 dst.new) }
@@ -179,8 +187,16 @@ impl Decoder {
         last: bool,
     ) -> (DecoderResult, usize, usize)
         requires { has_finished self.old ≡ false }
-        ensures call { AnswersDecodeReporting encode_utf8 4 self.old self.new src.now last
-            (length dst.old) result.0 result.1 (take result.2 dst.new) }
+        ensures call { AnswersDecode encode_utf8 4 self.old self.new (record {
+          src = src.now;
+          last = last;
+          mode = Fatal false;
+          room = length dst.old;
+          result = result.0;
+          read = result.1;
+          wrote = take result.2 dst.new;
+          replaced = false;
+        }) }
         ensures read { result.1 ≤ length src.now }
         ensures written { result.2 ≤ length dst.old }
         ensures text { IsUtf8 (take result.2 dst.new) }
@@ -209,8 +225,16 @@ impl Decoder {
         last: bool,
     ) -> (CoderResult, usize, usize, bool)
         requires { has_finished self.old ≡ false }
-        ensures call { AnswersDecodeReplacing encode_utf16 2 self.old self.new src.now last
-            (length dst.old) result.0 result.1 (take result.2 dst.new) result.3 }
+        ensures call { AnswersDecode encode_utf16 2 self.old self.new (record {
+          src = src.now;
+          last = last;
+          mode = Replacement;
+          room = length dst.old;
+          result = decoder_result_of result.0;
+          read = result.1;
+          wrote = take result.2 dst.new;
+          replaced = result.3;
+        }) }
         ensures read { result.1 ≤ length src.now }
         ensures written { result.2 ≤ length dst.old }
         ensures rest { drop result.2 dst.new ≡ drop result.2 dst.old }
@@ -243,8 +267,16 @@ impl Decoder {
         last: bool,
     ) -> (DecoderResult, usize, usize)
         requires { has_finished self.old ≡ false }
-        ensures call { AnswersDecodeReporting encode_utf16 2 self.old self.new src.now last
-            (length dst.old) result.0 result.1 (take result.2 dst.new) }
+        ensures call { AnswersDecode encode_utf16 2 self.old self.new (record {
+          src = src.now;
+          last = last;
+          mode = Fatal false;
+          room = length dst.old;
+          result = result.0;
+          read = result.1;
+          wrote = take result.2 dst.new;
+          replaced = false;
+        }) }
         ensures read { result.1 ≤ length src.now }
         ensures written { result.2 ≤ length dst.old }
         ensures rest { drop result.2 dst.new ≡ drop result.2 dst.old }

@@ -101,9 +101,7 @@ module _ {handling : BomHandling} {e : Encoding} {bytes : List ℕ} {made : Deco
     replaced = advances.replaced;
   }
 
-  abbrev decodes : DecodesChunk (units_of_call made.utf16) (decode_error_mode made.replace)
-      old.decoder new.decoder chunk last made.room advances.result advances.more
-      (units_of_text (units_of_call made.utf16) advances.call.answers.text) advances.replaced
+  abbrev decodes : DecodesChunk (units_of_call made.utf16) old.decoder new.decoder of_call
   decodes = advances.call.answers.decodes
 
   abbrev put : List Sequence

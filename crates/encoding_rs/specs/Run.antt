@@ -47,8 +47,16 @@ pub record AnswersDecodeCall (units_of : ℕ → List ℕ) (call : DecodeCall) (
   pub text : List ℕ
   pub scalars : AreScalars text
   pub is : utf_8 ≡ units_of_text encode_utf8 text
-  pub decodes : DecodesChunk units_of (decode_error_mode call.replace) old new chunk last call.room
-      result read (units_of_text units_of text) replaced
+  pub decodes : DecodesChunk units_of old new (record {
+    src = chunk;
+    last = last;
+    mode = decode_error_mode call.replace;
+    room = call.room;
+    result = result;
+    read = read;
+    wrote = units_of_text units_of text;
+    replaced = replaced;
+  })
 
 -- A call of a run: it gets the unread bytes, at most `offer` of them, and `last` exactly if that is
 -- all of them. Its text is appended, and U+FFFD for a malformed sequence that it has reported.

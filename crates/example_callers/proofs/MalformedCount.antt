@@ -7,7 +7,7 @@ use Rattle.enc_units.specs.declared.decoder_result.DecoderResult.{DecoderResult}
 use Rattle.enc_units.specs.declared.decoder_result.DecoderResult.TheVariants as raw
 use Rattle.enc_decoder.specs.Sequence.{Sequence, is_malformed, any_malformed}
 use Rattle.enc_decoder.specs.Call.{DecoderStops, Fatal}
-use Rattle.encoding_rs.specs.Decoding.{DecoderState, decoder_remainder, remaining_sequences, DecodesReporting}
+use Rattle.encoding_rs.specs.Decoding.{DecoderState, decoder_remainder, remaining_sequences, DecodesChunk, reporting_call}
 use Rattle.example_callers.specs.Count.{malformed_count}
 use Rattle.example_callers.proofs.WrittenText.{drop_whole}
 
@@ -39,7 +39,7 @@ reported (raw.Malformed l a) = 1
 -- it.
 pub counts_now : {old new : DecoderState} {src : List ℕ} {room : ℕ} (result : DecoderResult)
     {read : ℕ} {wrote : List ℕ}
-    → DecodesReporting encode_utf8 old new src true room result read wrote
+    → DecodesChunk encode_utf8 old new (reporting_call src true room result read wrote)
     → malformed_count (remaining_sequences old src)
     ≡ reported result + malformed_count (remaining_sequences new (drop read src))
 counts_now {old} {new} {src} {room} result {read} decodes =
@@ -69,7 +69,7 @@ counts_now {old} {new} {src} {room} result {read} decodes =
 -- Before a call that returns `InputEmpty` none is to come.
 pub none_at_end : {old new : DecoderState} {src : List ℕ} {room : ℕ} (result : DecoderResult)
     {read : ℕ} {wrote : List ℕ}
-    → DecodesReporting encode_utf8 old new src true room result read wrote
+    → DecodesChunk encode_utf8 old new (reporting_call src true room result read wrote)
     → result ≡ raw.InputEmpty → malformed_count (remaining_sequences old src) ≡ 0
 none_at_end {new} {src} raw.InputEmpty {read} decodes is =
     counts_now raw.InputEmpty decodes

@@ -11,7 +11,7 @@ use Rattle.enc_units.specs.Output.{units_of_text}
 use Rattle.enc_decoder.specs.Sequence.{Sequence, sequence_text}
 use Rattle.enc_stream.specs.declared.bom.BomHandling.TheVariants.{Sniff}
 use Rattle.enc_stream.specs.declared.encoding.Encoding.{Encoding}
-use Rattle.encoding_rs.specs.Decoding.{DecoderState, fresh_decoder, remaining_sequences, DecodesReplacing, whole_utf_8}
+use Rattle.encoding_rs.specs.Decoding.{DecoderState, fresh_decoder, remaining_sequences, DecodesChunk, replacing_call, whole_utf_8}
 
 -- the text of sequences, in UTF-8
 abbrev pub utf_8 : List Sequence → List ℕ
@@ -41,7 +41,7 @@ utf_8-append a b =
 -- The text to come before a call is what the call writes and the text to come after it.
 pub written_then : {old new : DecoderState} {src : List ℕ} {last : Bool} {room : ℕ}
     (result : CoderResult) {read : ℕ} {wrote : List ℕ} {replaced : Bool}
-    → DecodesReplacing encode_utf8 old new src last room result read wrote replaced
+    → DecodesChunk encode_utf8 old new (replacing_call src last room result read wrote replaced)
     → (z : List ℕ) → (last ≡ true → z ≡ [])
     → utf_8 (remaining_sequences old (src ++ z))
     ≡ wrote ++ utf_8 (remaining_sequences new (drop read src ++ z))
@@ -63,7 +63,7 @@ drop_whole x n e = ap (λ k. drop k x) e ∙ drop-length x
 
 all_read : {old new : DecoderState} {src : List ℕ} {last : Bool} {room : ℕ} (result : CoderResult)
     {read : ℕ} {wrote : List ℕ} {replaced : Bool}
-    → DecodesReplacing encode_utf8 old new src last room result read wrote replaced
+    → DecodesChunk encode_utf8 old new (replacing_call src last room result read wrote replaced)
     → result ≡ InputEmpty → drop read src ≡ []
 all_read {src} InputEmpty {read} decodes is = drop_whole src read decodes.call.stops.all_read
 all_read OutputFull decodes is = absurd (let none : ⊥ = cc in none)
@@ -71,7 +71,7 @@ all_read OutputFull decodes is = absurd (let none : ⊥ = cc in none)
 -- the same after `InputEmpty`, which leaves nothing unread
 pub written_chunk : {old new : DecoderState} {src : List ℕ} {last : Bool} {room : ℕ}
     (result : CoderResult) {read : ℕ} {wrote : List ℕ} {replaced : Bool}
-    → DecodesReplacing encode_utf8 old new src last room result read wrote replaced
+    → DecodesChunk encode_utf8 old new (replacing_call src last room result read wrote replaced)
     → result ≡ InputEmpty → (z : List ℕ) → (last ≡ true → z ≡ [])
     → utf_8 (remaining_sequences old (src ++ z)) ≡ wrote ++ utf_8 (remaining_sequences new z)
 written_chunk {new} result {wrote} decodes is z none_after =
@@ -80,7 +80,7 @@ written_chunk {new} result {wrote} decodes is z none_after =
 
 none_left : {old new : DecoderState} {src : List ℕ} {room : ℕ} (result : CoderResult)
     {read : ℕ} {wrote : List ℕ} {replaced : Bool}
-    → DecodesReplacing encode_utf8 old new src true room result read wrote replaced
+    → DecodesChunk encode_utf8 old new (replacing_call src true room result read wrote replaced)
     → result ≡ InputEmpty → remaining_sequences new [] ≡ []
 none_left InputEmpty decodes is = decodes.call.stops.none_left refl
 none_left OutputFull decodes is = absurd (let none : ⊥ = cc in none)
@@ -88,7 +88,7 @@ none_left OutputFull decodes is = absurd (let none : ⊥ = cc in none)
 -- At the end of the input all text is written.
 pub written_all : {old new : DecoderState} {src : List ℕ} {room : ℕ} (result : CoderResult)
     {read : ℕ} {wrote : List ℕ} {replaced : Bool}
-    → DecodesReplacing encode_utf8 old new src true room result read wrote replaced
+    → DecodesChunk encode_utf8 old new (replacing_call src true room result read wrote replaced)
     → result ≡ InputEmpty → utf_8 (remaining_sequences old src) ≡ wrote
 written_all {old} {src} result {wrote} decodes is =
     ap (λ x. utf_8 (remaining_sequences old x)) (sym (append-nil src))

@@ -7,9 +7,9 @@ ghost use Rattle.std.specs.Str.{IsUtf8};
 ghost use Rattle.enc_units.specs.Validity.{IsWellFormedUtf8};
 ghost use Rattle.enc_units.specs.Rest.{without_continuations};
 ghost use Rattle.enc_units.specs.Results.{decoder_result_of};
-ghost use Rattle.enc_decoder.specs.Call.{reaches_end};
+ghost use Rattle.enc_decoder.specs.Call.{Replacement, Fatal, reaches_end};
 ghost use Rattle.enc_stream.specs.Decoding.{has_finished, LeavesFewerBytes};
-ghost use Rattle.enc_stream.specs.Decoding.{AnswersDecodeReplacing, AnswersDecodeReporting};
+ghost use Rattle.enc_stream.specs.Decoding.{AnswersDecode};
 
 use super::{Decoder, unreported};
 use enc_decoder::ErrorMode;
@@ -31,8 +31,16 @@ impl Decoder {
     ) -> (CoderResult, usize, usize, bool)
         requires open { has_finished self.old ≡ false }
         requires utf8 { IsWellFormedUtf8 dst.old }
-        ensures call { AnswersDecodeReplacing encode_utf8 4 self.old self.new src.now last
-            (length dst.old) result.0 result.1 (take result.2 dst.new) result.3 }
+        ensures call { AnswersDecode encode_utf8 4 self.old self.new (record {
+          src = src.now;
+          last = last;
+          mode = Replacement;
+          room = length dst.old;
+          result = decoder_result_of result.0;
+          read = result.1;
+          wrote = take result.2 dst.new;
+          replaced = result.3;
+        }) }
         ensures read { result.1 ≤ length src.now }
         ensures written { result.2 ≤ length dst.old }
         ensures text { IsUtf8 (take result.2 dst.new) }
@@ -61,8 +69,16 @@ impl Decoder {
     ) -> (DecoderResult, usize, usize)
         requires open { has_finished self.old ≡ false }
         requires utf8 { IsWellFormedUtf8 dst.old }
-        ensures call { AnswersDecodeReporting encode_utf8 4 self.old self.new src.now last
-            (length dst.old) result.0 result.1 (take result.2 dst.new) }
+        ensures call { AnswersDecode encode_utf8 4 self.old self.new (record {
+          src = src.now;
+          last = last;
+          mode = Fatal false;
+          room = length dst.old;
+          result = result.0;
+          read = result.1;
+          wrote = take result.2 dst.new;
+          replaced = false;
+        }) }
         ensures read { result.1 ≤ length src.now }
         ensures written { result.2 ≤ length dst.old }
         ensures text { IsUtf8 (take result.2 dst.new) }
@@ -92,9 +108,16 @@ impl Decoder {
         last: bool,
     ) -> (CoderResult, usize, bool)
         requires { has_finished self.old ≡ false }
-        ensures call { AnswersDecodeReplacing encode_utf8 4 self.old self.new src.now last
-            (string_capacity dst.old - string_len dst.old) result.0 result.1
-            (drop (length (string_bytes dst.old)) (string_bytes dst.new)) result.2 }
+        ensures call { AnswersDecode encode_utf8 4 self.old self.new (record {
+          src = src.now;
+          last = last;
+          mode = Replacement;
+          room = string_capacity dst.old - string_len dst.old;
+          result = decoder_result_of result.0;
+          read = result.1;
+          wrote = drop (length (string_bytes dst.old)) (string_bytes dst.new);
+          replaced = result.2;
+        }) }
         ensures read { result.1 ≤ length src.now }
         ensures appended { take (length (string_bytes dst.old)) (string_bytes dst.new)
             ≡ string_bytes dst.old }
@@ -124,9 +147,16 @@ impl Decoder {
         last: bool,
     ) -> (DecoderResult, usize)
         requires { has_finished self.old ≡ false }
-        ensures call { AnswersDecodeReporting encode_utf8 4 self.old self.new src.now last
-            (string_capacity dst.old - string_len dst.old) result.0 result.1
-            (drop (length (string_bytes dst.old)) (string_bytes dst.new)) }
+        ensures call { AnswersDecode encode_utf8 4 self.old self.new (record {
+          src = src.now;
+          last = last;
+          mode = Fatal false;
+          room = string_capacity dst.old - string_len dst.old;
+          result = result.0;
+          read = result.1;
+          wrote = drop (length (string_bytes dst.old)) (string_bytes dst.new);
+          replaced = false;
+        }) }
         ensures read { result.1 ≤ length src.now }
         ensures appended { take (length (string_bytes dst.old)) (string_bytes dst.new)
             ≡ string_bytes dst.old }
