@@ -20,9 +20,9 @@ use Rattle.enc_encoder.proofs.TextLemmas.{unreferred}
 use Rattle.enc_encoder.proofs.UnmappableLemmas.{any_reported_is, any_unmappable-append}
 
 -- a call that reports unmappable characters meets its need
-pub reporting_meets_need : {units_of : ℕ → List ℕ} {old new : RawEncoderState} {c : CallInMode}
-    → IsCallInMode units_of old new c → c.mode ≡ Fatal
-    → MeetsEncodeNeed old new c.src c.rest c.last c.room c.result (length c.wrote)
+pub reporting_meets_need : {units_of : ℕ → List ℕ} {old new : RawEncoderState} {rest : List ℕ} {c : CallInMode}
+    → IsCallInMode units_of old new rest c → c.mode ≡ Fatal
+    → MeetsEncodeNeed old new c.src rest c.last c.room c.result (length c.wrote)
 reporting_meets_need {c = c} call is_fatal =
     let bytes = rw is_fatal at call.bytes in
     let fits = rw is_fatal at call.fits in
@@ -68,18 +68,18 @@ all_read kept new rest last room done InputEmpty stops none_full = refl
 all_read kept new rest last room done OutputFull stops none_full = absurd (none_full stops)
 all_read kept new rest last room done (Unmappable k) stops none_full = absurd stops
 
-pub reads_all : {units_of : ℕ → List ℕ} {old new : RawEncoderState} {c : CallInMode}
-    → IsCallInMode units_of old new c → (kept : ℕ) → c.mode ≡ Html kept
+pub reads_all : {units_of : ℕ → List ℕ} {old new : RawEncoderState} {rest : List ℕ} {c : CallInMode}
+    → IsCallInMode units_of old new rest c → (kept : ℕ) → c.mode ≡ Html kept
     → any_unmappable old.rule c.src ≡ false → encode_need old c.last c.src + kept ≤ c.room
     → c.result ≡ InputEmpty
-reads_all {old = old} {new} {c} call kept is_html mappable room_is =
+reads_all {old = old} {new} {rest} {c} call kept is_html mappable room_is =
     let leaves = leaves_in_mode call in
     let none : any_reported call.done ≡ false =
     any_reported_is leaves
-    ∙ (or_parts _ (any_unmappable old.rule c.rest)
-    (sym (any_unmappable-append old.rule _ c.rest)
+    ∙ (or_parts _ (any_unmappable old.rule rest)
+    (sym (any_unmappable-append old.rule _ rest)
     ∙ ap (any_unmappable old.rule) (sym call.reads) ∙ mappable)).0 in
-    all_read kept new c.rest c.last c.room call.done c.result (rw is_html at call.stops)
+    all_read kept new rest c.last c.room call.done c.result (rw is_html at call.stops)
     (not_full leaves none kept c.room room_is)
 
 -- how many bytes a call keeps back
@@ -137,16 +137,16 @@ module _ (new : RawEncoderState) (lawful : IsLawfulEncoderRule new.rule) (rest :
   takes_step (Html kept) l done (Unmappable c) n s = absurd s
 
 -- fewer steps are left
-pub goes_on : {units_of : ℕ → List ℕ} {old new : RawEncoderState} {c : CallInMode}
-    → IsCallInMode units_of old new c → IsLawfulEncoderRule new.rule
+pub goes_on : {units_of : ℕ → List ℕ} {old new : RawEncoderState} {rest : List ℕ} {c : CallInMode}
+    → IsCallInMode units_of old new rest c → IsLawfulEncoderRule new.rule
     → 4 + kept_by c.mode ≤ c.room → (c.result ≡ InputEmpty → ⊥)
-    → length (steps_from_state new c.last c.rest) < length (steps_from_state old c.last c.src)
-goes_on {new = new} {c} call lawful enough not_ended =
-    let some = takes_step new lawful c.rest c.last c.room c.mode enough call.done c.result not_ended
+    → length (steps_from_state new c.last rest) < length (steps_from_state old c.last c.src)
+goes_on {new = new} {rest} {c} call lawful enough not_ended =
+    let some = takes_step new lawful rest c.last c.room c.mode enough call.done c.result not_ended
     call.stops in
     omega (
       arith,
       some,
       ap length call.remaining,
-      length-append call.done (steps_from_state new c.last c.rest),
+      length-append call.done (steps_from_state new c.last rest),
     )

@@ -113,46 +113,44 @@ StopsInMode Fatal new rest last room done result = EncoderStops new rest last ro
 StopsInMode (Html kept) new rest last room done result =
     StopsInHtmlMode kept new rest last room done result
 
--- What a call has: its error mode, the characters given and those that it leaves unread, whether
--- nothing follows them, the room of the output, why it stops, the number of code units read, the
--- bytes written, and whether a reference is among them.
+-- What a call is given: its characters, whether nothing follows them, the error mode and the room
+-- of the output. What it does: why it stopped, the number of code units read, the bytes written, and
+-- whether a reference is among them.
 pub record CallInMode : Type 0 where
-  pub mode : EncodeErrorMode
   pub src : List ℕ
-  pub rest : List ℕ
   pub last : Bool
+  pub mode : EncodeErrorMode
   pub room : ℕ
   pub result : EncoderResult
   pub read : ℕ
   pub wrote : List ℕ
   pub replaced : Bool
 
--- A call of an encoder. It does the steps that come first, in order. Whatever follows, the bytes of
--- the whole text are those that it wrote, a reference to the character reported, and the bytes of
--- the text left.
-pub record IsCallInMode (units_of : ℕ → List ℕ) (old new : RawEncoderState) (c : CallInMode)
-    : Type 0 where
+-- A call of an encoder that leaves the characters `rest` unread. It does the steps that come first,
+-- in order. Whatever follows, the bytes of the whole text are those that it wrote, a reference to the
+-- character reported, and the bytes of the text left.
+pub record IsCallInMode (units_of : ℕ → List ℕ) (old new : RawEncoderState) (rest : List ℕ)
+    (c : CallInMode) : Type 0 where
   pub done : List Step
-  pub reads : c.src ≡ step_chars done ++ c.rest
-  pub remaining : steps_from_state old c.last c.src ≡ done ++ steps_from_state new c.last c.rest
+  pub reads : c.src ≡ step_chars done ++ rest
+  pub remaining : steps_from_state old c.last c.src ≡ done ++ steps_from_state new c.last rest
   pub rule : new.rule ≡ old.rule
   pub set : new.set ≡ set_after_steps old.set done
   pub bytes : c.wrote ≡ bytes_in_mode c.mode done
   pub fits : StepsFitInMode c.mode c.room done
   pub flag : c.replaced ≡ (is_html_mode c.mode && any_reported done)
-  pub stops : StopsInMode c.mode new c.rest c.last c.room done c.result
+  pub stops : StopsInMode c.mode new rest c.last c.room done c.result
   pub units : c.read ≡ length (units_of_text units_of (step_chars done))
-  pub text : KeepsText old new c.src c.rest c.last c.result c.wrote
+  pub text : KeepsText old new c.src rest c.last c.result c.wrote
 
 -- the same, of what a call has one by one
 abbrev pub EncoderCallInMode : (ℕ → List ℕ) → EncodeErrorMode → RawEncoderState → RawEncoderState
     → List ℕ → List ℕ → Bool → ℕ → EncoderResult → ℕ → List ℕ → Bool → Type 0
 EncoderCallInMode units_of mode old new src rest last room result read wrote replaced =
-    IsCallInMode units_of old new (record {
-      mode = mode;
+    IsCallInMode units_of old new rest (record {
       src = src;
-      rest = rest;
       last = last;
+      mode = mode;
       room = room;
       result = result;
       read = read;

@@ -85,10 +85,10 @@ may_keep_none b e rule_is mode_is is_mappable =
     (maps_all b e (is_every _ (sym mode_is ∙ is_mappable)))
 
 -- such a call reports no character
-pub never_reported : {units_of : ℕ → List ℕ} {old new : RawEncoderState} {c : CallInMode}
-    → IsCallInMode units_of old new c → {kept : ℕ} → c.mode ≡ Html kept
+pub never_reported : {units_of : ℕ → List ℕ} {old new : RawEncoderState} {rest : List ℕ} {c : CallInMode}
+    → IsCallInMode units_of old new rest c → {kept : ℕ} → c.mode ≡ Html kept
     → (k : ℕ) → c.result ≡ Unmappable k → ⊥
-never_reported {new = new} {c} call is_html k is_report =
+never_reported {new = new} {c = c} call is_html k is_report =
     rw (is_html, is_report) at call.stops
 
 -- An encoding writes by the rule of its facts.
@@ -151,8 +151,8 @@ ends_in_ascii mode new rest last room done (Unmappable k) s q l = cc
 
 -- A call of the raw encoder is one of the encoder.
 module _ {units_of : ℕ → List ℕ} (barred : List ℕ) (encoding : Encoding) {old new : RawEncoderState}
-    (keeps : old.rule ≡ output_rule barred encoding) {c : CallInMode}
-    (call : IsCallInMode units_of old new c) where
+    (keeps : old.rule ≡ output_rule barred encoding) {rest : List ℕ} {c : CallInMode}
+    (call : IsCallInMode units_of old new rest c) where
   abbrev with_set : CharacterSet → EncoderState
   with_set set = record { encoding = encoding; barred = barred; set = set }
 
@@ -163,30 +163,29 @@ module _ {units_of : ℕ → List ℕ} (barred : List ℕ) (encoding : Encoding)
       ap with_rule rule_is
 
   pub encodes_by : {mode : EncodeErrorMode} → c.mode ≡ mode
-      → EncodesChunk units_of mode (with_set old.set) (with_set new.set) c.src c.last c.room
-      c.result c.read c.wrote c.replaced
+      → EncodesChunk units_of (with_set old.set) (with_set new.set) (record c { mode = mode })
   encodes_by is_mode = rw (sym is_mode) (record {
     encoding = refl;
     barred = refl;
-    rest = c.rest;
+    rest = rest;
     call =
         subst (λ (state : RawEncoderState). IsCallInMode units_of state
-        (raw_state (with_set new.set)) c) (same old keeps)
-        (subst (λ (state : RawEncoderState). IsCallInMode units_of old state c)
+        (raw_state (with_set new.set)) rest c) (same old keeps)
+        (subst (λ (state : RawEncoderState). IsCallInMode units_of old state rest c)
         (same new (call.rule ∙ keeps)) call);
     ended =
         λ at_end is_last. ap with_set
-        (ends_in_ascii c.mode new c.rest c.last c.room call.done c.result call.stops at_end
+        (ends_in_ascii c.mode new rest c.last c.room call.done c.result call.stops at_end
         is_last);
   })
 
 -- a call whose bytes are at the end of another list than the one that it wrote into
-pub in_tail : {units_of : ℕ → List ℕ} {old new : RawEncoderState} {c : CallInMode}
-    {size : ℕ} {tail : List ℕ} → c.room ≡ size → c.wrote ≡ tail → IsCallInMode units_of old new c
-    → IsCallInMode units_of old new (record c { room = size; wrote = tail })
-in_tail {units_of} {old} {new} {c} {tail = tail} room_is wrote_is call =
-    subst (λ n. IsCallInMode units_of old new (record c { room = n; wrote = tail })) room_is
-    (subst (λ bytes. IsCallInMode units_of old new (record c { wrote = bytes })) wrote_is call)
+pub in_tail : {units_of : ℕ → List ℕ} {old new : RawEncoderState} {rest : List ℕ} {c : CallInMode}
+    {size : ℕ} {tail : List ℕ} → c.room ≡ size → c.wrote ≡ tail → IsCallInMode units_of old new rest c
+    → IsCallInMode units_of old new rest (record c { room = size; wrote = tail })
+in_tail {units_of} {old} {new} {rest} {c} {tail = tail} room_is wrote_is call =
+    subst (λ n. IsCallInMode units_of old new rest (record c { room = n; wrote = tail })) room_is
+    (subst (λ bytes. IsCallInMode units_of old new rest (record c { wrote = bytes })) wrote_is call)
 
 -- The rest of a list after its front, if it was cut after the bytes written there.
 pub tail_of : (front slice post junk : List ℕ) {final : List ℕ} {len : ℕ} (written n : ℕ)

@@ -18,37 +18,25 @@ use Rattle.enc_encode.specs.Encoders.{encoder_rule, encoder_lengths}
 use Rattle.enc_encode.specs.Variant.{variant_encoder_state}
 use Rattle.enc_encode.proofs.EncoderLaws.{enough_of}
 use Rattle.enc_stream.proofs.EncoderLemmas.{rule_of_facts}
-use Rattle.enc_encoder.specs.ErrorMode.{Fatal}
+use Rattle.enc_encoder.specs.ErrorMode.{Fatal, CallInMode}
 use Rattle.enc_encoder.proofs.NeedInModeLemmas.{reporting_meets_need, reads_all}
 use Rattle.enc_stream.specs.Encodings.{rule_or_utf_8}
-use Rattle.enc_stream.specs.Encoder.{EncoderState, raw_state, room_kept_for_references, EncodesChunk, EncodesInto}
+use Rattle.enc_stream.specs.Encoder.{EncoderState, raw_state, room_kept_for_references, EncodesChunk}
 use Rattle.enc_stream.specs.Need.{EncodesByNeed, IsEnoughForEncoding, IsEnoughIfMappable}
 
 -- a call that reports unmappable characters meets its need
 
-pub by_need : {units_of : ℕ → List ℕ} {wrote : List ℕ} {written : ℕ} → length wrote ≡ written
-    → {old new : EncoderState} {src : List ℕ} {last : Bool} {room : ℕ} {result : EncoderResult}
-    {read : ℕ} {replaced : Bool}
-    → EncodesChunk units_of Fatal old new src last room result read wrote replaced
-    → EncodesByNeed units_of old new src last room result read written
-by_need {units_of} {wrote} count {old} {new} {src} {last} {room} {result} {read} {replaced}
-    encodes =
+pub by_need : {units_of : ℕ → List ℕ} {c : CallInMode} {written : ℕ} → length c.wrote ≡ written
+    → {old new : EncoderState} → c.mode ≡ Fatal → EncodesChunk units_of old new c
+    → EncodesByNeed units_of old new c.src c.last c.room c.result c.read written
+by_need count is_fatal encodes =
     rw (← count) (record {
       front = step_chars encodes.call.done;
       rest = encodes.rest;
       parts = encodes.call.reads;
       units = encodes.call.units;
-      meets =
-          reporting_meets_need encodes.call refl;
+      meets = reporting_meets_need encodes.call is_fatal;
     })
-
-pub into_by_need : {units_of : ℕ → List ℕ} {after : List ℕ} {written : ℕ} → written ≤ length after
-    → {old new : EncoderState} {src : List ℕ} {last : Bool} {before : List ℕ}
-    {result : EncoderResult} {read : ℕ} {replaced : Bool}
-    → EncodesInto units_of Fatal old new src last before after result read written replaced
-    → EncodesByNeed units_of old new src last (length before) result read written
-into_by_need {after = after} {written} fits made =
-    by_need (omega (arith, fits, length-take written after)) made.encodes
 
 -- the length that a query answers is enough for its calls
 
@@ -91,8 +79,8 @@ module _ (units_of : ℕ → List ℕ) (v : EncoderState) (n : ℕ) where
   enough_if_mappable length h None e = tt
   enough_if_mappable None h (Some q) e = cc
   enough_if_mappable (Some a) h (Some q) e =
-      λ src wrote last new room read result replaced units mappable l made.
+      λ new c is_html units mappable fits made.
       let sum = plus_is (Some a) (room_kept_for_references v.barred v.encoding) q (sym e) in
       let same : sum.0 ≡ a = cc in
-      reads_all made.call (room_kept_for_references v.barred v.encoding) refl mappable
-      (omega (arith, h src last units, sum.1.1, same, l))
+      reads_all made.call (room_kept_for_references v.barred v.encoding) is_html mappable
+      (omega (arith, h c.src c.last units, sum.1.1, same, fits))

@@ -96,8 +96,16 @@ pub one_more_round : {e : Encoding} {text rest : List ℕ} (unread before after 
     → checked_add answer (length before) ≢ None
     → {room : ℕ} → HasRoomFor answer room → 14 ≤ room
     → (result : CoderResult) → ¬ (result ≡ InputEmpty) → {read : ℕ} {replaced : Bool}
-    → EncodesChunk encode_utf8 (html_mode old) old new (chars unread) true room
-    (encoder_result_of result) read (drop (length before) after) replaced
+    → EncodesChunk encode_utf8 old new (record {
+      src = chars unread;
+      last = true;
+      mode = html_mode old;
+      room = room;
+      result = encoder_result_of result;
+      read = read;
+      wrote = drop (length before) after;
+      replaced = replaced;
+    })
     → take (length before) after ≡ before → rest ≡ drop read unread
     → ExtendsFullRounds e text new rest after
 one_more_round unread before after extends answer_is fits enough least InputEmpty goes_on encodes
@@ -131,8 +139,8 @@ none_after InputEmpty = refl
 none_after OutputFull = refl
 
 -- One more call, whose bytes follow those already written.
-module _ (old new : EncoderState) {c : CallInMode}
-    (call : IsCallInMode encode_utf8 (raw_state old) (raw_state new) c) {e : Encoding}
+module _ (old new : EncoderState) {rest : List ℕ} {c : CallInMode}
+    (call : IsCallInMode encode_utf8 (raw_state old) (raw_state new) rest c) {e : Encoding}
     {text before : List ℕ} (written_so_far : HasWritten e text c.src old before) where
   rule_is : (raw_state old).rule ≡ output_rule [] e
   rule_is =
@@ -142,16 +150,16 @@ module _ (old new : EncoderState) {c : CallInMode}
 
   pub written_on : new.encoding ≡ old.encoding → new.barred ≡ old.barred → (stop : CoderResult)
       → c.result ≡ encoder_result_of stop → {after : List ℕ} → c.wrote ≡ drop (length before) after
-      → take (length before) after ≡ before → {unread : List ℕ} → unread ≡ c.rest
+      → take (length before) after ≡ before → {unread : List ℕ} → unread ≡ rest
       → HasWritten e text unread new after
   written_on encoding barred stop result_is {after} follows keeps is_rest = record {
     encoding = encoding ∙ written_so_far.encoding;
     barred = barred ∙ written_so_far.barred;
     whole =
-        let later = bytes_by (raw_state new).rule new.set c.rest in
+        let later = bytes_by (raw_state new).rule new.set rest in
         let text_kept : bytes_by (raw_state old).rule old.set c.src ≡ c.wrote ++ later =
         ap (bytes_by (raw_state old).rule old.set) (sym (append-nil c.src))
-        ∙ call.text [] (λ _. refl) ∙ rw (result_is, none_after stop, append-nil c.rest) refl in
+        ∙ call.text [] (λ _. refl) ∙ rw (result_is, none_after stop, append-nil rest) refl in
         written_so_far.whole ∙ ap (λ x. before ++ x) text_kept
         ∙ sym (append_assoc before c.wrote later)
         ∙ ap (λ x. x ++ later)
@@ -162,7 +170,7 @@ module _ (old new : EncoderState) {c : CallInMode}
 
   pub flagged_on : c.mode ≡ html_mode old → (had : Bool)
       → any_unmappable (output_rule [] e) text
-      ≡ (had || any_unmappable (output_rule [] e) c.src) → {unread : List ℕ} → unread ≡ c.rest
+      ≡ (had || any_unmappable (output_rule [] e) c.src) → {unread : List ℕ} → unread ≡ rest
       → any_unmappable (output_rule [] e) text
       ≡ ((had || c.replaced) || any_unmappable (output_rule [] e) unread)
   flagged_on is_html had flag_so_far is_rest =
@@ -170,13 +178,13 @@ module _ (old new : EncoderState) {c : CallInMode}
       let replaced : c.replaced ≡ any_in (step_chars call.done) =
       replaced_is call is_html ∙ ap (λ rule. any_unmappable rule (step_chars call.done)) rule_is in
       flag_so_far ∙ ap (λ x. had || any_in x) call.reads
-      ∙ ap (λ b. had || b) (any_unmappable-append (output_rule [] e) (step_chars call.done) c.rest)
-      ∙ rw (replaced, is_rest) (sym (or_assoc had (any_in (step_chars call.done)) (any_in c.rest)))
+      ∙ ap (λ b. had || b) (any_unmappable-append (output_rule [] e) (step_chars call.done) rest)
+      ∙ rw (replaced, is_rest) (sym (or_assoc had (any_in (step_chars call.done)) (any_in rest)))
 
   -- the last one reads all
-  pub none_unread : c.mode ≡ html_mode old → c.result ≡ raw.InputEmpty → [] ≡ c.rest
+  pub none_unread : c.mode ≡ html_mode old → c.result ≡ raw.InputEmpty → [] ≡ rest
   none_unread is_html at_end =
-      rest_is_read (raw_state new) c.rest c.last (rw (is_html, at_end) at call.stops)
+      rest_is_read (raw_state new) rest c.last (rw (is_html, at_end) at call.stops)
 
 -- the first length query overflows usize
 pub too_long_at_once : (e : Encoding) (text : List ℕ)

@@ -15,9 +15,8 @@ use Rattle.enc_units.proofs.Utf8CharsLemmas.{their_units}
 use Rattle.enc_units.proofs.CharsLemmas.{AreUnits, utf16_length, lossy_after}
 use Rattle.enc_decoder.proofs.SequenceLemmas.{units_of_text-append}
 use Rattle.enc_encoder.specs.EncoderRule.{RawEncoderState}
-use Rattle.enc_units.specs.declared.encoder_result.EncoderResult.{EncoderResult}
 use Rattle.enc_encoder.specs.Steps.{step_chars}
-use Rattle.enc_encoder.specs.ErrorMode.{EncodeErrorMode, is_nothing_left}
+use Rattle.enc_encoder.specs.ErrorMode.{CallInMode, is_nothing_left}
 use Rattle.enc_units.specs.Results.{encoder_result_of}
 use Rattle.enc_stream.specs.Encoder.{EncoderState, EncodesChunk, raw_state, html_mode}
 
@@ -67,63 +66,41 @@ none_left v [] last h = refl
 none_left v (c ∷ rest) last h = cc
 
 pub all_read : (result : CoderResult) → result ≡ InputEmpty
-    → {old new : EncoderState} {text : List ℕ} {last : Bool} {room read : ℕ} {wrote : List ℕ}
-    {replaced : Bool}
-    (encodes : EncodesChunk encode_utf8 (html_mode old) old new text last room
-    (encoder_result_of result) read wrote replaced)
+    → {old new : EncoderState} {c : CallInMode} → c.mode ≡ html_mode old
+    → c.result ≡ encoder_result_of result → (encodes : EncodesChunk encode_utf8 old new c)
     → [] ≡ encodes.rest
-all_read InputEmpty at_end {new = new} {last = last} encodes =
-    none_left (raw_state new) encodes.rest last encodes.call.stops
-all_read OutputFull at_end encodes = cc
+all_read InputEmpty at_end {new = new} {c} is_html is_empty encodes =
+    none_left (raw_state new) encodes.rest c.last (rw (is_html, is_empty) at encodes.call.stops)
+all_read OutputFull at_end is_html is_full encodes = cc
 
--- A call reads UTF-8 up to a boundary between two characters.
-pub ends_between : {text : List ℕ} → IsUtf8 text
-    → {mode : EncodeErrorMode} {old new : EncoderState} {last : Bool} {room : ℕ}
-    {result : EncoderResult} {read : ℕ}
-    {wrote : List ℕ} {replaced : Bool}
-    → EncodesChunk encode_utf8 mode old new (chars text) last room result read wrote replaced
-    → IsCharBoundary text read
-ends_between {text} is_utf_8 {read} encodes =
-    boundary text (step_chars encodes.call.done) encodes.rest read is_utf_8 encodes.call.reads
-    encodes.call.units
+-- A call reads UTF-8 up to a boundary between two characters. Those of the rest are unread.
+module _ {text : List ℕ} (is_utf_8 : IsUtf8 text) {old new : EncoderState} {c : CallInMode}
+    (src_is : c.src ≡ chars text) (encodes : EncodesChunk encode_utf8 old new c) where
+  pub ends_between : IsCharBoundary text c.read
+  ends_between =
+      boundary text (step_chars encodes.call.done) encodes.rest c.read is_utf_8
+      (sym src_is ∙ encodes.call.reads) encodes.call.units
 
--- A call reads no more UTF-16 than there is.
-pub ends_within : (text : List ℕ) → AreUnits text
-    → {mode : EncodeErrorMode} {old new : EncoderState} {last : Bool} {room : ℕ}
-    {result : EncoderResult} {read : ℕ}
-    {wrote : List ℕ} {replaced : Bool}
-    → EncodesChunk encode_utf16 mode old new (utf16_lossy_chars text) last room result read wrote
-    replaced
-    → read ≤ length text
-ends_within text are_units encodes =
-    let all = utf16_length text are_units
-    ∙ ap (λ t. length (units_of_text encode_utf16 t)) encodes.call.reads
-    ∙ ap length (units_of_text-append encode_utf16 (step_chars encodes.call.done) encodes.rest) in
-    let parts = length-append (units_of_text encode_utf16 (step_chars encodes.call.done))
-    (units_of_text encode_utf16 encodes.rest) in
-    let units_read = encodes.call.units in
-    omega (arith, all, parts, units_read)
+  pub chars_unread : chars (drop c.read text) ≡ encodes.rest
+  chars_unread =
+      chars_after text (step_chars encodes.call.done) encodes.rest c.read is_utf_8
+      (sym src_is ∙ encodes.call.reads) encodes.call.units
 
--- The characters of the unread rest.
+-- A call reads no more UTF-16 than there is. The characters of the rest are unread.
+module _ (text : List ℕ) (are_units : AreUnits text) {old new : EncoderState} {c : CallInMode}
+    (src_is : c.src ≡ utf16_lossy_chars text) (encodes : EncodesChunk encode_utf16 old new c) where
+  pub ends_within : c.read ≤ length text
+  ends_within =
+      let all = utf16_length text are_units
+      ∙ ap (λ t. length (units_of_text encode_utf16 t)) (sym src_is ∙ encodes.call.reads)
+      ∙ ap length (units_of_text-append encode_utf16 (step_chars encodes.call.done) encodes.rest) in
+      let parts = length-append (units_of_text encode_utf16 (step_chars encodes.call.done))
+      (units_of_text encode_utf16 encodes.rest) in
+      let units_read = encodes.call.units in
+      omega (arith, all, parts, units_read)
 
-pub chars_unread : {text : List ℕ} → IsUtf8 text
-    → {mode : EncodeErrorMode} {old new : EncoderState} {last : Bool} {room : ℕ}
-    {result : EncoderResult} {read : ℕ}
-    {wrote : List ℕ} {replaced : Bool}
-    (encodes : EncodesChunk encode_utf8 mode old new (chars text) last room result read wrote
-    replaced)
-    → chars (drop read text) ≡ encodes.rest
-chars_unread {text} is_utf_8 {read} encodes =
-    chars_after text (step_chars encodes.call.done) encodes.rest read is_utf_8 encodes.call.reads
-    encodes.call.units
-
-pub lossy_unread : (text : List ℕ) → AreUnits text
-    → {mode : EncodeErrorMode} {old new : EncoderState} {last : Bool} {room : ℕ}
-    {result : EncoderResult} {read : ℕ}
-    {wrote : List ℕ} {replaced : Bool}
-    (encodes : EncodesChunk encode_utf16 mode old new (utf16_lossy_chars text) last room result read
-    wrote replaced)
-    → utf16_lossy_chars (drop read text) ≡ encodes.rest
-lossy_unread text are_units encodes =
-    ap (λ n. utf16_lossy_chars (drop n text)) encodes.call.units
-    ∙ lossy_after text are_units (step_chars encodes.call.done) encodes.rest encodes.call.reads
+  pub lossy_unread : utf16_lossy_chars (drop c.read text) ≡ encodes.rest
+  lossy_unread =
+      ap (λ n. utf16_lossy_chars (drop n text)) encodes.call.units
+      ∙ lossy_after text are_units (step_chars encodes.call.done) encodes.rest
+      (sym src_is ∙ encodes.call.reads)

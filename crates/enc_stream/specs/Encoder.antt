@@ -8,7 +8,7 @@ use Rattle.enc_units.specs.declared.encoder_result.EncoderResult.TheVariants.{In
 use Rattle.enc_encoder.specs.EncoderRule.{RawEncoderState}
 use Rattle.enc_encoder.specs.Steps.{steps_from_state}
 use Rattle.enc_encoder.specs.Text.{bytes_of_text, with_references}
-use Rattle.enc_encoder.specs.ErrorMode.{EncodeErrorMode, Html, EncoderCallInMode}
+use Rattle.enc_encoder.specs.ErrorMode.{EncodeErrorMode, Html, CallInMode, IsCallInMode}
 use Rattle.enc_names.specs.declared.encoding_id.EncodingId.{EncodingId}
 use Rattle.enc_names.specs.declared.encoding_id.EncodingId.TheVariants.{Utf8}
 use Rattle.enc_stream.specs.declared.encoding.Encoding.{Encoding}
@@ -67,28 +67,16 @@ steps_left v last text = length (steps_from_state (raw_state v) last text)
 abbrev pub LeavesFewerSteps : EncoderState → EncoderState → Bool → List ℕ → List ℕ → Type 0
 LeavesFewerSteps old new last text unread = steps_left new last unread < steps_left old last text
 
--- A call of an encoder with the characters `src`, which nothing follows if `last`. It does the
+-- A call of an encoder. It does the
 -- steps that come first, as many as fit, and writes a reference to an unmappable character, or
 -- stops there and reports it. Whatever follows, the bytes of the whole text are those that it
 -- wrote, a reference to the character reported, and the bytes of the text left.
-pub record EncodesChunk (units_of : ℕ → List ℕ) (mode : EncodeErrorMode) (old new : EncoderState)
-    (src : List ℕ) (last : Bool) (room : ℕ) (result : EncoderResult) (read : ℕ) (wrote : List ℕ)
-    (replaced : Bool) : Type 0 where
+pub record EncodesChunk (units_of : ℕ → List ℕ) (old new : EncoderState) (c : CallInMode)
+    : Type 0 where
   pub encoding : new.encoding ≡ old.encoding
   pub barred : new.barred ≡ old.barred
   pub rest : List ℕ
-  pub call : EncoderCallInMode units_of mode (raw_state old) (raw_state new) src rest last room
-      result read wrote
-      replaced
+  pub call : IsCallInMode units_of (raw_state old) (raw_state new) rest c
   -- After the end of a text an encoder is at the start of another.
-  pub ended : result ≡ InputEmpty → last ≡ true
+  pub ended : c.result ≡ InputEmpty → c.last ≡ true
       → new ≡ record { encoding = old.encoding; barred = old.barred; set = Ascii }
-
--- the same, for a call that writes to the start of a slice and leaves its other bytes unchanged
-pub record EncodesInto (units_of : ℕ → List ℕ) (mode : EncodeErrorMode) (old new : EncoderState)
-    (src : List ℕ) (last : Bool) (before after : List ℕ) (result : EncoderResult) (read written : ℕ)
-    (replaced : Bool) : Type 0 where
-  pub within : written ≤ length before
-  pub rest : drop written after ≡ drop written before
-  pub encodes : EncodesChunk units_of mode old new src last (length before) result read
-      (take written after) replaced

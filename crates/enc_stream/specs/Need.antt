@@ -5,6 +5,7 @@ use Rattle.enc_units.specs.declared.encoder_result.EncoderResult.{EncoderResult}
 use Rattle.enc_units.specs.declared.encoder_result.EncoderResult.TheVariants.{InputEmpty}
 use Rattle.enc_encoder.specs.Need.{encode_need, MeetsEncodeNeed}
 use Rattle.enc_encoder.specs.Unmappable.{any_unmappable}
+use Rattle.enc_encoder.specs.ErrorMode.{CallInMode}
 use Rattle.enc_stream.specs.Encodings.{output_rule}
 use Rattle.enc_stream.specs.Encoder.{EncoderState, raw_state, html_mode, EncodesChunk}
 
@@ -28,9 +29,7 @@ IsEnoughForEncoding units_of v n room = (src : List ℕ) (last : Bool)
 -- the call reads all.
 abbrev pub IsEnoughIfMappable : (ℕ → List ℕ) → EncoderState → ℕ → ℕ → Type 0
 IsEnoughIfMappable units_of v n enough =
-    (src wrote : List ℕ) (last : Bool) (new : EncoderState) (room read : ℕ) (result : EncoderResult)
-    (replaced : Bool)
-    → length (units_of_text units_of src) ≡ n
-    → any_unmappable (output_rule v.barred v.encoding) src ≡ false → enough ≤ room
-    → EncodesChunk units_of (html_mode v) v new src last room result read wrote replaced
-    → result ≡ InputEmpty
+    (new : EncoderState) (c : CallInMode) → c.mode ≡ html_mode v
+    → length (units_of_text units_of c.src) ≡ n
+    → any_unmappable (output_rule v.barred v.encoding) c.src ≡ false → enough ≤ c.room
+    → EncodesChunk units_of v new c → c.result ≡ InputEmpty

@@ -101,8 +101,16 @@ pub record IsFullRound (state : EncoderState) (unread : List ℕ) (written : ℕ
   pub length_fits : checked_add (remaining_length state (length unread)) written ≢ None
   pub enough : HasRoomFor (remaining_length state (length unread)) round.room
   pub least : 14 ≤ round.room
-  pub call : EncodesChunk encode_utf8 (html_mode state) state round.after (chars unread) true
-      round.room encoder_result.OutputFull round.read round.wrote round.replaced
+  pub call : EncodesChunk encode_utf8 state round.after (record {
+    src = chars unread;
+    last = true;
+    mode = html_mode state;
+    room = round.room;
+    result = encoder_result.OutputFull;
+    read = round.read;
+    wrote = round.wrote;
+    replaced = round.replaced;
+  })
 
 -- These calls are made in turn, each full: the first in this state, with the unread text and after
 -- the bytes written that are named first. The last leaves those that are named last.

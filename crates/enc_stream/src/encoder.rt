@@ -13,7 +13,7 @@ ghost use Rattle.enc_encoder.specs.ErrorMode.{Fatal};
 ghost use Rattle.enc_units.specs.Results.{encoder_result_of};
 ghost use Rattle.enc_encoder.specs.declared.error_mode.ErrorMode.TheVariants.{Html, HtmlOfMappable};
 ghost use Rattle.enc_encoder.specs.Need.{AreEnoughForEncoder};
-ghost use Rattle.enc_stream.specs.Encoder.{EncodesChunk, EncodesInto, fresh_encoder};
+ghost use Rattle.enc_stream.specs.Encoder.{EncodesChunk, fresh_encoder};
 ghost use Rattle.enc_stream.specs.Encoder.{maps_every_character as wanted_every, raw_state};
 ghost use Rattle.enc_stream.specs.Encoder.{room_kept_for_references, html_mode, LeavesFewerSteps};
 ghost use Rattle.enc_stream.specs.Lengths.{output_lengths};
@@ -197,9 +197,16 @@ impl Encoder {
         dst: &mut [u8],
         last: bool,
     ) -> (CoderResult, usize, usize, bool)
-        ensures call { EncodesInto encode_utf8 (html_mode self.old) self.old self.new
-            (chars src.now) last dst.old dst.new
-            (encoder_result_of result.0) result.1 result.2 result.3 }
+        ensures call { EncodesChunk encode_utf8 self.old self.new (record {
+          src = chars src.now;
+          last = last;
+          mode = html_mode self.old;
+          room = length dst.old;
+          result = encoder_result_of result.0;
+          read = result.1;
+          wrote = take result.2 dst.new;
+          replaced = result.3;
+        }) }
         ensures read { result.1 ≤ length src.now }
         ensures boundary { IsCharBoundary src.now result.1 }
         ensures written { result.2 ≤ length dst.old }
@@ -234,9 +241,16 @@ impl Encoder {
         dst: &mut [u8],
         last: bool,
     ) -> (CoderResult, usize, usize, bool)
-        ensures call { EncodesInto encode_utf16 (html_mode self.old) self.old self.new
-            (utf16_lossy_chars src.now) last dst.old dst.new
-            (encoder_result_of result.0) result.1 result.2 result.3 }
+        ensures call { EncodesChunk encode_utf16 self.old self.new (record {
+          src = utf16_lossy_chars src.now;
+          last = last;
+          mode = html_mode self.old;
+          room = length dst.old;
+          result = encoder_result_of result.0;
+          read = result.1;
+          wrote = take result.2 dst.new;
+          replaced = result.3;
+        }) }
         ensures read { result.1 ≤ length src.now }
         ensures written { result.2 ≤ length dst.old }
         ensures rest { drop result.2 dst.new ≡ drop result.2 dst.old }
@@ -271,10 +285,16 @@ impl Encoder {
         dst: &mut Vec<u8>,
         last: bool,
     ) -> (CoderResult, usize, bool)
-        ensures call { EncodesChunk encode_utf8 (html_mode self.old) self.old self.new
-            (chars src.now) last (vec_capacity dst.old - vec_len dst.old)
-            (encoder_result_of result.0) result.1 (drop (length dst.old.items) dst.new.items)
-            result.2 }
+        ensures call { EncodesChunk encode_utf8 self.old self.new (record {
+          src = chars src.now;
+          last = last;
+          mode = html_mode self.old;
+          room = vec_capacity dst.old - vec_len dst.old;
+          result = encoder_result_of result.0;
+          read = result.1;
+          wrote = drop (length dst.old.items) dst.new.items;
+          replaced = result.2;
+        }) }
         ensures read { result.1 ≤ length src.now }
         ensures boundary { IsCharBoundary src.now result.1 }
         ensures appended { take (length dst.old.items) dst.new.items ≡ dst.old.items }
@@ -307,12 +327,18 @@ impl Encoder {
         dst: &mut Vec<u8>,
         last: bool,
     ) -> (EncoderResult, usize)
-        ensures call { EncodesChunk encode_utf8 Fatal self.old self.new
-            (chars src.now) last (vec_capacity dst.old - vec_len dst.old)
-            result.0 result.1 (drop (length dst.old.items) dst.new.items) false }
-        ensures need { EncodesByNeed encode_utf8 self.old self.new
-            (chars src.now) last (vec_capacity dst.old - vec_len dst.old)
-            result.0 result.1 (length (drop (length dst.old.items) dst.new.items)) }
+        ensures call { EncodesChunk encode_utf8 self.old self.new (record {
+          src = chars src.now;
+          last = last;
+          mode = Fatal;
+          room = vec_capacity dst.old - vec_len dst.old;
+          result = result.0;
+          read = result.1;
+          wrote = drop (length dst.old.items) dst.new.items;
+          replaced = false;
+        }) }
+        ensures need { EncodesByNeed encode_utf8 self.old self.new (chars src.now) last
+            (vec_capacity dst.old - vec_len dst.old) result.0 result.1 (length (drop (length dst.old.items) dst.new.items)) }
         ensures read { result.1 ≤ length src.now }
         ensures boundary { IsCharBoundary src.now result.1 }
         ensures appended { take (length dst.old.items) dst.new.items ≡ dst.old.items }
@@ -357,8 +383,16 @@ impl Encoder {
         dst: &mut [u8],
         last: bool,
     ) -> (EncoderResult, usize, usize)
-        ensures call { EncodesInto encode_utf8 Fatal self.old self.new (chars src.now) last
-            dst.old dst.new result.0 result.1 result.2 false }
+        ensures call { EncodesChunk encode_utf8 self.old self.new (record {
+          src = chars src.now;
+          last = last;
+          mode = Fatal;
+          room = length dst.old;
+          result = result.0;
+          read = result.1;
+          wrote = take result.2 dst.new;
+          replaced = false;
+        }) }
         ensures need { EncodesByNeed encode_utf8 self.old self.new (chars src.now) last
             (length dst.old) result.0 result.1 result.2 }
         ensures read { result.1 ≤ length src.now }
@@ -385,10 +419,18 @@ impl Encoder {
         dst: &mut [u8],
         last: bool,
     ) -> (EncoderResult, usize, usize)
-        ensures call { EncodesInto encode_utf16 Fatal self.old self.new
-            (utf16_lossy_chars src.now) last dst.old dst.new result.0 result.1 result.2 false }
-        ensures need { EncodesByNeed encode_utf16 self.old self.new
-            (utf16_lossy_chars src.now) last (length dst.old) result.0 result.1 result.2 }
+        ensures call { EncodesChunk encode_utf16 self.old self.new (record {
+          src = utf16_lossy_chars src.now;
+          last = last;
+          mode = Fatal;
+          room = length dst.old;
+          result = result.0;
+          read = result.1;
+          wrote = take result.2 dst.new;
+          replaced = false;
+        }) }
+        ensures need { EncodesByNeed encode_utf16 self.old self.new (utf16_lossy_chars src.now) last
+            (length dst.old) result.0 result.1 result.2 }
         ensures read { result.1 ≤ length src.now }
         ensures written { result.2 ≤ length dst.old }
         ensures rest { drop result.2 dst.new ≡ drop result.2 dst.old }

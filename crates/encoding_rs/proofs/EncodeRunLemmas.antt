@@ -11,7 +11,7 @@ use Rattle.enc_units.specs.declared.encoder_result.EncoderResult.{EncoderResult}
 use Rattle.enc_encoder.specs.EncoderRule.{EncoderRule}
 use Rattle.enc_encoder.specs.Steps.{step_chars, any_reported}
 use Rattle.enc_encoder.specs.Text.{escape_at_end, bytes_of_text, with_references, reference_after}
-use Rattle.enc_encoder.specs.ErrorMode.{EncoderCallInMode}
+use Rattle.enc_encoder.specs.ErrorMode.{IsCallInMode}
 use Rattle.enc_encoder.specs.Unmappable.{any_unmappable, reports_of}
 use Rattle.enc_encoder.proofs.LeavesLemmas.{leaves_in_mode}
 use Rattle.enc_encoder.proofs.UnmappableLemmas.{reports_in, any_reported_is, reports_are, any_unmappable-append}
@@ -83,10 +83,17 @@ module _ {b : List ℕ} {e : Encoding} {text : List ℕ} {made : EncodeCall} {ol
   abbrev rest : List ℕ
   rest = advances.call.encodes.rest
 
-  abbrev pub raw : EncoderCallInMode (units_of_call made.utf16)
-      (encode_error_mode made.replace old.encoder) (raw_state old.encoder) (raw_state new.encoder)
-      (take made.offer unread) rest last made.room advances.result advances.call.units
-      advances.call.wrote advances.replaced
+  abbrev pub raw : IsCallInMode (units_of_call made.utf16) (raw_state old.encoder)
+      (raw_state new.encoder) rest (record {
+        src = take made.offer unread;
+        last = last;
+        mode = encode_error_mode made.replace old.encoder;
+        room = made.room;
+        result = advances.result;
+        read = advances.call.units;
+        wrote = advances.call.wrote;
+        replaced = advances.replaced;
+      })
   raw = advances.call.encodes.call
 
   unread_is : unread ≡ step_chars raw.done ++ (rest ++ later)

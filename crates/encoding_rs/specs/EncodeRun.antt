@@ -46,10 +46,16 @@ pub record MakesEncodeCall (call : EncodeCall) (old new : EncoderState)
     (replaced : Bool) : Type 0 where
   pub wrote : List ℕ
   pub units : ℕ
-  pub encodes : EncodesChunk (units_of_call call.utf16) (encode_error_mode call.replace old) old
-      new
-      (take call.offer unread) (nat_le (length unread) call.offer) call.room result units wrote
-      replaced
+  pub encodes : EncodesChunk (units_of_call call.utf16) old new (record {
+    src = take call.offer unread;
+    last = nat_le (length unread) call.offer;
+    mode = encode_error_mode call.replace old;
+    room = call.room;
+    result = result;
+    read = units;
+    wrote = wrote;
+    replaced = replaced;
+  })
   pub chars : read ≡ length (step_chars encodes.call.done)
   pub bytes : after ≡ before ++ (wrote ++ reference_after result)
 

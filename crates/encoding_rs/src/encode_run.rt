@@ -83,9 +83,16 @@ fn call_from_utf8(
     last: bool,
     call: EncodeCall,
 ) -> Result<(EncodeOutcome, Vec<u8>), AllocError>
-    ensures { IfOk result (λ done. EncodesChunk encode_utf8
-        (encode_error_mode call.replace encoder.old) encoder.old encoder.new (chars chunk.now) last
-        call.room done.0.result done.0.read done.1.items done.0.replaced) }
+    ensures { IfOk result (λ done. EncodesChunk encode_utf8 encoder.old encoder.new (record {
+      src = chars chunk.now;
+      last = last;
+      mode = encode_error_mode call.replace encoder.old;
+      room = call.room;
+      result = done.0.result;
+      read = done.0.read;
+      wrote = done.1.items;
+      replaced = done.0.replaced;
+    })) }
 {
     let mut bytes = Vec::with_capacity(alloc, call.room)?;
     if call.replace {
@@ -111,9 +118,16 @@ fn call_from_utf16(
     last: bool,
     call: EncodeCall,
 ) -> Result<(EncodeOutcome, Vec<u8>), AllocError>
-    ensures { IfOk result (λ done. EncodesChunk encode_utf16
-        (encode_error_mode call.replace encoder.old) encoder.old encoder.new (chars chunk.now) last
-        call.room done.0.result done.0.read done.1.items done.0.replaced) }
+    ensures { IfOk result (λ done. EncodesChunk encode_utf16 encoder.old encoder.new (record {
+      src = chars chunk.now;
+      last = last;
+      mode = encode_error_mode call.replace encoder.old;
+      room = call.room;
+      result = done.0.result;
+      read = done.0.read;
+      wrote = done.1.items;
+      replaced = done.0.replaced;
+    })) }
 {
     let units = utf16_of(alloc, chunk)?;
     let mut bytes = vec![in alloc; 0; call.room]?;
@@ -142,9 +156,16 @@ fn call_from(
     last: bool,
     call: EncodeCall,
 ) -> Result<(EncodeOutcome, Vec<u8>), AllocError>
-    ensures { IfOk result (λ done. EncodesChunk (units_of_call call.utf16)
-        (encode_error_mode call.replace encoder.old) encoder.old encoder.new (chars chunk.now) last
-        call.room done.0.result done.0.read done.1.items done.0.replaced) }
+    ensures { IfOk result (λ done. EncodesChunk (units_of_call call.utf16) encoder.old encoder.new (record {
+      src = chars chunk.now;
+      last = last;
+      mode = encode_error_mode call.replace encoder.old;
+      room = call.room;
+      result = done.0.result;
+      read = done.0.read;
+      wrote = done.1.items;
+      replaced = done.0.replaced;
+    })) }
 {
     if call.utf16 {
         return call_from_utf16(alloc, encoder, chunk, last, call);

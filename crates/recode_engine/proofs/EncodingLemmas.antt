@@ -14,6 +14,7 @@ use Rattle.enc_encode.specs.Utf8.{utf_8_bytes}
 use Rattle.enc_encoder.specs.Text.{bytes_after_text, with_references, KeepsText}
 use Rattle.enc_encoder.specs.Steps.{step_chars}
 use Rattle.enc_units.specs.Results.{encoder_result_of}
+use Rattle.enc_encoder.specs.ErrorMode.{CallInMode}
 use Rattle.enc_encoder.specs.Unmappable.{any_unmappable}
 use Rattle.enc_encoder.proofs.LeavesLemmas.{leaves_in_mode}
 use Rattle.enc_encoder.proofs.UnmappableLemmas.{any_reported_is, any_unmappable-append}
@@ -41,28 +42,26 @@ EncodesText-none s last =
     }
 
 -- one call
-pub EncodesText-call : (old : TextToEncode) {new : EncoderState} {last : Bool} {room : ℕ}
-    (result : CoderResult) {read : ℕ} {wrote : List ℕ} {replaced : Bool}
-    (encodes : EncodesChunk encode_utf8 (html_mode old.encoder) old.encoder new old.text last room
-    (encoder_result_of result) read wrote replaced)
-    → EncodesText old (text_to_encode new encodes.rest) last wrote replaced
-EncodesText-call old {new = new} {last = last} result {wrote = wrote} encodes =
+pub EncodesText-call : (old : TextToEncode) {new : EncoderState} (result : CoderResult)
+    {c : CallInMode} → c.mode ≡ html_mode old.encoder → c.result ≡ encoder_result_of result
+    → c.src ≡ old.text → (encodes : EncodesChunk encode_utf8 old.encoder new c)
+    → EncodesText old (text_to_encode new encodes.rest) c.last c.wrote c.replaced
+EncodesText-call old {new = new} result {c} is_html result_is src_is encodes =
     let call = encodes.call in
     record {
       encoding = encodes.encoding;
       barred = encodes.barred;
       front = step_chars call.done;
-      reads = call.reads;
-      residual = by_result result call.text;
-      flag =
-          call.flag ∙ any_reported_is (leaves_in_mode call);
+      reads = sym src_is ∙ call.reads;
+      residual = by_result result (rw (src_is, result_is) at call.text);
+      flag = rw is_html at call.flag ∙ any_reported_is (leaves_in_mode call);
     }
   where
     by_result : (r : CoderResult)
-        → KeepsText (raw_state old.encoder) (raw_state new) old.text encodes.rest last
-        (encoder_result_of r) wrote
-        → (z : List ℕ) → (last ≡ true → z ≡ [])
-        → bytes_to_come old z ≡ wrote ++ bytes_from_state new (encodes.rest ++ z)
+        → KeepsText (raw_state old.encoder) (raw_state new) old.text encodes.rest c.last
+        (encoder_result_of r) c.wrote
+        → (z : List ℕ) → (c.last ≡ true → z ≡ [])
+        → bytes_to_come old z ≡ c.wrote ++ bytes_from_state new (encodes.rest ++ z)
     by_result InputEmpty keeps_text = keeps_text
     by_result OutputFull keeps_text = keeps_text
 

@@ -106,11 +106,11 @@ calls-preserved c =
             written_on c.calls.encoder c.encode_from_utf8_to_vec-stop.new.self encoded.call.call
             written_so_far encoded.call.encoding encoded.call.barred
             c.encode_from_utf8_to_vec-stop.result.0 refl refl encoded.appended
-            (ap chars c.split_at.ensures.back ∙ chars_unread invariant.0 encoded.call);
+            (ap chars c.split_at.ensures.back ∙ chars_unread invariant.0 refl encoded.call);
         flag =
             flagged_on c.calls.encoder c.encode_from_utf8_to_vec-stop.new.self encoded.call.call
             written_so_far refl _ invariant.1.flag
-            (ap chars c.split_at.ensures.back ∙ chars_unread invariant.0 encoded.call);
+            (ap chars c.split_at.ensures.back ∙ chars_unread invariant.0 refl encoded.call);
         front = invariant.1.front
             ++ take c.encode_from_utf8_to_vec-stop.result.1 c.calls.unread.now;
         rest =

@@ -16,28 +16,28 @@ calls-init g c = (
 
 pub returns-in_err-push_all-clause-err : goal.returns-in_err-push_all-clause-err
 returns-in_err-push_all-clause-err g c =
-    let encodes = c.encode_from_utf8-outcome.ensures.call.encodes in
+    let encodes = c.encode_from_utf8-outcome.ensures.call in
     on_err c.from_residual.result _
     (StopsWithin-then c.calls.invariant.1.encoded
     (StopsWithin-part (EncodesText-call (text_to_encode c.calls.encoder (chars c.calls.rest.now)) _
-    encodes) c.in_err-push_all.ensures.err))
+    refl refl refl encodes) c.in_err-push_all.ensures.err))
 
 pub returns-then-eq-clause-ok : goal.returns-then-eq-clause-ok
 returns-then-eq-clause-ok g c =
-    let encodes = c.encode_from_utf8-outcome.ensures.call.encodes in
+    let encodes = c.encode_from_utf8-outcome.ensures.call in
     let at_end : c.encode_from_utf8-outcome.result.0 ≡ InputEmpty = search rules in
-    rw (all_read c.encode_from_utf8-outcome.result.0 at_end encodes)
+    rw (all_read c.encode_from_utf8-outcome.result.0 at_end refl refl encodes)
     (HasEncoded-then c.calls.invariant.1.encoded (record {
       wrote = _;
       encoded = EncodesText-call (text_to_encode c.calls.encoder (chars c.calls.rest.now)) _
-          encodes;
+          refl refl refl encodes;
       taken = c.in_ok-push_all.ensures.ok;
     }))
 
 pub calls-preserved : goal.calls-preserved
 calls-preserved g c =
     let invariant = c.calls.invariant in
-    let encodes = c.encode_from_utf8-outcome.ensures.call.encodes in
+    let encodes = c.encode_from_utf8-outcome.ensures.call in
     let unread = ap chars c.split_at.ensures.back
     ∙ chars_after c.calls.rest.now (step_chars encodes.call.done) encodes.rest _ invariant.0
     encodes.call.reads encodes.call.units in (
@@ -46,7 +46,7 @@ calls-preserved g c =
         encoded = rw unread (HasEncoded-then invariant.1.encoded (record {
           wrote = _;
           encoded = EncodesText-call (text_to_encode c.calls.encoder (chars c.calls.rest.now)) _
-              encodes;
+              refl refl refl encodes;
           taken = c.in_ok-push_all.ensures.ok;
         }));
         kept = search rules;

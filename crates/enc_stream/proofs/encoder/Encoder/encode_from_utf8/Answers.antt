@@ -1,4 +1,4 @@
-use Rattle.std.proofs.Common.{◌∙◌, ap}
+use Rattle.std.proofs.Common.{◌∙◌, ap, refl}
 use Rattle.enc_encoder.specs.ErrorMode.{mode_of}
 use Rattle.enc_encoder.proofs.NeedInModeLemmas.{goes_on}
 use Rattle.enc_stream.proofs.EncoderLemmas.{html_mode_is, encodes_by, may_keep_none, never_reported}
@@ -21,28 +21,24 @@ stop-requires c =
 pub returns-clause-call : goal.returns-clause-call
 returns-clause-call c =
     let made = c.encode_in_mode-outcome.ensures in
-    rw (← c.self.view_is, c.stop.ensures) (record {
-      within = made.within;
-      rest = made.rest;
-      encodes = encodes_by _ _ c.self.invariant (rw c.new-chars.ensures at made.call)
-          (ap mode_of (rw (← c.self.view_is) at c.html_mode-mode.ensures) ∙ html_mode_is _);
-    })
+    rw (← c.self.view_is, c.stop.ensures) (encodes_by _ _ c.self.invariant (rw c.new-chars.ensures at made.call)
+    (ap mode_of (rw (← c.self.view_is) at c.html_mode-mode.ensures) ∙ html_mode_is _))
 
 pub returns-clause-boundary : goal.returns-clause-boundary
 returns-clause-boundary c =
-    ends_between c.utf8.src (returns-clause-call c).encodes
+    ends_between c.utf8.src refl (returns-clause-call c)
 
 pub returns-clause-read : goal.returns-clause-read
 returns-clause-read c = (returns-clause-boundary c).0
 
 pub returns-clause-progress : goal.returns-clause-progress
 returns-clause-progress c = λ on room.
-    let encodes = (returns-clause-call c).encodes in
-    rw (chars_unread c.utf8.src encodes)
+    let encodes = (returns-clause-call c) in
+    rw (chars_unread c.utf8.src refl encodes)
     (goes_on encodes.call (lawful_of _ _) (beside_ten room _) (not_ended _ on))
 
 pub returns-clause-progress_if_none_kept : goal.returns-clause-progress_if_none_kept
 returns-clause-progress_if_none_kept c = λ on none_kept room.
-    let encodes = (returns-clause-call c).encodes in
-    rw (chars_unread c.utf8.src encodes)
+    let encodes = (returns-clause-call c) in
+    rw (chars_unread c.utf8.src refl encodes)
     (goes_on encodes.call (lawful_of _ _) (beside_none none_kept room) (not_ended _ on))

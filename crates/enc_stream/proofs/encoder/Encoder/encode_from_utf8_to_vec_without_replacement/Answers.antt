@@ -12,7 +12,7 @@ returns-clause-call c =
     let written : made.result.2 ≤ length made.new.dst = search rules in
     let within : c.len-len.result + made.result.2 ≤ c.resize.new.self.len = search rules in
     let tail = tail_of _ made.new.dst _ _ _ _ front written within c.truncate.ensures.items in
-    let encodes = made.ensures.call.encodes in
+    let encodes = made.ensures.call in
     record {
       encoding = encodes.encoding;
       barred = encodes.barred;
@@ -23,4 +23,4 @@ returns-clause-call c =
     }
 
 pub returns-clause-need : goal.returns-clause-need
-returns-clause-need c = by_need refl (returns-clause-call c)
+returns-clause-need c = by_need refl refl (returns-clause-call c)
