@@ -189,7 +189,6 @@ pub converts : {units_of : ℕ → List ℕ} {least : ℕ} {old new : DecoderSta
     → DetermineTexts units_of → TakesSmallTexts units_of least → PendingAreHeldBytes old
     → has_finished old ≡ false → Decodes units_of old new c
     → AnswersDecode units_of least old new c
-    c.replaced
 converts {units_of} c determine takes are_held going decodes = record {
   decodes = decodes;
   need = meets_need c decodes.call;
