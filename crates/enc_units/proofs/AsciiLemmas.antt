@@ -1,45 +1,18 @@
 -- Lanes of ASCII bytes.
-use Rattle.std.proofs.Common.{◌≡◌, ℕ, zero, suc, ◌+◌, ◌%◌, ◌^◌, ◌<◌, Bool, true, false, cond, eqb, leb, List, [], ◌∷◌}
-use Rattle.std.proofs.Common.{map, length, get_or, replicate, take, drop, refl, ap, ◌∙◌, sym, subst, arith, eqb-true}
-use Rattle.std.proofs.Common.{leb-false, take-add, drop-cons, append_assoc, drop-drop}
+use Rattle.std.proofs.Common.{◌≡◌, ℕ, zero, suc, ◌+◌, ◌<◌, false, leb, List, [], ◌∷◌}
+use Rattle.std.proofs.Common.{length, get_or, take, drop, ap, ◌∙◌, sym, subst, arith}
+use Rattle.std.proofs.Common.{take-add, drop-cons, append_assoc, drop-drop}
 use Rattle.std.proofs.Common.{◌++◌, ◌-◌, ◌≤◌, inl, inr}
 use Rattle.std.proofs.lemmas.Bool.{cases_lt}
 use Rattle.std.proofs.lemmas.Bool.Decides.{nat_tests}
-use Rattle.std.proofs.lemmas.List.{length-take-le, length-map, take_more, take_all, get_or-take, get_or-drop}
+use Rattle.std.proofs.lemmas.List.{length-take-le, take_more, take_all, get_or-take, get_or-drop}
 use Rattle.std.proofs.lemmas.List.Elements.{All-append}
 use Rattle.std.proofs.Math.Seq.{take-append_seam, drop-append_seam, set-append_seam}
 use Rattle.std.proofs.Math.ListN.{set}
-use Rattle.std.proofs.lemmas.Simd.{length-zip2, length-replicate, mask_l-mod, put_chunk_is}
-use lib.Lanes.{zip2, mask_l, top, put_chunk}
+use Rattle.std.proofs.lemmas.Simd.{put_chunk_is}
+use lib.Lanes.{put_chunk}
 use Rattle.enc_units.proofs.LengthLemmas.{lengths}
 use Rattle.enc_units.specs.Validity.{AreAscii}
-
-abbrev at_least : ℕ → ℕ → ℕ
-at_least a b = cond (leb a b) 255 0
-
-none_high : (xs : List ℕ) → mask_l (map (top 7) (zip2 at_least (replicate (length xs) 128) xs)) ≡ 0
-    → AreAscii xs
-none_high [] e k d h = absurd (omega arith)
-none_high (x ∷ xs) e zero d h = go (leb 128 x) refl (omega arith)
-  where
-    go : (t : Bool) → leb 128 x ≡ t → ◌≡◌ {A = ℕ} (cond (top 7 (cond t 255 0)) 1 0) 0 → x < 128
-    go true p q = absurd (omega arith)
-    go false p q = leb-false _ _ p
-none_high (x ∷ xs) e (suc k) d h = none_high xs (omega arith) k d (omega arith)
-
--- the mask of a comparison of n lanes
-pub ascii_of_mask : (n : ℕ) (xs : List ℕ) → n ≤ 64 → length xs ≡ n
-    → eqb (mask_l (map (top 7) (zip2 at_least (replicate n 128) xs)) % 2 ^ 64) 0 ≡ true
-    → AreAscii xs
-ascii_of_mask n xs few long e =
-    none_high xs (ap (λ n. mask_l (map (top 7) (zip2 at_least (replicate n 128) xs))) long
-    ∙ sym (mask_l-mod _ 64
-    (omega (
-      arith,
-      length-map (zip2 at_least (replicate n 128) xs) (top 7),
-      length-zip2 at_least (replicate n 128) xs (length-replicate {A = ℕ} n 128 ∙ sym long),
-      length-replicate {A = ℕ} n 128,
-    ))) ∙ eqb-true _ _ e)
 
 -- n bytes more are ASCII
 pub ascii_more : (i n : ℕ) (xs : List ℕ) → AreAscii (take i xs) → AreAscii (take n (drop i xs))
