@@ -11,7 +11,7 @@ use Rattle.enc_units.specs.Output.{units_of_text}
 use Rattle.enc_units.specs.Surrogates.{lossy_unit_char, IsSurrogatePair, IsFirstUtf16Char}
 use Rattle.std.specs.Option.{unwrap_or}
 use Rattle.std.proofs.lemmas.Bool.Decides.{nat_tests}
-use Rattle.std.proofs.lemmas.List.{drop-drop, get_or-drop}
+use Rattle.std.proofs.lemmas.List.{drop-drop}
 use Rattle.enc_units.proofs.UnitsLemmas.{one_unit, two_units}
 use Rattle.enc_units.proofs.Utf8CharsLemmas.{their_units}
 
@@ -176,9 +176,3 @@ beyond_ascii (u ∷ v ∷ us) c n begins is_beyond_ascii = elim (decide_pair u v
   | inr p ↦ let same = heads (sym (lossy_lone u (v ∷ us) p) ∙ begins.chars) in
       omega (arith, same, high_lone u is_beyond_ascii)
 ]
-
-pub first_unit : (at : ℕ) (us rest : List ℕ) → rest ≡ drop at us → 0x80 ≤ get_or us at 0
-    → 0x80 ≤ get_or rest 0 0
-first_unit at us rest e h =
-    let place : at + 0 ≡ at = omega arith in
-    omega (arith, ap (λ z. get_or z 0 0) e, get_or-drop at us 0 0, ap (λ k. get_or us k 0) place, h)

@@ -1,15 +1,13 @@
 -- Where text is written over other text, all is well-formed once the rest of a character is made
 -- 00.
 use Rattle.std.proofs.Common.{◌≡◌, ℕ, zero, suc, ◌+◌, ◌-◌, ◌/◌, ◌<◌, ◌≤◌, ◌&&◌, Bool, true, false, nat_le, nat_lt}
-use Rattle.std.proofs.Common.{if◌then◌else◌, List, [], ◌∷◌, ◌++◌, length, take, drop, get_or, refl, ap, ◌∙◌, sym, subst}
-use Rattle.std.proofs.Common.{arith, append_assoc, drop-cons, drop-drop, inl, inr}
+use Rattle.std.proofs.Common.{if◌then◌else◌, List, [], ◌∷◌, ◌++◌, length, take, drop, refl, ap, ◌∙◌, sym, subst}
+use Rattle.std.proofs.Common.{arith, drop-drop, inl, inr}
 use Rattle.std.proofs.lemmas.Bool.{and_parts, cases_lt}
 use Rattle.std.proofs.lemmas.Bool.Decides.{nat_tests}
-use Rattle.std.proofs.lemmas.List.{take-append-drop, drop-append-le, length-take-le, take-take, take_more_set, take-set}
-use Rattle.std.proofs.lemmas.List.{drop-set-lt}
+use Rattle.std.proofs.lemmas.List.{take-append-drop, drop-append-le}
 use Rattle.std.proofs.lemmas.Str.{IsUtf8-append, IsUtf8-encode, encode_ascii}
-use Rattle.std.proofs.Math.ListN.{set, length-set}
-use Rattle.std.proofs.Math.Seq.{drop-append-add, drop-append_seam}
+use Rattle.std.proofs.Math.Seq.{drop-append-add}
 use Rattle.std.specs.Char.{encode_utf8}
 use Rattle.std.specs.Str.{IsUtf8, all_scalars, encode_utf8_all}
 use Rattle.enc_units.specs.Output.{AreScalars, units_of_text}
@@ -140,50 +138,3 @@ pub record Cleared (at end : ℕ) (old new : List ℕ) : Type 0 where
   pub front : take at new ≡ take at old
   pub whole : take end new ++ without_continuations (drop end new)
       ≡ take at old ++ without_continuations (drop at old)
-
-pub goes_on : {at end : ℕ} {old new : List ℕ} → Cleared at end old new → end < length new
-    → 0x80 ≤ get_or new end 0 → get_or new end 0 < 0xC0 → Cleared at (end + 1) old (set new end 0)
-goes_on {at} {end} {old} {new} cleared inside from below =
-    let next : suc end ≡ end + 1 = omega arith in
-    let test : is_continuation (get_or new end 0) ≡ true = grind (arith, nat_tests, from, below) in
-    let zeroed = ap without_continuations (drop-cons new end 0 inside) ∙ cond_yes _ _ _ test
-    ∙ ap (λ k. 0 ∷ without_continuations (drop k new)) next in
-    record {
-      from = omega (arith, cleared.from);
-      within = omega (arith, length-set new end 0);
-      len = length-set new end 0 ∙ cleared.len;
-      front = sym (take-take at end (set new end 0) cleared.from)
-          ∙ ap (take at) (take-set new end 0) ∙ take-take at end new cleared.from ∙ cleared.front;
-      whole =
-          ap (λ z. z ++ without_continuations (drop (end + 1) (set new end 0)))
-          (take_more_set new end 0 inside)
-          ∙ ap (λ z. (take end new ++ 0 ∷ []) ++ without_continuations z)
-          (drop-set-lt (end + 1) new end 0 (omega arith))
-          ∙ append_assoc (take end new) (0 ∷ []) (without_continuations (drop (end + 1) new))
-          ∙ ap (λ z. take end new ++ z) (sym zeroed) ∙ cleared.whole;
-    }
-
--- where no byte of a rest is next, it is done
-pub ends : {at end : ℕ} {old new : List ℕ} → Cleared at end old new
-    → without_continuations (drop end new) ≡ drop end new
-    → drop at new ≡ without_continuations (drop at old)
-ends {at} {end} {old} {new} cleared done =
-    let rest = without_continuations (drop at old) in
-    let long = length-take-le at old (omega (arith, cleared.from, cleared.within, cleared.len)) in
-    ap (drop at) (sym (take-append-drop end new) ∙ ap (λ z. take end new ++ z) (sym done)
-    ∙ cleared.whole) ∙ ap (λ k. drop k (take at old ++ rest)) (sym long)
-    ∙ drop-append_seam (take at old) rest
-
-pub low_next : (end : ℕ) (new : List ℕ) → end < length new → get_or new end 0 < 0x80
-    → without_continuations (drop end new) ≡ drop end new
-low_next end new inside low =
-    let test : is_continuation (get_or new end 0) ≡ false = grind (arith, nat_tests, low) in
-    ap without_continuations (drop-cons new end 0 inside) ∙ cond_no _ _ _ test
-    ∙ sym (drop-cons new end 0 inside)
-
-pub high_next : (end : ℕ) (new : List ℕ) → end < length new → 0xC0 ≤ get_or new end 0
-    → without_continuations (drop end new) ≡ drop end new
-high_next end new inside high =
-    let test : is_continuation (get_or new end 0) ≡ false = grind (arith, nat_tests, high) in
-    ap without_continuations (drop-cons new end 0 inside) ∙ cond_no _ _ _ test
-    ∙ sym (drop-cons new end 0 inside)

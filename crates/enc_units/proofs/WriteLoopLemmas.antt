@@ -4,11 +4,9 @@ use Rattle.std.proofs.Common.{drop-drop}
 use Rattle.std.proofs.lemmas.List.{length-take-le, take_all}
 use lib.Lanes.{put_chunk}
 use Rattle.enc_units.proofs.LengthLemmas.{lengths}
-use Rattle.enc_units.specs.Mappings.{WritesMapped, WritesThemselves, WritesFront, KeepsAscii, AreWrittenAsThemselves}
-use Rattle.enc_units.specs.Validity.{AreAscii}
-use borrow.Rule.Slice.PartMut.{put_mid}
+use Rattle.enc_units.specs.Mappings.{WritesMapped, WritesThemselves, WritesFront, AreWrittenAsThemselves}
 use Rattle.enc_units.proofs.MappingLemmas.{maps_none, maps_ascii, maps_both, maps_one, same_length}
-use Rattle.enc_units.proofs.PutLemmas.{Put, put_lanes, put_copied}
+use Rattle.enc_units.proofs.PutLemmas.{Put, put_lanes}
 
 -- the rest of a slice
 pub rest_is : (read : ℕ) (src : List ℕ) → take (length src - read) (drop read src) ≡ drop read src
@@ -35,19 +33,6 @@ pub all_stored : {Means : List ℕ → ℕ → Type 0} (src before : List ℕ) (
     → WritesThemselves Means src before (put_chunk at before lanes) at m
 all_stored src before at m lanes long within fits same own =
     front_stored at m lanes same own within fits (put_lanes m at before lanes fits long).onto
-
--- ASCII is copied
-pub ascii_copied : {Means : List ℕ → ℕ → Type 0} (at n : ℕ) (before src new : List ℕ)
-    → KeepsAscii Means → at ≤ length before → n ≤ length src → n ≤ length before - at
-    → AreAscii (take n src)
-    → new ≡ take n src ++ drop n (take (length before - at) (drop at before))
-    → WritesThemselves Means src before (put_mid at (length before - at) before new) at n
-ascii_copied at n before src new keeps within read room are_ascii copied = record {
-  within = read;
-  ascii = λ k d l. (are_ascii k d l, keeps _ (are_ascii k d l));
-  fits = omega (arith, within, room);
-  onto = (put_copied at n before src new within read room copied).onto;
-}
 
 module _ {chars_in : List ℕ → List ℕ} {Rest : List ℕ → Type 0} {Means : List ℕ → ℕ
     → Type 0} where
@@ -126,13 +111,6 @@ module _ {chars_in : List ℕ → List ℕ} {Rest : List ℕ → Type 0} {Means 
         room = omega (arith, long, writes.writes.fits);
         front = subst (WritesFront chars_in Rest Means text first dst from n) count writes;
       }
-
-  pub written_none : {text first : List ℕ} {from : ℕ} → from ≤ length first → Rest text
-      → Written chars_in Rest Means text first first from 0 from
-  written_none {text} {first} {from} fits rest =
-      let start : from + 0 ≡ from = omega arith in
-      subst (Written chars_in Rest Means text first first from 0) start
-      (written_from (writes_none fits rest))
 
   -- the loop goes on
   pub written_then : {text first dst new : List ℕ} {from read at n k : ℕ}

@@ -3,13 +3,7 @@ use Rattle.std.proofs.lemmas.List.{take-take}
 use Rattle.enc_units.proofs.LengthLemmas.{lengths}
 use Rattle.enc_units.specs.Mappings.{AreWrittenAsThemselves}
 use Rattle.enc_units.proofs.GatherLemmas.{stored_lanes}
-use Rattle.enc_units.proofs.PiecesLemmas.{own_ascii}
 use Rattle.enc_units.proofs.gather.store_own.Goals as goal
-
-pub returns-then-has_ascii-clause-own : goal.returns-then-has_ascii-clause-own
-returns-then-has_ascii-clause-own g c =
-    own_ascii (g.P.Pieces.means c.args.pieces) _ (c.has_ascii.ensures c.if-has_ascii.true)
-    c.store_ascii.ensures.ascii
 
 pub returns-clause-own : goal.returns-clause-own
 returns-clause-own g c =

@@ -4,9 +4,6 @@ use Rattle.enc_units.proofs.PairsLemmas.{places_of_rest}
 use Rattle.enc_units.proofs.GatherLemmas.{gathers_then, gathers_kept_ascii, gathers_one}
 use Rattle.enc_units.proofs.pairs.gather_pairs.Goals as goal
 
-pub store_sixteen-requires-clause-are_ascii : goal.store_sixteen-requires-clause-are_ascii
-store_sixteen-requires-clause-are_ascii g c = c.are_ascii.ensures c.if-are_ascii.true
-
 pub loop-written-preserved-then-are_ascii : goal.loop-written-preserved-then-are_ascii
 loop-written-preserved-then-are_ascii g c =
     let invariant = c.loop-written.invariant in

@@ -32,9 +32,3 @@ loop-written-preserved c =
           (text_then_units _ invariant.3 stored.few (omega arith) refl stored.scalars stored.stored)
           (text_one first c.utf8_of.ensures.scalar) text,
     )
-
-pub returns-in_default-clause-text : goal.returns-in_default-clause-text
-returns-in_default-clause-text c =
-    let stored = c.store_scalars-count.ensures in
-    text_then_units _ c.loop-written.invariant.3 stored.few (omega arith) refl stored.scalars
-    stored.stored

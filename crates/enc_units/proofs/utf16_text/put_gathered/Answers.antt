@@ -2,11 +2,8 @@ use Rattle.std.proofs.Common.{◌≡◌, ◌+◌, ◌≤◌, arith, length, take
 use Rattle.enc_units.proofs.LengthLemmas.{lengths}
 use Rattle.enc_units.proofs.PutLemmas.{put_part}
 use Rattle.enc_units.proofs.Utf16TextLemmas.{writes_text}
-use Rattle.enc_units.proofs.WriteLoopLemmas.{of_same, rest_is, written_none, written_then}
+use Rattle.enc_units.proofs.WriteLoopLemmas.{of_same, rest_is, written_then}
 use Rattle.enc_units.proofs.utf16_text.put_gathered.Goals as goal
-
-pub parts-init : goal.parts-init
-parts-init g c = written_none c.requires.room tt
 
 pub parts-preserved : goal.parts-preserved
 parts-preserved g c =
