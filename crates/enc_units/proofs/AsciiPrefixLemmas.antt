@@ -1,12 +1,14 @@
 -- Runs of ASCII in front of what fits, and what was gathered apart.
-use Rattle.std.proofs.Common.{◌≡◌, ℕ, suc, ◌+◌, ◌<◌, ◌≤◌, List, [], ◌∷◌, ◌++◌, length, get_or, take, refl, ap, ◌∙◌, sym}
+use Rattle.std.proofs.Common.{◌≡◌, ℕ, ◌+◌, ◌<◌, ◌≤◌, List, [], ◌++◌, length, get_or, take, ap, ◌∙◌, sym}
 use Rattle.std.proofs.Common.{subst, arith, inl, inr}
-use Rattle.std.proofs.lemmas.Bool.{cases_lt, lt-ltb}
+use Rattle.std.proofs.lemmas.Bool.{cases_lt}
 use Rattle.std.proofs.lemmas.List.{take-take, get_or-take}
 use Rattle.std.specs.Prelude.{min}
 use Rattle.std.specs.Char.{encode_utf8}
 use Rattle.std.specs.Char.Escape.{encode_utf16}
 use Rattle.std.specs.Str.{IsUtf8}
+use Rattle.enc_units.proofs.PieceListLemmas.{own_text}
+use Rattle.enc_units.proofs.UnitsLemmas.{one_unit}
 use Rattle.enc_units.proofs.LengthLemmas.{lengths}
 use Rattle.enc_units.specs.Output.{Output, AreScalars, with_appended, units_of_text}
 use Rattle.enc_units.specs.Validity.{AreAscii}
@@ -19,14 +21,9 @@ use Rattle.enc_units.proofs.Utf8SliceLemmas.{ascii_units}
 
 -- ASCII bytes are their own code units in UTF-16 too
 pub ascii_units_16 : (bs : List ℕ) → AreAscii bs → units_of_text encode_utf16 bs ≡ bs
-ascii_units_16 [] are_ascii = refl
-ascii_units_16 (b ∷ bs) are_ascii =
-    let is_basic : b < 0x1_0000 = (let is_ascii = are_ascii 0 0 (omega arith) in omega arith) in
-    ap (λ x. x ++ units_of_text encode_utf16 bs) (one_unit b is_basic)
-    ∙ ap (λ x. b ∷ x) (ascii_units_16 bs (λ k d l. are_ascii (suc k) d (omega arith)))
-  where
-    one_unit : (c : ℕ) → c < 0x1_0000 → encode_utf16 c ≡ c ∷ []
-    one_unit c h = rw (lt-ltb c 0x1_0000 h) refl
+ascii_units_16 bs are_ascii = own_text encode_utf16 bs (λ k d inside.
+    let is_ascii = are_ascii k d inside in
+    one_unit _ (omega arith))
 
 -- the ASCII in front of as many bytes as there are, or fit
 pub puts_front : {units_of : ℕ → List ℕ}
@@ -83,13 +80,6 @@ pub written_is : (before after : Output) (units text : List ℕ) → after ≡ w
     → before.written ≡ [] → after.written ≡ text → text ≡ units
 written_is before after units text e w a = sym a ∙ ap (λ (o : Output). o.written) e
     ∙ ap (λ x. x ++ units) w
-
-pub gathered_utf8 : {Means : List ℕ → ℕ → Type 0} {before after : Output} {src : List ℕ} {n : ℕ}
-    {units : List ℕ}
-    → PutsPieces encode_utf8 Means before after src n → before.written ≡ [] → after.written ≡ units
-    → IsUtf8 units
-gathered_utf8 {before = before} {after = after} {units = units} puts w a =
-    text_utf8 units puts.text puts.scalars (written_is before after _ units puts.written w a)
 
 pub appends_gathered : {Means : List ℕ → ℕ → Type 0} {before after o then : Output} {src : List ℕ}
     {n : ℕ}

@@ -4,8 +4,8 @@ use Rattle.std.proofs.Common.{length}
 use Rattle.std.proofs.Common.{get_or, drop}
 use Rattle.std.proofs.Common.{take, refl, ap, ◌∙◌, sym, subst, arith, inl, inr, append_assoc, append-nil}
 use Rattle.std.proofs.lemmas.Bool.{and_parts, cases_lt, lt-ltb, le-ltb}
-use Rattle.std.proofs.lemmas.List.{take_all}
-use Rattle.std.proofs.lemmas.Simd.{take_more_put_chunk, length-put_chunk}
+use Rattle.std.proofs.lemmas.List.{take_all, map-id}
+use Rattle.std.proofs.lemmas.Simd.{take_more_put_chunk, length-put_chunk, Each1-get_or, Each1-chunk}
 use Rattle.std.proofs.lemmas.Str.{encode_ascii}
 use Rattle.std.proofs.Math.Seq.{take-suc}
 use Rattle.std.specs.Char.{encode_utf8}
@@ -15,6 +15,7 @@ use Rattle.std.specs.Int.{to_le_bytes}
 use lib.Lanes.{Each1, put_chunk}
 use mir.Syntax.{w16, w32}
 use mir.Val.{Fits}
+use Rattle.enc_units.proofs.PieceListLemmas.{own_text}
 use Rattle.enc_units.proofs.LengthLemmas.{lengths}
 use Rattle.enc_units.specs.CodeUnits.{unit_of, units_of_bytes, AreCodeUnits, unit_word, bytes_of_words}
 use Rattle.enc_units.specs.Gathering.{GathersChars}
@@ -129,15 +130,11 @@ stored_word words count inside front {mid} b m a =
 
 -- code units that are ASCII, as bytes
 
-same_lanes : (us : List ℕ) → map (λ u. u) us ≡ us
-same_lanes [] = refl
-same_lanes (u ∷ us) = ap (λ z. u ∷ z) (same_lanes us)
-
 pub stored_ascii : (at : ℕ) (old us : List ℕ) → length us ≡ 8 → at + 8 ≤ length old → AreAscii us
     → take (at + 8) (put_chunk at old (map (λ u. u) us)) ≡ take at old
     ++ units_of_text encode_utf8 (take 8 us)
 stored_ascii at old us long room a =
-    ap (λ z. take (at + 8) (put_chunk at old z)) (same_lanes us)
+    ap (λ z. take (at + 8) (put_chunk at old z)) (map-id us)
     ∙ take_more_put_chunk at old us (at + 8) (omega arith) room
     ∙ ap (λ z. take at old ++ z) (sym (ap (units_of_text encode_utf8) (take_all 8 us (omega arith))
     ∙ ascii_units us a))
@@ -148,11 +145,8 @@ front_ascii us long a = subst AreScalars (sym (take_all 8 us (omega arith))) (as
 -- code units are their own UTF-16, if none is above U+FFFF
 pub units_alone : (us : List ℕ) → Each1 (Fits w16) us → (n : ℕ)
     → units_of_text encode_utf16 (take n us) ≡ take n us
-units_alone us fit zero = refl
-units_alone [] fit (suc n) = refl
-units_alone (u ∷ us) fit (suc n) =
-    ap (λ z. z ++ units_of_text encode_utf16 (take n us)) (one_unit u fit.0.fits)
-    ∙ ap (λ z. u ∷ z) (units_alone us fit.1 n)
+units_alone us fit n = own_text encode_utf16 (take n us) (λ k d inside.
+    one_unit _ (Each1-get_or (Fits w16) (take n us) k d inside (Each1-chunk (Fits w16) 0 n us fit)).fits)
 
 -- characters of one code unit each
 

@@ -73,15 +73,6 @@ module _ {units_of : ℕ → List ℕ} {Means : List ℕ → ℕ → Type 0} whe
             ∙ ap (λ z. before ++ z) (sym (units-append units_of first.text then_more.text));
       }
 
-  -- the same, where the rest is a list of its own
-  pub gathers_on : {src rest : List ℕ} {a n : ℕ} {before mid after : List ℕ}
-      → GathersChars units_of Means src a before mid → rest ≡ drop a src
-      → GathersChars units_of Means rest n mid after
-      → GathersChars units_of Means src (a + n) before after
-  gathers_on {n = n} {mid = mid} {after = after} first rest_is then_more =
-      gathers_then first
-      (subst (λ z. GathersChars units_of Means z n mid after) rest_is then_more)
-
   -- bytes that are their own characters, and their own code units
   pub gathers_own : {src : List ℕ} {n : ℕ} {before after : List ℕ}
       → ((bs : List ℕ) → AreAscii bs → units_of_text units_of bs ≡ bs) → n ≤ length src

@@ -6,8 +6,8 @@ use Rattle.std.specs.Prelude.{All}
 use Rattle.std.specs.List.{prefix_len}
 use Rattle.std.proofs.lemmas.Bool.Decides.{nat_tests}
 use Rattle.std.proofs.lemmas.Bool.{not-true, not-false, cases_eq, cases_lt, true≢false}
-use Rattle.std.proofs.lemmas.List.{get_or-take, take-take, take_all, get_or_default, take_more, map-id}
-use Rattle.std.proofs.lemmas.List.Elements.{All-append}
+use Rattle.std.proofs.lemmas.List.{get_or-take, take-take, take_all, get_or_default, map-id}
+use Rattle.std.proofs.lemmas.List.Elements.{All-append, All-more}
 use Rattle.std.proofs.lemmas.List.Sums.{prefix_len_passes, prefix_len_stops, prefix_len-le-length}
 use Rattle.std.proofs.lemmas.Simd.{leading_from_mask_l, trailing_mask_l, splat_is_map}
 use Rattle.std.proofs.Math.Nat.{div-one, zero-div, pow-suc, mul_comm, div-div-eq-div-mul}
@@ -157,11 +157,4 @@ unshifted_more i n xs a b =
 
 pub unshifted_one : (i : ℕ) (xs : List ℕ) → AreIso2022JpAscii (take i xs) → i < length xs
     → IsUnshifted (get_or xs i 0) → AreIso2022JpAscii (take (i + 1) xs)
-unshifted_one i xs a h b =
-    subst AreIso2022JpAscii (sym (take_more xs i 0 h))
-    (All-append IsUnshifted (take i xs)
-    (get_or xs i 0 ∷ []) a one)
-  where
-    one : AreIso2022JpAscii (get_or xs i 0 ∷ [])
-    one zero d l = b
-    one (suc k) d l = absurd (omega arith)
+unshifted_one i xs front inside here = All-more IsUnshifted xs i 0 inside front here

@@ -12,7 +12,7 @@ use Rattle.enc_units.proofs.PutLemmas.{put_one}
 use Rattle.enc_units.proofs.Utf16MappedLemmas.{clamped_at, unclamped}
 use Rattle.enc_units.proofs.Utf8MappedLemmas.{short_at, own_written}
 use Rattle.enc_units.proofs.Utf8UnitLanes.{two}
-use Rattle.enc_units.proofs.WriteLoopLemmas.{of_same, writes_one, writes_then}
+use Rattle.enc_units.proofs.WriteLoopLemmas.{writes_one, writes_then}
 
 -- what sixteen bytes begin
 
@@ -82,7 +82,7 @@ module _ {Means : List ℕ → ℕ → Type 0} where
   pub of_rest : (src : List ℕ) (from n : ℕ) {before after : List ℕ} {at k j : ℕ}
       → WritesFront chars IsUtf8 Means (drop (from + n) src) before after at k j
       → WritesFront chars IsUtf8 Means (drop n (drop from src)) before after at k j
-  of_rest src from n writes = of_same (sym (drop-drop n from src)) writes
+  of_rest src from n writes = rw (drop-drop n from src) writes
 
   -- four characters of lanes, one after another
   module _ {text units : List ℕ} {leads : ℕ} (lanes : AreLanesOf text units leads)

@@ -5,14 +5,14 @@ use Rattle.std.proofs.Common.{eq-eqb, List, length, get_or, replicate, take, bit
 use Rattle.std.proofs.Common.{◌∙◌, sym, subst, arith, inl, inr, ◌∷◌, ◌++◌, drop}
 use Rattle.std.proofs.lemmas.Bool.{and_parts, cases_lt}
 use Rattle.std.proofs.lemmas.Bool.Decides.{nat_tests}
-use Rattle.std.proofs.lemmas.List.{get_or-drop, get_or-take, take_all}
+use Rattle.std.proofs.lemmas.List.{get_or-drop, get_or-take}
 use Rattle.std.proofs.lemmas.Nat.{and_le_l, and_le_r}
 use Rattle.std.proofs.lemmas.Nat.Bits.{and_pow, bit_at_or}
 use Rattle.std.proofs.lemmas.Simd.{get_or-chunk, pick_l-range_with_len}
 use Rattle.std.specs.Int.Bits.{or_add_and, xor_assoc, xor_self, xor_zero_l, xor_zero_r}
 use Rattle.std.specs.List.{range_with_len}
 use lib.Lanes.{chunk, pick_l}
-use Rattle.enc_units.proofs.LengthLemmas.{lengths}
+use Rattle.enc_units.proofs.LengthLemmas.{lengths, rest_is}
 use Rattle.enc_units.specs.declared.utf8_faults.TheConstants.{FIRST_UPPER, FIRST_LOWER, SECOND_UPPER}
 use Rattle.enc_units.specs.Utf8Run.{CanFollowBytes, CanFollowBytesAt, IsCharBoundaryAfter, ArePairFaults}
 use Rattle.enc_units.specs.Validity.{IsWellFormedUtf8}
@@ -236,14 +236,12 @@ pub follow_after : (src : List ℕ) (n m : ℕ)
     → ((k : ℕ) → k < m → CanFollowBytesAt (take (length src - n) (drop n src)) k)
     → (k : ℕ) → n ≤ k → k < n + m → CanFollowBytesAt src k
 follow_after src n m all k from to =
-    let rest_long : length (drop n src) ≤ length src - n = omega (arith, lengths) in
-    let rest = take_all (length src - n) (drop n src) rest_long in
     let here : (i j : ℕ) → n + i ≡ j → get_or (drop n src) i 0 ≡ get_or src j 0 =
     λ i j e. get_or-drop n src i 0 ∙ ap (λ m. get_or src m 0) e in
     along (here (k - n) k (omega arith)) (here (suc (k - n)) (suc k) (omega arith))
     (here (suc (suc (k - n))) (suc (suc k)) (omega arith))
     (here (suc (suc (suc (k - n)))) (suc (suc (suc k))) (omega arith))
-    (subst (λ xs. CanFollowBytesAt xs (k - n)) rest (all (k - n) (omega arith)))
+    (rw (rest_is n src) at (all (k - n) (omega arith)))
 
 -- the first sixteen bytes and those after them
 pub follow_all : (src : List ℕ) (n : ℕ)

@@ -1,5 +1,5 @@
 -- What an output in UTF-8 shows.
-use Rattle.std.proofs.Common.{◌≡◌, ℕ, suc, ◌+◌, ◌-◌, ◌≤◌, List, [], ◌∷◌, ◌++◌, length, take, drop, refl, ap, ◌∙◌, sym}
+use Rattle.std.proofs.Common.{◌≡◌, ℕ, ◌+◌, ◌-◌, ◌≤◌, List, ◌++◌, length, take, drop, ap, ◌∙◌, sym}
 use Rattle.std.proofs.Common.{◌<◌, inl, inr, arith, drop-drop}
 use Rattle.std.proofs.lemmas.Bool.{cases_lt}
 use Rattle.std.proofs.lemmas.Str.{encode_ascii}
@@ -7,6 +7,7 @@ use Rattle.std.specs.Borrow.{GName}
 use Rattle.std.specs.Prelude.{slice_index}
 use Rattle.std.specs.Char.{encode_utf8}
 use borrow.Rule.Slice.PartMut.{put_mid}
+use Rattle.enc_units.proofs.PieceListLemmas.{own_text}
 use Rattle.enc_units.proofs.LengthLemmas.{lengths}
 use Rattle.enc_units.proofs.PutLemmas.{Put, put_length, put_front, put_rest, put_copied}
 use Rattle.enc_units.specs.AsciiRun.{PutsAscii}
@@ -17,10 +18,8 @@ use Rattle.enc_units.proofs.OutputLemmas.{same_output}
 
 -- ASCII bytes are their own code units
 pub ascii_units : (bs : List ℕ) → AreAscii bs → units_of_text encode_utf8 bs ≡ bs
-ascii_units [] are_ascii = refl
-ascii_units (b ∷ bs) are_ascii =
-    ap (λ x. x ++ units_of_text encode_utf8 bs) (encode_ascii b (are_ascii 0 0 (omega arith)))
-    ∙ ap (λ x. b ∷ x) (ascii_units bs (λ k d h. are_ascii (suc k) d (omega arith)))
+ascii_units bs are_ascii =
+    own_text encode_utf8 bs (λ k d inside. encode_ascii _ (are_ascii k d inside))
 
 -- a slice once bytes are put after its first elements
 pub grown : {len n : ℕ} {dst bytes new : List ℕ} (borrow : GName) → Put len n dst bytes new

@@ -1,17 +1,12 @@
 -- Characters of an input, UTF-8 or UTF-16, that a loop writes one after another.
 use Rattle.std.proofs.Common.{◌≡◌, ℕ, ◌+◌, ◌-◌, ◌≤◌, List, ◌∷◌, ◌++◌, length, take, drop, ap, ◌∙◌, sym, subst, arith}
 use Rattle.std.proofs.Common.{drop-drop}
-use Rattle.std.proofs.lemmas.List.{length-take-le, take_all}
+use Rattle.std.proofs.lemmas.List.{length-take-le}
 use lib.Lanes.{put_chunk}
-use Rattle.enc_units.proofs.LengthLemmas.{lengths}
+use Rattle.enc_units.proofs.LengthLemmas.{lengths, rest_is}
 use Rattle.enc_units.specs.Mappings.{WritesMapped, WritesThemselves, WritesFront, AreWrittenAsThemselves}
 use Rattle.enc_units.proofs.MappingLemmas.{maps_none, maps_ascii, maps_both, maps_one, same_length}
 use Rattle.enc_units.proofs.PutLemmas.{Put, put_lanes}
-
--- the rest of a slice
-pub rest_is : (read : ℕ) (src : List ℕ) → take (length src - read) (drop read src) ≡ drop read src
-rest_is read src =
-    take_all (length src - read) (drop read src) (omega (arith, lengths))
 
 -- the first lanes are stored
 
@@ -82,12 +77,12 @@ module _ {chars_in : List ℕ → List ℕ} {Rest : List ℕ → Type 0} {Means 
             j) later then_more.writes);
       }
 
-  -- the same of an equal text
-  pub of_same : {text other before after : List ℕ} {at n m : ℕ} → text ≡ other
-      → WritesFront chars_in Rest Means text before after at n m
-      → WritesFront chars_in Rest Means other before after at n m
-  of_same {before = before} {after = after} {at = at} {n = n} {m = m} same writes =
-      subst (λ z. WritesFront chars_in Rest Means z before after at n m) same writes
+  -- the same, where the rest is a slice of its own
+  pub writes_on : {text before mid after : List ℕ} {at n m k j : ℕ}
+      → WritesFront chars_in Rest Means text before mid at n m
+      → WritesFront chars_in Rest Means (take (length text - n) (drop n text)) mid after (at + m) k j
+      → WritesFront chars_in Rest Means text before after at (n + k) (m + j)
+  writes_on {text} {n = n} first more = writes_then first (rw (rest_is n text) at more)
 
 -- the invariant of a loop that writes from `from` on, and has come to `at`
 module _ (chars_in : List ℕ → List ℕ) (Rest : List ℕ → Type 0) (Means : List ℕ → ℕ → Type 0) where
@@ -115,7 +110,7 @@ module _ {chars_in : List ℕ → List ℕ} {Rest : List ℕ → Type 0} {Means 
   -- the loop goes on
   pub written_then : {text first dst new : List ℕ} {from read at n k : ℕ}
       → Written chars_in Rest Means text first dst from read at
-      → WritesFront chars_in Rest Means (drop read text) dst new at n k
+      → WritesFront chars_in Rest Means (take (length text - read) (drop read text)) dst new at n k
       → Written chars_in Rest Means text first new from (read + n) (at + k)
   written_then {text} {first} {dst} {new} {from} {read} {at} {n} {k} written more =
       let place : at ≡ from + (at - from) = omega (arith, written.ahead) in
@@ -126,7 +121,5 @@ module _ {chars_in : List ℕ → List ℕ} {Rest : List ℕ → Type 0} {Means 
         long = long ∙ written.long;
         room = omega (arith, long, more.writes.fits);
         front = subst (WritesFront chars_in Rest Means text first new from (read + n)) count
-            (writes_then written.front
-            (subst (λ x. WritesFront chars_in Rest Means (drop read text) dst new x n k) place
-            more));
+            (writes_on written.front (rw place at more));
       }
