@@ -1,6 +1,6 @@
 -- Runs of ASCII in front of what fits, and what was gathered apart.
-use Rattle.std.proofs.Common.{◌≡◌, ℕ, ◌+◌, ◌<◌, ◌≤◌, List, [], ◌++◌, length, get_or, take, ap, ◌∙◌, sym}
-use Rattle.std.proofs.Common.{subst, arith, inl, inr}
+use Rattle.std.proofs.Common.{◌≡◌, ℕ, ◌<◌, ◌≤◌, List, [], ◌++◌, length, get_or, take, ap, ◌∙◌, sym}
+use Rattle.std.proofs.Common.{arith, inl, inr}
 use Rattle.std.proofs.lemmas.Bool.{cases_lt}
 use Rattle.std.proofs.lemmas.List.{take-take, get_or-take}
 use Rattle.std.specs.Prelude.{min}
@@ -14,10 +14,9 @@ use Rattle.enc_units.specs.Output.{Output, AreScalars, with_appended, units_of_t
 use Rattle.enc_units.specs.Validity.{AreAscii}
 use Rattle.enc_units.specs.AsciiRun.{PutsAscii}
 use Rattle.enc_units.specs.Pieces.{PutsPieces}
-use Rattle.enc_units.proofs.AsciiLemmas.{ascii_one}
 use Rattle.enc_units.proofs.ScalarLemmas.{ascii_scalars}
 use Rattle.enc_units.proofs.Utf8CharsLemmas.{their_units}
-use Rattle.enc_units.proofs.Utf8SliceLemmas.{ascii_units}
+use Rattle.enc_units.proofs.Utf8SliceLemmas.{ascii_units, puts_own}
 
 -- ASCII bytes are their own code units in UTF-16 too
 pub ascii_units_16 : (bs : List ℕ) → AreAscii bs → units_of_text encode_utf16 bs ≡ bs
@@ -32,48 +31,33 @@ pub puts_front : {units_of : ℕ → List ℕ}
     → most ≡ min (length src) before.room → n ≤ length front → AreAscii (take n front)
     → (n < length front → 0x80 ≤ get_or front n 0) → after ≡ with_appended before (take n src)
     → PutsAscii units_of before after src n
-puts_front own {before} {src = src} {front = front} {n = n} most is_front m l a ends e =
+puts_front own {before} {src = src} {front = front} {n = n} most is_front most_is within ascii ends
+    written =
     let few : n ≤ most = omega (arith, lengths, ap length is_front) in
-    let ascii : AreAscii (take n src) =
-    subst AreAscii (ap (take n) is_front ∙ take-take n most src few) a in
-    let units = own (take n src) ascii in
-    record {
-      within = omega arith;
-      ascii = ascii;
-      fits = omega (arith, lengths, ap length units);
-      written = e ∙ ap (with_appended before) (sym units);
-      longest = λ more low. elim (cases_lt n most) [
-        | inl h ↦
-            let here : get_or front n 0 ≡ get_or src n 0 = ap (λ z. get_or z n 0) is_front
-            ∙ get_or-take most src n 0 h in
-            absurd (omega (
-              arith,
-              ends (omega (arith, lengths, ap length is_front)),
-              here,
-            ))
-        | inr h ↦
-            omega (
-              arith,
-              lengths,
-              ap length (own (take (n + 1) src)
-                  (ascii_one n src ascii more low)),
-            )
-      ];
-    }
+    let same = ap (take n) is_front ∙ take-take n most src few in
+    puts_own own (omega arith) (omega arith) (rw same at ascii)
+    (λ more low. elim (cases_lt n most) [
+      | inl less ↦
+          let here = ap (λ z. get_or z n 0) is_front ∙ get_or-take most src n 0 less in
+          absurd (omega (arith, ends (omega (arith, lengths, ap length is_front)), here))
+      | inr all ↦ omega arith
+    ]) written
 
 -- ASCII is well-formed UTF-8, and so is the UTF-8 of a text
 pub text_utf8 : (units text : List ℕ) → AreScalars text → units ≡ units_of_text encode_utf8 text
     → IsUtf8 units
 text_utf8 units text s e = (text, (s, sym (their_units text) ∙ sym e))
 
+pub ascii_utf8 : (bytes : List ℕ) (n : ℕ) → AreAscii (take n bytes) → IsUtf8 (take n bytes)
+ascii_utf8 bytes n ascii =
+    text_utf8 (take n bytes) (take n bytes) (ascii_scalars (take n bytes) ascii)
+    (sym (ascii_units (take n bytes) ascii))
+
 pub front_utf8 : (src front : List ℕ) (n most : ℕ) → front ≡ take most src → n ≤ length front
     → AreAscii (take n front) → IsUtf8 (take n src)
-front_utf8 src front n most is_front l a =
+front_utf8 src front n most is_front within ascii =
     let few : n ≤ most = omega (arith, lengths, ap length is_front) in
-    let ascii : AreAscii (take n src) =
-    subst AreAscii (ap (take n) is_front ∙ take-take n most src few) a in
-    text_utf8 (take n src) (take n src) (ascii_scalars (take n src) ascii)
-    (sym (ascii_units (take n src) ascii))
+    ascii_utf8 src n (rw (ap (take n) is_front ∙ take-take n most src few) at ascii)
 
 -- what was put out to an output that was empty
 pub written_is : (before after : Output) (units text : List ℕ) → after ≡ with_appended before units

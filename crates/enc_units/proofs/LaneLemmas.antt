@@ -6,10 +6,10 @@ use Rattle.std.specs.Prelude.{All}
 use Rattle.std.specs.List.{prefix_len}
 use Rattle.std.proofs.lemmas.Bool.Decides.{nat_tests}
 use Rattle.std.proofs.lemmas.Bool.{not-true, not-false, cases_eq, cases_lt, true≢false}
-use Rattle.std.proofs.lemmas.List.{get_or-take, take-take, take_all, get_or_default, map-id}
+use Rattle.std.proofs.lemmas.List.{get_or-take, take-take, take_all, get_or_default}
 use Rattle.std.proofs.lemmas.List.Elements.{All-append, All-more}
 use Rattle.std.proofs.lemmas.List.Sums.{prefix_len_passes, prefix_len_stops, prefix_len-le-length}
-use Rattle.std.proofs.lemmas.Simd.{leading_from_mask_l, trailing_mask_l, splat_is_map}
+use Rattle.std.proofs.lemmas.Simd.{leading_from_mask_l, trailing_mask_l}
 use Rattle.std.proofs.Math.Nat.{div-one, zero-div, pow-suc, mul_comm, div-div-eq-div-mul}
 use lib.Count.{count_trailing_zeros}
 use lib.Lanes.{zip2, mask_l, top}
@@ -17,7 +17,7 @@ use mir.Syntax.{Width}
 use mir.Val.{hbits}
 use Rattle.enc_units.proofs.LengthLemmas.{lengths}
 use Rattle.enc_units.specs.Validity.{AreAscii, AreIso2022JpAscii}
-use Rattle.enc_units.proofs.Lanes.{IsLanes, by_op, flag, mask_of}
+use Rattle.enc_units.proofs.Lanes.{itself, splat_over, by_op, flag, mask_of}
 
 -- the mask of a comparison whose first side is a splat
 pub splat_mask_of : (n : ℕ) → n ≤ 64 → (w : Width) (t : ℕ → ℕ → Bool) (y : ℕ) (xs : List ℕ)
@@ -25,9 +25,7 @@ pub splat_mask_of : (n : ℕ) → n ≤ 64 → (w : Width) (t : ℕ → ℕ → 
     → mask_l (map (top (hbits w)) (zip2 (flag w t) (replicate n y) xs)) % 2 ^ 64
     ≡ mask_l (map (t y) xs)
 splat_mask_of n few w t y xs long =
-    let own : IsLanes xs xs (λ x. x) = record { is = sym (map-id xs) } in
-    let splat : IsLanes xs (replicate n y) (λ _. y) = record { is = splat_is_map xs n y long } in
-    mask_of w (t y) (by_op splat own (flag w t)) (omega arith)
+    mask_of w (t y) (by_op (splat_over xs n y long) (itself xs) (flag w t)) (omega arith)
 
 -- the first n lanes fail the test
 pub record AreBefore (p : ℕ → Bool) (xs : List ℕ) (n : ℕ) : Type 0 where

@@ -15,6 +15,12 @@ use mir.Val.{bits, hbits}
 pub record IsLanes (ks xs : List ℕ) (f : ℕ → ℕ) : Type 0 where
   pub is : xs ≡ map f ks
 
+pub itself : (xs : List ℕ) → IsLanes xs xs (λ x. x)
+itself xs = record { is = sym (map-id xs) }
+
+pub splat_over : (ks : List ℕ) (n x : ℕ) → length ks ≡ n → IsLanes ks (replicate n x) (λ _. x)
+splat_over ks n x long = record { is = splat_is_map ks n x long }
+
 -- the lanes of a test
 abbrev pub flag : Width → (ℕ → ℕ → Bool) → ℕ → ℕ → ℕ
 flag w t a b = cond (t a b) (2 ^ bits w - 1) 0
@@ -68,7 +74,7 @@ pub own : (xs : List ℕ) → length xs ≡ 16 → IsLanes places xs (λ k. get_
 own xs long = record { is = sym (pick_l_whole 0 xs 16 long) }
 
 pub splat : (x : ℕ) → IsLanes places (replicate 16 x) (λ _. x)
-splat x = record { is = splat_is_map places 16 x refl }
+splat x = splat_over places 16 x refl
 
 -- lanes of bytes that are flags
 

@@ -127,16 +127,22 @@ module _ {units_of : ℕ → List ℕ} {Means : List ℕ → ℕ → Type 0} whe
             ∙ ap (with_appended before) (sym both);
       }
 
-  -- ASCII bytes
-  pub ascii_pieces : {before after : Output} {src : List ℕ} {n : ℕ} → KeepsAscii Means
-      → PutsAscii units_of before after src n → PutsPieces units_of Means before after src n
-  ascii_pieces {src = src} {n = n} keeps puts = record {
+  -- bytes that are their own characters
+  written_pieces : {before after : Output} {src : List ℕ} {n : ℕ}
+      → AreWrittenAsThemselves Means (take n src) → PutsAscii units_of before after src n
+      → PutsPieces units_of Means before after src n
+  written_pieces {src = src} {n = n} own puts = record {
     text = take n src;
     scalars = ascii_scalars (take n src) puts.ascii;
-    reads = reads_own puts.within (own_ascii Means (take n src) keeps puts.ascii);
+    reads = reads_own puts.within own;
     fits = puts.fits;
     written = puts.written;
   }
+
+  pub ascii_pieces : {before after : Output} {src : List ℕ} {n : ℕ} → KeepsAscii Means
+      → PutsAscii units_of before after src n → PutsPieces units_of Means before after src n
+  ascii_pieces {src = src} {n = n} keeps puts =
+      written_pieces (own_ascii Means (take n src) keeps puts.ascii) puts
 
   -- one piece
   pub one_piece : {before after : Output} {src : List ℕ} {n : ℕ} (c : ℕ) → 0 < n → n ≤ length src
@@ -186,14 +192,8 @@ module _ {units_of : ℕ → List ℕ} {Means : List ℕ → ℕ → Type 0} whe
       → AreWrittenAsThemselves Means (take m src) → PutsAscii units_of before after (take m src) n
       → PutsPieces units_of Means before after src n
   own_pieces {src = src} m {n} own puts =
-      let front = take m src in
-      puts_wider m refl (record {
-        text = take n front;
-        scalars = ascii_scalars (take n front) puts.ascii;
-        reads = reads_own puts.within (All-take (IsWrittenAsItself Means) n front own);
-        fits = puts.fits;
-        written = puts.written;
-      })
+      let own_front = All-take (IsWrittenAsItself Means) n (take m src) own in
+      puts_wider m refl (written_pieces own_front puts)
 
 -- what the bytes mean by one reading, they mean by another
 

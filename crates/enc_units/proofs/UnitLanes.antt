@@ -1,11 +1,10 @@
 -- Code units of UTF-16 in eight lanes, and their UTF-8.
 use Rattle.std.proofs.Common.{◌≡◌, ℕ, zero, suc, ◌+◌, ◌*◌, ◌/◌, ◌%◌, ◌^◌, ◌<◌, ◌≤◌, Bool, true, false, cond, eqb}
-use Rattle.std.proofs.Common.{ltb, List, [], ◌∷◌, map, length, All, w8, w16, replicate, take, refl, ap, ◌∙◌, sym, arith, bit_and}
+use Rattle.std.proofs.Common.{ltb, List, [], ◌∷◌, map, length, All, w8, w16, replicate, take, refl, ap, ◌∙◌, arith, bit_and}
 use Rattle.std.proofs.lemmas.Bool.Decides.{nat_tests}
-use Rattle.std.proofs.lemmas.List.{map-id}
 use Rattle.std.proofs.lemmas.List.Elements.{All-tail}
 use Rattle.std.proofs.lemmas.Nat.{and_mask}
-use Rattle.std.proofs.lemmas.Simd.{splat_is_map, Each1-chunk}
+use Rattle.std.proofs.lemmas.Simd.{Each1-chunk}
 use Rattle.std.specs.Char.{IsScalar}
 use lib.Count.{count_trailing_zeros}
 use lib.Lanes.{Each1, mask_l, top, number_l, digits_l}
@@ -13,7 +12,7 @@ use mir.Val.{Fits}
 use Rattle.enc_units.specs.CodeUnits.{units_of_bytes, unit_word_low, unit_word_high, unit_word}
 use Rattle.enc_units.specs.Output.{AreScalars}
 use Rattle.enc_units.proofs.LaneLemmas.{AreBefore, none_passes, some_passes}
-use Rattle.enc_units.proofs.Lanes.{IsLanes, by_op, chosen, flag, mask_of, widened}
+use Rattle.enc_units.proofs.Lanes.{IsLanes, itself, splat_over, by_op, chosen, flag, mask_of, widened}
 use Rattle.enc_units.proofs.ScalarLemmas.{scalars-cons}
 use Rattle.enc_units.proofs.Utf8UnitLanes.{add16}
 
@@ -23,13 +22,9 @@ shl16 a b = (a * 2 ^ b) % 65536
 abbrev shr16 : ℕ → ℕ → ℕ
 shr16 a b = a / 2 ^ b
 
--- lanes by the code units themselves
-module _ (us : List ℕ) (long : length us ≡ 8) where
-  pub units : IsLanes us us (λ u. u)
-  units = record { is = sym (map-id us) }
-
-  pub all : (x : ℕ) → IsLanes us (replicate 8 x) (λ _. x)
-  all x = record { is = splat_is_map us 8 x long }
+-- eight equal lanes
+pub all : (us : List ℕ) → length us ≡ 8 → (x : ℕ) → IsLanes us (replicate 8 x) (λ _. x)
+all us long x = splat_over us 8 x long
 
 -- bytes as code units
 
@@ -68,7 +63,7 @@ abbrev pub big_units : (bytes : List ℕ) → length bytes ≡ 16 → Each1 (Fit
     → (m : List ℕ) × (m ≡ units_of_bytes true bytes)
 big_units bytes two_each fit =
     let us = digits_l 65536 8 (number_l 256 bytes) in
-    let own = units us refl in
+    let own = itself us in
     let swaps = by_op (by_op own (all us refl 8) shl16) (by_op own (all us refl 8) shr16) add16 in
     (_, swaps.is ∙ ap (map swap) (little_units 8 bytes two_each fit) ∙ swapped bytes fit)
 
@@ -91,7 +86,7 @@ module _ (us : List ℕ) (long : length us ≡ 8) (fit : Each1 (Fits w16) us) wh
   abbrev surrogates : (m : List ℕ) × IsLanes us m (λ u. cond (is_surrogate u) 65535 0)
   surrogates = (
     _,
-    by_op (by_op (units us long) (all us long 11) shr16) (all us long 27) (flag w16 eqb),
+    by_op (by_op (itself us) (all us long 11) shr16) (all us long 27) (flag w16 eqb),
   )
 
   abbrev mask : ℕ
@@ -147,11 +142,11 @@ joined low high low_fits high_fits = omega arith
 
 module _ (us : List ℕ) (long : length us ≡ 8) (fit : Each1 (Fits w16) us) where
   abbrev below : (n : ℕ) → (m : List ℕ) × IsLanes us m (λ u. cond (ltb u n) 65535 0)
-  below n = (_, by_op (units us long) (all us long n) (flag w16 ltb))
+  below n = (_, by_op (itself us) (all us long n) (flag w16 ltb))
 
   abbrev pub fronts : (m : List ℕ) × (m ≡ map unit_word_low us)
   fronts =
-      let own = units us long in
+      let own = itself us in
       let upper = by_op own (all us long 6) shr16 in
       let low = by_op (by_op own (all us long 63) bit_and) (all us long 8) shl16 in
       let middle = by_op (by_op upper (all us long 63) bit_and) (all us long 8) shl16 in
@@ -163,7 +158,7 @@ module _ (us : List ℕ) (long : length us ≡ 8) (fit : Each1 (Fits w16) us) wh
 
   abbrev pub rests : (m : List ℕ) × (m ≡ map unit_word_high us)
   rests =
-      let low = by_op (units us long) (all us long 63) bit_and in
+      let low = by_op (itself us) (all us long 63) bit_and in
       let more = chosen w16 _ (below 2048).1 (all us long 512) (by_op low (all us long 896) add16)
       in (
         _,

@@ -4,10 +4,7 @@ use Rattle.std.proofs.Common.{take-add}
 use Rattle.std.proofs.lemmas.List.{drop-take, take-take}
 use Rattle.std.proofs.lemmas.Str.{IsUtf8-append, IsUtf8-drop, IsCharBoundary-from_take}
 use Rattle.enc_units.proofs.LengthLemmas.{lengths, rest_is}
-use Rattle.enc_units.specs.Validity.{IsLongestPrefix, IsWellFormedUtf8, AreAscii}
-use Rattle.enc_units.proofs.AsciiPrefixLemmas.{text_utf8}
-use Rattle.enc_units.proofs.ScalarLemmas.{ascii_scalars}
-use Rattle.enc_units.proofs.Utf8SliceLemmas.{ascii_units}
+use Rattle.enc_units.specs.Validity.{IsLongestPrefix, IsWellFormedUtf8}
 
 module _ (bytes : List ℕ) (front k : ℕ) (within : front ≤ length bytes)
     (utf8 : IsWellFormedUtf8 (take front bytes))
@@ -40,9 +37,3 @@ module _ (bytes : List ℕ) (front k : ℕ) (within : front ≤ length bytes)
           (omega (arith, lengths, fits))
           (rest_utf8 m (omega (arith, more)) fits has);
     }
-
-pub ascii_utf8 : (bytes : List ℕ) (n : ℕ) → AreAscii (take n bytes)
-    → IsWellFormedUtf8 (take n bytes)
-ascii_utf8 bytes n ascii =
-    text_utf8 (take n bytes) (take n bytes) (ascii_scalars (take n bytes) ascii)
-    (sym (ascii_units (take n bytes) ascii))
