@@ -1,52 +1,24 @@
 -- Lanes of ASCII bytes.
-use Rattle.std.proofs.Common.{◌≡◌, ℕ, zero, suc, ◌+◌, ◌%◌, ◌^◌, ◌<◌, Bool, true, false, cond, eqb, leb, List, [], ◌∷◌}
-use Rattle.std.proofs.Common.{map, length, get_or, replicate, take, drop, refl, ap, ◌∙◌, sym, subst, arith, eqb-true}
-use Rattle.std.proofs.Common.{leb-false, take-add, drop-cons, append_assoc, drop-drop}
-use Rattle.std.proofs.Common.{◌++◌, ◌-◌, ◌≤◌, inl, inr}
+use Rattle.std.proofs.Common.{◌≡◌, ℕ, zero, suc, ◌+◌, ◌-◌, ◌<◌, ◌≤◌, false, leb, List, [], ◌∷◌, ◌++◌}
+use Rattle.std.proofs.Common.{length, get_or, take, drop, ap, ◌∙◌, sym, subst, arith, inl, inr}
+use Rattle.std.proofs.Common.{take-add, drop-cons, append_assoc, drop-drop}
 use Rattle.std.proofs.lemmas.Bool.{cases_lt}
 use Rattle.std.proofs.lemmas.Bool.Decides.{nat_tests}
-use Rattle.std.proofs.lemmas.List.{length-take-le, length-map, take_more, take_all, get_or-take, get_or-drop}
-use Rattle.std.proofs.lemmas.List.Elements.{All-append}
-use Rattle.std.proofs.Math.Seq.{take-append_seam, drop-append_seam, set-append_seam}
+use Rattle.std.proofs.lemmas.List.{length-take-le, take_all, get_or-take, get_or-drop}
+use Rattle.std.proofs.lemmas.List.Elements.{All-append, All-more}
+use Rattle.std.proofs.Math.Seq.{take-append_seam, drop-append_seam}
 use Rattle.std.proofs.Math.ListN.{set}
-use Rattle.std.proofs.lemmas.Simd.{length-zip2, length-replicate, mask_l-mod, put_chunk_is}
-use lib.Lanes.{zip2, mask_l, top, put_chunk}
+use lib.Lanes.{put_chunk}
 use Rattle.enc_units.proofs.LengthLemmas.{lengths}
+use Rattle.enc_units.proofs.PutLemmas.{Put, put_lanes, put_one}
 use Rattle.enc_units.specs.Validity.{AreAscii}
-
-abbrev at_least : ℕ → ℕ → ℕ
-at_least a b = cond (leb a b) 255 0
-
-none_high : (xs : List ℕ) → mask_l (map (top 7) (zip2 at_least (replicate (length xs) 128) xs)) ≡ 0
-    → AreAscii xs
-none_high [] e k d h = absurd (omega arith)
-none_high (x ∷ xs) e zero d h = go (leb 128 x) refl (omega arith)
-  where
-    go : (t : Bool) → leb 128 x ≡ t → ◌≡◌ {A = ℕ} (cond (top 7 (cond t 255 0)) 1 0) 0 → x < 128
-    go true p q = absurd (omega arith)
-    go false p q = leb-false _ _ p
-none_high (x ∷ xs) e (suc k) d h = none_high xs (omega arith) k d (omega arith)
-
--- the mask of a comparison of n lanes
-pub ascii_of_mask : (n : ℕ) (xs : List ℕ) → n ≤ 64 → length xs ≡ n
-    → eqb (mask_l (map (top 7) (zip2 at_least (replicate n 128) xs)) % 2 ^ 64) 0 ≡ true
-    → AreAscii xs
-ascii_of_mask n xs few long e =
-    none_high xs (ap (λ n. mask_l (map (top 7) (zip2 at_least (replicate n 128) xs))) long
-    ∙ sym (mask_l-mod _ 64
-    (omega (
-      arith,
-      length-map (zip2 at_least (replicate n 128) xs) (top 7),
-      length-zip2 at_least (replicate n 128) xs (length-replicate {A = ℕ} n 128 ∙ sym long),
-      length-replicate {A = ℕ} n 128,
-    ))) ∙ eqb-true _ _ e)
 
 -- n bytes more are ASCII
 pub ascii_more : (i n : ℕ) (xs : List ℕ) → AreAscii (take i xs) → AreAscii (take n (drop i xs))
     → AreAscii (take (i + n) xs)
-ascii_more i n xs a b =
+ascii_more i n xs first more =
     subst AreAscii (sym (take-add i n xs))
-    (All-append (λ b. b < 0x80) (take i xs) (take n (drop i xs)) a b)
+    (All-append (λ b. b < 0x80) (take i xs) (take n (drop i xs)) first more)
 
 pub one_ascii : (x : ℕ) → x < 128 → AreAscii (x ∷ [])
 one_ascii x h zero d l = h
@@ -54,46 +26,58 @@ one_ascii x h (suc k) d l = absurd (omega arith)
 
 pub ascii_one : (i : ℕ) (xs : List ℕ) → AreAscii (take i xs) → i < length xs → get_or xs i 0 < 128
     → AreAscii (take (i + 1) xs)
-ascii_one i xs a h b =
-    subst AreAscii (sym (take_more xs i 0 h))
-    (All-append (λ b. b < 0x80) (take i xs) (get_or xs i 0 ∷ []) a (one_ascii (get_or xs i 0) b))
+ascii_one i xs front inside low = All-more (λ b. b < 0x80) xs i 0 inside front low
 
-at_seam : (a b ys : List ℕ) → length ys ≤ length b
-    → put_chunk (length a) (a ++ b) ys ≡ a ++ (ys ++ drop (length ys) b)
-at_seam a b ys h =
-    put_chunk_is (length a) (a ++ b) ys (omega (arith, lengths))
-    ∙ ap (λ x. x ++ (ys ++ drop (length ys) (drop (length a) (a ++ b)))) (take-append_seam a b)
-    ∙ ap (λ x. a ++ (ys ++ drop (length ys) x)) (drop-append_seam a b)
+-- the first `at` bytes, of `most`, are ASCII and are copied
+pub record CopiesAscii (src old dst : List ℕ) (most at : ℕ) : Type 0 where
+  pub within : at ≤ most
+  pub ascii : AreAscii (take at src)
+  pub copied : dst ≡ take at src ++ drop at old
 
--- the bytes that are copied, and those after them
-pub copied_more : (i n : ℕ) (src dst old : List ℕ) → i + n ≤ length src → i + n ≤ length old
-    → dst ≡ take i src ++ drop i old
-    → put_chunk i dst (take n (drop i src)) ≡ take (i + n) src ++ drop (i + n) old
-copied_more i n src dst old h k e =
-    let ys = take n (drop i src) in
-    let long : length ys ≡ n = omega (arith, lengths) in
-    ap (λ x. put_chunk i x ys) e
-    ∙ ap (λ m. put_chunk m (take i src ++ drop i old) ys) (sym (length-take-le i src (omega arith)))
-    ∙ at_seam (take i src) (drop i old) ys (omega (arith, lengths, long))
-    ∙ sym (append_assoc (take i src) ys (drop (length ys) (drop i old)))
-    ∙ ap (λ x. x ++ drop (length ys) (drop i old)) (sym (take-add i n src))
-    ∙ ap (λ x. take (i + n) src ++ x) (ap (λ m. drop m (drop i old)) long ∙ drop-drop n i old)
+module _ {src old dst : List ℕ} {most at : ℕ} (copies : CopiesAscii src old dst most at)
+    (read : most ≤ length src) (room : most ≤ length old) where
+  copied_further : {n : ℕ} {new : List ℕ} → at + n ≤ most
+      → Put at n dst (take n (drop at src)) new → new ≡ take (at + n) src ++ drop (at + n) old
+  copied_further {n} {new} fits put =
+      let long = length-take-le at src (omega (arith, copies.within)) in
+      let front : take at dst ≡ take at src =
+      ap (take at) copies.copied ∙ ap (λ k. take k (take at src ++ drop at old)) (sym long)
+      ∙ take-append_seam (take at src) (drop at old) in
+      let rest : drop at dst ≡ drop at old =
+      ap (drop at) copies.copied ∙ ap (λ k. drop k (take at src ++ drop at old)) (sym long)
+      ∙ drop-append_seam (take at src) (drop at old) in
+      put.onto ∙ ap (λ z. z ++ (take n (drop at src) ++ drop (at + n) dst)) front
+      ∙ sym (append_assoc (take at src) (take n (drop at src)) (drop (at + n) dst))
+      ∙ ap (λ z. z ++ drop (at + n) dst) (sym (take-add at n src))
+      ∙ ap (λ z. take (at + n) src ++ z)
+      (sym (drop-drop n at dst) ∙ ap (drop n) rest ∙ drop-drop n at old)
 
-pub copied_one : (i : ℕ) (src dst old : List ℕ) → i < length src → i < length old
-    → dst ≡ take i src ++ drop i old
-    → set dst i (get_or src i 0) ≡ take (i + 1) src ++ drop (i + 1) old
-copied_one i src dst old h k e =
-    let byte = get_or src i 0 in
-    ap (λ x. set x i byte) (e ∙ ap (λ x. take i src ++ x) (drop-cons old i 0 k))
-    ∙ ap (λ m. set (take i src ++ get_or old i 0 ∷ drop (suc i) old) m byte)
-    (sym (length-take-le i src (omega arith)))
-    ∙ set-append_seam (take i src) (get_or old i 0) (drop (suc i) old) byte
-    ∙ sym (append_assoc (take i src) (byte ∷ []) (drop (suc i) old))
-    ∙ ap (λ x. x ++ drop (suc i) old) (sym (take_more src i 0 h))
-    ∙ ap (λ m. take (i + 1) src ++ drop m old) next
-  where
-    next : suc i ≡ i + 1
-    next = omega arith
+  dst_long : length dst ≡ length old
+  dst_long = omega (arith, ap length copies.copied, lengths, copies.within)
+
+  pub copies_more : (n : ℕ) {lanes : List ℕ} → at + n ≤ most → lanes ≡ take n (drop at src)
+      → AreAscii (take n (drop at src)) → CopiesAscii src old (put_chunk at dst lanes) most (at + n)
+  copies_more n {lanes} fits are_lanes ascii =
+      let long : length lanes ≡ n = omega (arith, ap length are_lanes, lengths) in
+      let front = take_all n lanes (omega arith) ∙ are_lanes in
+      record {
+        within = fits;
+        ascii = ascii_more at n src copies.ascii ascii;
+        copied = copied_further fits (rw front at (put_lanes n at dst lanes
+            (omega (arith, dst_long)) long));
+      }
+
+  pub copies_one : at < most → get_or src at 0 < 0x80
+      → CopiesAscii src old (set dst at (get_or src at 0)) most (at + 1)
+  copies_one fits low =
+      let one : get_or src at 0 ∷ [] ≡ take 1 (drop at src) =
+      ap (take 1) (sym (drop-cons src at 0 (omega arith))) in
+      record {
+        within = omega arith;
+        ascii = ascii_one at src copies.ascii (omega arith) low;
+        copied = copied_further (omega arith)
+            (rw one at (put_one at (get_or src at 0) dst (omega (arith, dst_long))));
+      }
 
 pub low_fails : (x : ℕ) → x < 0x80 → leb 128 x ≡ false
 low_fails x h = grind (arith, nat_tests)

@@ -1,32 +1,28 @@
 -- Runs of ASCII in front of what fits, and what was gathered apart.
-use Rattle.std.proofs.Common.{◌≡◌, ℕ, suc, ◌+◌, ◌<◌, ◌≤◌, List, [], ◌∷◌, ◌++◌, length, get_or, take, refl, ap, ◌∙◌, sym}
-use Rattle.std.proofs.Common.{subst, arith, inl, inr}
-use Rattle.std.proofs.lemmas.Bool.{cases_lt, lt-ltb}
+use Rattle.std.proofs.Common.{◌≡◌, ℕ, ◌<◌, ◌≤◌, List, [], ◌++◌, length, get_or, take, ap, ◌∙◌, sym}
+use Rattle.std.proofs.Common.{arith, inl, inr}
+use Rattle.std.proofs.lemmas.Bool.{cases_lt}
 use Rattle.std.proofs.lemmas.List.{take-take, get_or-take}
 use Rattle.std.specs.Prelude.{min}
 use Rattle.std.specs.Char.{encode_utf8}
 use Rattle.std.specs.Char.Escape.{encode_utf16}
 use Rattle.std.specs.Str.{IsUtf8}
+use Rattle.enc_units.proofs.PieceListLemmas.{own_text}
+use Rattle.enc_units.proofs.UnitsLemmas.{one_unit}
 use Rattle.enc_units.proofs.LengthLemmas.{lengths}
 use Rattle.enc_units.specs.Output.{Output, AreScalars, with_appended, units_of_text}
 use Rattle.enc_units.specs.Validity.{AreAscii}
 use Rattle.enc_units.specs.AsciiRun.{PutsAscii}
 use Rattle.enc_units.specs.Pieces.{PutsPieces}
-use Rattle.enc_units.proofs.AsciiLemmas.{ascii_one}
 use Rattle.enc_units.proofs.ScalarLemmas.{ascii_scalars}
 use Rattle.enc_units.proofs.Utf8CharsLemmas.{their_units}
-use Rattle.enc_units.proofs.Utf8SliceLemmas.{ascii_units}
+use Rattle.enc_units.proofs.Utf8SliceLemmas.{ascii_units, puts_own}
 
 -- ASCII bytes are their own code units in UTF-16 too
 pub ascii_units_16 : (bs : List ℕ) → AreAscii bs → units_of_text encode_utf16 bs ≡ bs
-ascii_units_16 [] are_ascii = refl
-ascii_units_16 (b ∷ bs) are_ascii =
-    let is_basic : b < 0x1_0000 = (let is_ascii = are_ascii 0 0 (omega arith) in omega arith) in
-    ap (λ x. x ++ units_of_text encode_utf16 bs) (one_unit b is_basic)
-    ∙ ap (λ x. b ∷ x) (ascii_units_16 bs (λ k d l. are_ascii (suc k) d (omega arith)))
-  where
-    one_unit : (c : ℕ) → c < 0x1_0000 → encode_utf16 c ≡ c ∷ []
-    one_unit c h = rw (lt-ltb c 0x1_0000 h) refl
+ascii_units_16 bs are_ascii = own_text encode_utf16 bs (λ k d inside.
+    let is_ascii = are_ascii k d inside in
+    one_unit _ (omega arith))
 
 -- the ASCII in front of as many bytes as there are, or fit
 pub puts_front : {units_of : ℕ → List ℕ}
@@ -35,61 +31,39 @@ pub puts_front : {units_of : ℕ → List ℕ}
     → most ≡ min (length src) before.room → n ≤ length front → AreAscii (take n front)
     → (n < length front → 0x80 ≤ get_or front n 0) → after ≡ with_appended before (take n src)
     → PutsAscii units_of before after src n
-puts_front own {before} {src = src} {front = front} {n = n} most is_front m l a ends e =
+puts_front own {before} {src = src} {front = front} {n = n} most is_front most_is within ascii ends
+    written =
     let few : n ≤ most = omega (arith, lengths, ap length is_front) in
-    let ascii : AreAscii (take n src) =
-    subst AreAscii (ap (take n) is_front ∙ take-take n most src few) a in
-    let units = own (take n src) ascii in
-    record {
-      within = omega arith;
-      ascii = ascii;
-      fits = omega (arith, lengths, ap length units);
-      written = e ∙ ap (with_appended before) (sym units);
-      longest = λ more low. elim (cases_lt n most) [
-        | inl h ↦
-            let here : get_or front n 0 ≡ get_or src n 0 = ap (λ z. get_or z n 0) is_front
-            ∙ get_or-take most src n 0 h in
-            absurd (omega (
-              arith,
-              ends (omega (arith, lengths, ap length is_front)),
-              here,
-            ))
-        | inr h ↦
-            omega (
-              arith,
-              lengths,
-              ap length (own (take (n + 1) src)
-                  (ascii_one n src ascii more low)),
-            )
-      ];
-    }
+    let same = ap (take n) is_front ∙ take-take n most src few in
+    puts_own own (omega arith) (omega arith) (rw same at ascii)
+    (λ more low. elim (cases_lt n most) [
+      | inl less ↦
+          let here = ap (λ z. get_or z n 0) is_front ∙ get_or-take most src n 0 less in
+          absurd (omega (arith, ends (omega (arith, lengths, ap length is_front)), here))
+      | inr all ↦ omega arith
+    ]) written
 
 -- ASCII is well-formed UTF-8, and so is the UTF-8 of a text
 pub text_utf8 : (units text : List ℕ) → AreScalars text → units ≡ units_of_text encode_utf8 text
     → IsUtf8 units
 text_utf8 units text s e = (text, (s, sym (their_units text) ∙ sym e))
 
+pub ascii_utf8 : (bytes : List ℕ) (n : ℕ) → AreAscii (take n bytes) → IsUtf8 (take n bytes)
+ascii_utf8 bytes n ascii =
+    text_utf8 (take n bytes) (take n bytes) (ascii_scalars (take n bytes) ascii)
+    (sym (ascii_units (take n bytes) ascii))
+
 pub front_utf8 : (src front : List ℕ) (n most : ℕ) → front ≡ take most src → n ≤ length front
     → AreAscii (take n front) → IsUtf8 (take n src)
-front_utf8 src front n most is_front l a =
+front_utf8 src front n most is_front within ascii =
     let few : n ≤ most = omega (arith, lengths, ap length is_front) in
-    let ascii : AreAscii (take n src) =
-    subst AreAscii (ap (take n) is_front ∙ take-take n most src few) a in
-    text_utf8 (take n src) (take n src) (ascii_scalars (take n src) ascii)
-    (sym (ascii_units (take n src) ascii))
+    ascii_utf8 src n (rw (ap (take n) is_front ∙ take-take n most src few) at ascii)
 
 -- what was put out to an output that was empty
 pub written_is : (before after : Output) (units text : List ℕ) → after ≡ with_appended before units
     → before.written ≡ [] → after.written ≡ text → text ≡ units
 written_is before after units text e w a = sym a ∙ ap (λ (o : Output). o.written) e
     ∙ ap (λ x. x ++ units) w
-
-pub gathered_utf8 : {Means : List ℕ → ℕ → Type 0} {before after : Output} {src : List ℕ} {n : ℕ}
-    {units : List ℕ}
-    → PutsPieces encode_utf8 Means before after src n → before.written ≡ [] → after.written ≡ units
-    → IsUtf8 units
-gathered_utf8 {before = before} {after = after} {units = units} puts w a =
-    text_utf8 units puts.text puts.scalars (written_is before after _ units puts.written w a)
 
 pub appends_gathered : {Means : List ℕ → ℕ → Type 0} {before after o then : Output} {src : List ℕ}
     {n : ℕ}

@@ -1,5 +1,5 @@
 -- The code units of a text, and the characters of code units.
-use Rattle.std.proofs.Common.{◌==◌, Option, Some, None, MatchOption, ◌≡◌, ℕ, ◌+◌, zero, suc, ◌<◌, ◌≤◌, Bool, true}
+use Rattle.std.proofs.Common.{◌==◌, Option, Some, None, MatchOption, ◌≡◌, ℕ, ◌+◌, zero, suc, ◌<◌, ◌≤◌}
 use Rattle.std.proofs.Common.{false, List, [], ◌∷◌, ◌++◌, length, get_or, drop, refl, ap, ◌∙◌, sym, arith}
 use Rattle.std.proofs.Common.{length-append, map, encode_utf8, chars, IsUtf8, nat_le, nat_lt, ◌&&◌, ◌⊎◌}
 use Rattle.std.proofs.Common.{inl, inr}
@@ -10,8 +10,9 @@ use Rattle.enc_units.proofs.LengthLemmas.{lengths}
 use Rattle.enc_units.specs.Output.{units_of_text}
 use Rattle.enc_units.specs.Surrogates.{lossy_unit_char, IsSurrogatePair, IsFirstUtf16Char}
 use Rattle.std.specs.Option.{unwrap_or}
+use Rattle.std.proofs.lemmas.Bool.{cases_Bool}
 use Rattle.std.proofs.lemmas.Bool.Decides.{nat_tests}
-use Rattle.std.proofs.lemmas.List.{drop-drop, get_or-drop}
+use Rattle.std.proofs.lemmas.List.{drop-drop}
 use Rattle.enc_units.proofs.UnitsLemmas.{one_unit, two_units}
 use Rattle.enc_units.proofs.Utf8CharsLemmas.{their_units}
 
@@ -30,13 +31,9 @@ pub lossy_pair : (u v : ℕ) (us : List ℕ) → IsSurrogatePair u v
     → utf16_lossy_chars (u ∷ v ∷ us) ≡ surrogate_pair_char u v ∷ utf16_lossy_chars us
 lossy_pair u v us p = ap (map (λ o. unwrap_or o 0xFFFD)) (utf16_chars_pair u v us p)
 
-true_or_false : (t : Bool) → (t ≡ true) ⊎ (t ≡ false)
-true_or_false true = inl refl
-true_or_false false = inr refl
-
 lone_narrow : (u : ℕ) → u < 0x1_0000 → lossy_unit_char u < 0x1_0000
 lone_narrow u h =
-    elim (true_or_false (nat_le 0xD800 u && nat_lt u 0xE000))
+    elim (cases_Bool (nat_le 0xD800 u && nat_lt u 0xE000))
     [ inl e ↦ rw e (omega arith) | inr e ↦ rw e h ]
 
 pub first_lone : (us : List ℕ) → 1 ≤ length us → get_or us 0 0 < 0x1_0000
@@ -60,7 +57,7 @@ first_pair (u ∷ v ∷ us) h p = record {
 }
 
 decide_pair : (u v : ℕ) → IsSurrogatePair u v ⊎ (IsSurrogatePair u v → ⊥)
-decide_pair u v = elim (true_or_false (is_high_surrogate u && is_low_surrogate v)) [
+decide_pair u v = elim (cases_Bool (is_high_surrogate u && is_low_surrogate v)) [
   | inl e ↦ inl (grind (arith, nat_tests))
   | inr e ↦ inr (λ p. grind (arith, nat_tests))
 ]
@@ -155,7 +152,7 @@ some_units (u ∷ us) h = omega arith
 -- a first unit beyond ASCII is of a character beyond ASCII
 
 high_lone : (u : ℕ) → 0x80 ≤ u → 0x80 ≤ lossy_unit_char u
-high_lone u h = elim (true_or_false (nat_le 0xD800 u && nat_lt u 0xE000)) [
+high_lone u h = elim (cases_Bool (nat_le 0xD800 u && nat_lt u 0xE000)) [
   | inl e ↦ rw e
       (omega arith)
   | inr e ↦ rw e h
@@ -176,9 +173,3 @@ beyond_ascii (u ∷ v ∷ us) c n begins is_beyond_ascii = elim (decide_pair u v
   | inr p ↦ let same = heads (sym (lossy_lone u (v ∷ us) p) ∙ begins.chars) in
       omega (arith, same, high_lone u is_beyond_ascii)
 ]
-
-pub first_unit : (at : ℕ) (us rest : List ℕ) → rest ≡ drop at us → 0x80 ≤ get_or us at 0
-    → 0x80 ≤ get_or rest 0 0
-first_unit at us rest e h =
-    let place : at + 0 ≡ at = omega arith in
-    omega (arith, ap (λ z. get_or z 0 0) e, get_or-drop at us 0 0, ap (λ k. get_or us k 0) place, h)

@@ -1,12 +1,11 @@
 -- Characters of one code unit of UTF-16, and their UTF-8 as words.
-use Rattle.std.proofs.Common.{◌≡◌, ℕ, zero, suc, ◌+◌, ◌-◌, ◌*◌, ◌/◌, ◌%◌, ◌<◌, ◌≤◌, Bool, List, [], ◌∷◌, ◌++◌, map}
+use Rattle.std.proofs.Common.{◌≡◌, ℕ, zero, suc, ◌+◌, ◌*◌, ◌/◌, ◌%◌, ◌<◌, ◌≤◌, Bool, List, [], ◌∷◌, ◌++◌, map}
 use Rattle.std.proofs.Common.{length}
-use Rattle.std.proofs.Common.{get_or, drop}
-use Rattle.std.proofs.Common.{take, refl, ap, ◌∙◌, sym, subst, arith, inl, inr, append_assoc, append-nil}
-use Rattle.std.proofs.lemmas.Bool.{and_parts, cases_lt, lt-ltb, le-ltb}
-use Rattle.std.proofs.lemmas.List.{take_all}
-use Rattle.std.proofs.lemmas.Simd.{take_more_put_chunk, length-put_chunk}
-use Rattle.std.proofs.lemmas.Str.{encode_ascii}
+use Rattle.std.proofs.Common.{get_or}
+use Rattle.std.proofs.Common.{take, refl, ap, ◌∙◌, sym, subst, arith, append_assoc, append-nil}
+use Rattle.std.proofs.lemmas.Bool.{and_parts, lt-ltb, le-ltb}
+use Rattle.std.proofs.lemmas.List.{take_all, map-id}
+use Rattle.std.proofs.lemmas.Simd.{take_more_put_chunk, Each1-get_or, Each1-chunk}
 use Rattle.std.proofs.Math.Seq.{take-suc}
 use Rattle.std.specs.Char.{encode_utf8}
 use Rattle.std.specs.Char.Escape.{encode_utf16}
@@ -15,14 +14,15 @@ use Rattle.std.specs.Int.{to_le_bytes}
 use lib.Lanes.{Each1, put_chunk}
 use mir.Syntax.{w16, w32}
 use mir.Val.{Fits}
+use Rattle.enc_units.proofs.PieceListLemmas.{own_text}
 use Rattle.enc_units.proofs.LengthLemmas.{lengths}
 use Rattle.enc_units.specs.CodeUnits.{unit_of, units_of_bytes, AreCodeUnits, unit_word, bytes_of_words}
 use Rattle.enc_units.specs.Gathering.{GathersChars}
 use Rattle.enc_units.specs.Output.{AreScalars, units_of_text}
 use Rattle.enc_units.specs.Pieces.{ReadsPieces}
 use Rattle.enc_units.specs.Validity.{AreAscii}
-use Rattle.enc_units.proofs.GatherLemmas.{gathers_then, stored_lanes}
-use Rattle.enc_units.proofs.Utf8FormLemmas.{utf8_two, utf8_three}
+use Rattle.enc_units.proofs.GatherLemmas.{stored_lanes}
+use Rattle.enc_units.proofs.Utf8FormLemmas.{Form, One, Two, Three, Four, form_of}
 use Rattle.enc_units.proofs.PiecesLemmas.{reads_none, reads_one, reads_then, reads_wider}
 use Rattle.enc_units.proofs.ScalarLemmas.{ascii_scalars}
 use Rattle.enc_units.proofs.UnitsLemmas.{one_unit}
@@ -46,49 +46,28 @@ three_same : {a b c x y z : ℕ} → a ≡ x → b ≡ y → c ≡ z → a ∷ b
 three_same {b = b} {c = c} {x = x} e f g = ap (λ t. t ∷ b ∷ c ∷ []) e
     ∙ ap (λ t. x ∷ t) (two_same f g)
 
-word_of_one : (u : ℕ) → u < 128 → unit_word u ≡ 16777216 + u
-word_of_one u h = rw (lt-ltb u 128 h) (omega arith)
-
-word_of_two : (u : ℕ) → 128 ≤ u → u < 2048 → unit_word u ≡ 33554432 + 32960 + u / 64 + u % 64 * 256
-word_of_two u l h = rw (le-ltb u 128 l, lt-ltb u 2048 h) (omega arith)
-
-word_of_three : (u : ℕ) → 2048 ≤ u
-    → unit_word u ≡ 58720256 + 32992 + u / 4096 + u / 64 % 64 * 256 + u % 64 * 65536
-word_of_three u l = rw (le-ltb u 128 (omega arith), le-ltb u 2048 l) (omega arith)
-
-one_spelt : (w u : ℕ) → u < 128 → w ≡ 16777216 + u → Spells w (encode_utf8 u)
-one_spelt w u h e = spelt w 1 (encode_utf8 u) (omega arith) (omega arith)
-    (ap (λ b. b ∷ []) low ∙ sym (encode_ascii u h))
-  where
-    low : w % 256 ≡ u
-    low = omega arith
-
-two_spelt : (w u : ℕ) → 128 ≤ u → u < 2048 → w ≡ 33554432 + 32960 + u / 64 + u % 64 * 256
-    → Spells w (encode_utf8 u)
-two_spelt w u l h e = spelt w 2 (encode_utf8 u) (omega arith) (omega arith)
-    (two_same (omega arith) (omega arith) ∙ sym (utf8_two u l h))
-
-three_spelt : (w u : ℕ) → 2048 ≤ u → u < 65536
-    → w ≡ 58720256 + 32992 + u / 4096 + u / 64 % 64 * 256 + u % 64 * 65536
-    → Spells w (encode_utf8 u)
-three_spelt w u l h e =
-    spelt w 3 (encode_utf8 u) (omega arith) (omega arith)
-    (three_same (omega arith) (omega arith) (omega arith) ∙ sym (utf8_three u l h))
-
-word_spelt : (u : ℕ) → u < 65536 → Spells (unit_word u) (encode_utf8 u)
-word_spelt u h = elim (cases_lt u 128) [
-  | inl is_ascii ↦ one_spelt (unit_word u) u is_ascii (word_of_one u is_ascii)
-  | inr beyond_ascii ↦ elim (cases_lt u 2048) [
-    | inl two_bytes ↦ two_spelt (unit_word u) u beyond_ascii two_bytes
-        (word_of_two u beyond_ascii two_bytes)
-    | inr three_bytes ↦ three_spelt (unit_word u) u three_bytes h (word_of_three u three_bytes)
-  ]
-]
+word_spelt : (u : ℕ) → u < 65536 → Form u → Spells (unit_word u) (encode_utf8 u)
+word_spelt u fits (One low code) =
+    let word : unit_word u ≡ 16777216 + u = rw (lt-ltb u 128 low) (omega arith) in
+    let byte : (16777216 + u) % 256 ≡ u = omega arith in
+    rw (word, code) (spelt _ 1 _ (omega arith) (omega arith) (ap (λ b. b ∷ []) byte))
+word_spelt u fits (Two from below code) =
+    let word : unit_word u ≡ 33554432 + 32960 + u / 64 + u % 64 * 256 =
+    rw (le-ltb u 128 from, lt-ltb u 2048 below) (omega arith) in
+    rw (word, code)
+    (spelt _ 2 _ (omega arith) (omega arith) (two_same (omega arith) (omega arith)))
+word_spelt u fits (Three from below code) =
+    let word : unit_word u
+    ≡ 58720256 + 32992 + u / 4096 + u / 64 % 64 * 256 + u % 64 * 65536 =
+    rw (le-ltb u 128 (omega arith), le-ltb u 2048 from) (omega arith) in
+    rw (word, code) (spelt _ 3 _ (omega arith) (omega arith)
+    (three_same (omega arith) (omega arith) (omega arith)))
+word_spelt u fits (Four from code) = absurd (omega arith)
 
 pub few_bytes : (us : List ℕ) → Each1 (Fits w16) us
     → All (λ word. word / 0x100_0000 ≤ 4) (map unit_word us)
 few_bytes [] fit k d h = absurd (omega arith)
-few_bytes (u ∷ us) fit zero d h = (word_spelt u fit.0.fits).0
+few_bytes (u ∷ us) fit zero d h = (word_spelt u fit.0.fits (form_of u)).0
 few_bytes (u ∷ us) fit (suc k) d h = few_bytes us fit.1 k d (omega arith)
 
 pub words_spelt : (us : List ℕ) → Each1 (Fits w16) us → (n : ℕ)
@@ -96,7 +75,7 @@ pub words_spelt : (us : List ℕ) → Each1 (Fits w16) us → (n : ℕ)
 words_spelt us fit zero = refl
 words_spelt [] fit (suc n) = refl
 words_spelt (u ∷ us) fit (suc n) =
-    ap (λ z. z ++ bytes_of_words (take n (map unit_word us))) (word_spelt u fit.0.fits).1
+    ap (λ z. z ++ bytes_of_words (take n (map unit_word us))) (word_spelt u fit.0.fits (form_of u)).1
     ∙ ap (λ z. encode_utf8 u ++ z) (words_spelt us fit.1 n)
 
 -- one more word that is stored
@@ -129,15 +108,11 @@ stored_word words count inside front {mid} b m a =
 
 -- code units that are ASCII, as bytes
 
-same_lanes : (us : List ℕ) → map (λ u. u) us ≡ us
-same_lanes [] = refl
-same_lanes (u ∷ us) = ap (λ z. u ∷ z) (same_lanes us)
-
 pub stored_ascii : (at : ℕ) (old us : List ℕ) → length us ≡ 8 → at + 8 ≤ length old → AreAscii us
     → take (at + 8) (put_chunk at old (map (λ u. u) us)) ≡ take at old
     ++ units_of_text encode_utf8 (take 8 us)
 stored_ascii at old us long room a =
-    ap (λ z. take (at + 8) (put_chunk at old z)) (same_lanes us)
+    ap (λ z. take (at + 8) (put_chunk at old z)) (map-id us)
     ∙ take_more_put_chunk at old us (at + 8) (omega arith) room
     ∙ ap (λ z. take at old ++ z) (sym (ap (units_of_text encode_utf8) (take_all 8 us (omega arith))
     ∙ ascii_units us a))
@@ -148,11 +123,8 @@ front_ascii us long a = subst AreScalars (sym (take_all 8 us (omega arith))) (as
 -- code units are their own UTF-16, if none is above U+FFFF
 pub units_alone : (us : List ℕ) → Each1 (Fits w16) us → (n : ℕ)
     → units_of_text encode_utf16 (take n us) ≡ take n us
-units_alone us fit zero = refl
-units_alone [] fit (suc n) = refl
-units_alone (u ∷ us) fit (suc n) =
-    ap (λ z. z ++ units_of_text encode_utf16 (take n us)) (one_unit u fit.0.fits)
-    ∙ ap (λ z. u ∷ z) (units_alone us fit.1 n)
+units_alone us fit n = own_text encode_utf16 (take n us) (λ k d inside.
+    one_unit _ (Each1-get_or (Fits w16) (take n us) k d inside (Each1-chunk (Fits w16) 0 n us fit)).fits)
 
 -- characters of one code unit each
 
@@ -197,45 +169,15 @@ module _ {Means : List ℕ → ℕ → Type 0} (big : Bool) (mean : AreCodeUnits
       })
 
   -- the same in UTF-16, where all eight are stored as they are
-  pub gathers_lanes : (n at : ℕ) {read : ℕ} {src units : List ℕ} (buffer : List ℕ) → n ≤ 8
-      → 16 ≤ length src - read
-      → at + 8 ≤ length buffer
-      → units ≡ units_of_bytes big (take 16 (drop read src)) → AreScalars (take n units)
+  pub gathers_lanes : (n at : ℕ) {src units : List ℕ} (buffer : List ℕ) → n ≤ 8
+      → 16 ≤ length src → at + 8 ≤ length buffer
+      → units ≡ units_of_bytes big (take 16 src) → AreScalars (take n units)
       → units_of_text encode_utf16 (take n units) ≡ take n units
-      → GathersChars encode_utf16 Means src read [] (take at buffer)
-      → GathersChars encode_utf16 Means src (read + 2 * n) []
+      → GathersChars encode_utf16 Means src (2 * n) (take at buffer)
       (take (at + n) (put_chunk at buffer units))
-  gathers_lanes n at {read} {src} {units} buffer few inside room are_units are_scalars alone
-      gathers =
-      let rest = drop read src in
-      let long : 16 ≤ length rest = omega (arith, lengths) in
-      let bytes : length (take 16 rest) ≡ 16 = omega (arith, lengths) in
-      let eight = ap length are_units ∙ units_long big 8 (take 16 rest) bytes in
-      gathers_then gathers
-      (gathers_units n few long are_units are_scalars
+  gathers_lanes n at {src} {units} buffer few long room are_units are_scalars alone =
+      let bytes : length (take 16 src) ≡ 16 = omega (arith, lengths) in
+      let eight = ap length are_units ∙ units_long big 8 (take 16 src) bytes in
+      gathers_units n few long are_units are_scalars
       (stored_lanes at n buffer units (omega (arith, eight)) (omega (arith, eight))
-      ∙ ap (λ z. take at buffer ++ z) (sym alone)))
-
-  -- sixteen of them
-  pub gathers_both : (at : ℕ) {read : ℕ} {src units more : List ℕ} (buffer : List ℕ)
-      → 32 ≤ length src - read → at + 16 ≤ length buffer
-      → units ≡ units_of_bytes big (take 16 (drop read src)) → AreScalars (take 8 units)
-      → units_of_text encode_utf16 (take 8 units) ≡ take 8 units
-      → more ≡ units_of_bytes big (take 16 (drop (read + 16) src)) → AreScalars (take 8 more)
-      → units_of_text encode_utf16 (take 8 more) ≡ take 8 more
-      → GathersChars encode_utf16 Means src read [] (take at buffer)
-      → GathersChars encode_utf16 Means src (read + 32) []
-      (take (at + 16) (put_chunk (at + 8) (put_chunk at buffer units) more))
-  gathers_both at {read} {src} {units} {more} buffer inside room are_units are_scalars alone
-      more_are_units
-      more_are_scalars alone_too gathers =
-      let first = put_chunk at buffer units in
-      let both = put_chunk (at + 8) first more in
-      let read_all : read + 16 + 2 * 8 ≡ read + 32 = omega arith in
-      let put_all : at + 8 + 8 ≡ at + 16 = omega arith in
-      subst (λ k. GathersChars encode_utf16 Means src k [] (take (at + 16) both)) read_all
-      (subst (λ k. GathersChars encode_utf16 Means src (read + 16 + 2 * 8) [] (take k both)) put_all
-      (gathers_lanes 8 (at + 8) first (omega arith) (omega arith)
-      (omega (arith, length-put_chunk at buffer units)) more_are_units more_are_scalars alone_too
-      (gathers_lanes 8 at buffer (omega arith) (omega arith) (omega arith) are_units are_scalars
-      alone gathers)))
+      ∙ ap (λ z. take at buffer ++ z) (sym alone))

@@ -2,7 +2,7 @@
 use Rattle.std.proofs.Common.{◌≡◌, ℕ, zero, suc, ◌+◌, ◌/◌, ◌<◌, ◌≤◌, List, [], ◌∷◌, ◌++◌, length, get_or}
 use Rattle.std.proofs.Common.{take, drop, refl, ap, ◌∙◌, sym, subst, arith, append_assoc, append-nil}
 use Rattle.std.proofs.Common.{take-add, drop-cons}
-use Rattle.std.proofs.lemmas.List.{length-take-le}
+use Rattle.std.proofs.lemmas.List.{length-take-le, take-take}
 use Rattle.std.proofs.lemmas.Simd.{put_chunk_is}
 use Rattle.std.proofs.Math.Seq.{take-append_seam, drop-append_seam}
 use Rattle.std.specs.Char.{IsScalar, encode_utf8}
@@ -12,10 +12,10 @@ use lib.Lanes.{put_chunk}
 use Rattle.enc_units.specs.Output.{Output, with_appended, units_of_text}
 use Rattle.enc_units.specs.Validity.{AreAscii}
 use Rattle.enc_units.specs.Pieces.{PutsPieces}
-use Rattle.enc_units.specs.Mappings.{AreWrittenAsThemselves, KeepsAscii}
+use Rattle.enc_units.specs.Mappings.{AreWrittenAsThemselves}
 use Rattle.enc_units.specs.Gathering.{GathersChars}
 use Rattle.enc_units.specs.Pairs.{MeansWord, MeansUnit}
-use Rattle.enc_units.proofs.PiecesLemmas.{reads_none, reads_then, reads_one, reads_own, own_ascii, units-append}
+use Rattle.enc_units.proofs.PiecesLemmas.{reads_none, reads_then, reads_one, reads_own, units-append}
 use Rattle.enc_units.proofs.LengthLemmas.{lengths}
 use Rattle.enc_units.proofs.UnitsLemmas.{one_unit}
 use Rattle.enc_units.proofs.ScalarLemmas.{one_scalar, scalars-append, ascii_scalars}
@@ -45,6 +45,14 @@ pub stored_lanes : (at n : ℕ) (old ys : List ℕ) → at + length ys ≤ lengt
 stored_lanes at n old ys h k =
     ap (take (at + n)) (put_chunk_is at old ys h) ∙ stored_front at n old ys _ (omega arith) k
 
+-- the first n elements of a slice of m
+pub stored_slice : (at n m : ℕ) (old src : List ℕ) → m ≤ length src → at + m ≤ length old → n ≤ m
+    → take (at + n) (put_chunk at old (take m src)) ≡ take at old ++ take n src
+stored_slice at n m old src read room few =
+    let long = length-take-le m src read in
+    stored_lanes at n old (take m src) (omega arith) (omega arith)
+    ∙ ap (λ z. take at old ++ z) (take-take n m src few)
+
 -- gathered characters
 
 module _ {units_of : ℕ → List ℕ} {Means : List ℕ → ℕ → Type 0} where
@@ -73,47 +81,26 @@ module _ {units_of : ℕ → List ℕ} {Means : List ℕ → ℕ → Type 0} whe
             ∙ ap (λ z. before ++ z) (sym (units-append units_of first.text then_more.text));
       }
 
-  -- the same, where the rest is a list of its own
-  pub gathers_on : {src rest : List ℕ} {a n : ℕ} {before mid after : List ℕ}
-      → GathersChars units_of Means src a before mid → rest ≡ drop a src
-      → GathersChars units_of Means rest n mid after
-      → GathersChars units_of Means src (a + n) before after
-  gathers_on {n = n} {mid = mid} {after = after} first rest_is then_more =
-      gathers_then first
-      (subst (λ z. GathersChars units_of Means z n mid after) rest_is then_more)
+  -- bytes that are their own characters
+  pub gathers_kept : {src : List ℕ} {n : ℕ} {before after : List ℕ} → n ≤ length src
+      → AreWrittenAsThemselves Means (take n src)
+      → after ≡ before ++ units_of_text units_of (take n src)
+      → GathersChars units_of Means src n before after
+  gathers_kept {src} {n} within own stored = record {
+    text = take n src;
+    scalars = ascii_scalars (take n src) (λ k d inside. (own k d inside).0);
+    reads = reads_own within own;
+    written = stored;
+  }
 
-  -- bytes that are their own characters, and their own code units
+  -- and their own code units
   pub gathers_own : {src : List ℕ} {n : ℕ} {before after : List ℕ}
       → ((bs : List ℕ) → AreAscii bs → units_of_text units_of bs ≡ bs) → n ≤ length src
       → AreWrittenAsThemselves Means (take n src) → after ≡ before ++ take n src
       → GathersChars units_of Means src n before after
   gathers_own {src} {n} {before} own_units within own stored =
-      let are_ascii : AreAscii (take n src) = λ k d inside. (own k d inside).0 in
-      record {
-        text = take n src;
-        scalars = ascii_scalars (take n src) are_ascii;
-        reads = reads_own within own;
-        written = stored ∙ ap (λ z. before ++ z) (sym (own_units (take n src) are_ascii));
-      }
-
-  pub gathers_ascii : {src : List ℕ} {n : ℕ} {before after : List ℕ} → KeepsAscii Means
-      → ((bs : List ℕ) → AreAscii bs → units_of_text units_of bs ≡ bs) → n ≤ length src
-      → AreAscii (take n src) → after ≡ before ++ take n src
-      → GathersChars units_of Means src n before after
-  gathers_ascii {src} {n} keeps own_units within are_ascii stored =
-      gathers_own own_units within (own_ascii Means (take n src) keeps are_ascii) stored
-
-  -- the same, where the code units are those of the text
-  pub gathers_kept_ascii : {src : List ℕ} {n : ℕ} {before after : List ℕ} → KeepsAscii Means
-      → n ≤ length src → AreAscii (take n src)
-      → after ≡ before ++ units_of_text units_of (take n src)
-      → GathersChars units_of Means src n before after
-  gathers_kept_ascii {src} {n} keeps within are_ascii stored = record {
-    text = take n src;
-    scalars = ascii_scalars (take n src) are_ascii;
-    reads = reads_own within (own_ascii Means (take n src) keeps are_ascii);
-    written = stored;
-  }
+      let units = own_units (take n src) (λ k d inside. (own k d inside).0) in
+      gathers_kept within own (stored ∙ ap (λ z. before ++ z) (sym units))
 
   pub gathers_one : {src : List ℕ} {n : ℕ} (c : ℕ) {before after : List ℕ} → 0 < n
       → n ≤ length src → IsScalar c → Means (take n src) c → after ≡ before ++ units_of c
@@ -136,6 +123,29 @@ module _ {units_of : ℕ → List ℕ} {Means : List ℕ → ℕ → Type 0} whe
     fits = omega (arith, ap length gathers.written);
     written = appended ∙ ap (with_appended before) gathers.written;
   }
+
+-- the invariant of a loop that gathers characters: `read` bytes are read, and the first `written`
+-- elements of the buffer, at most `limit`, have their code units
+pub record Gathered (units_of : ℕ → List ℕ) (Means : List ℕ → ℕ → Type 0)
+    (src first buffer : List ℕ) (room limit read written : ℕ) : Type 0 where
+  pub fits : room ≤ length buffer
+  pub bound : written ≤ limit
+  pub long : length buffer ≡ length first
+  pub gathers : GathersChars units_of Means src read [] (take written buffer)
+
+-- the loop goes on
+pub gathered_then : {units_of : ℕ → List ℕ} {Means : List ℕ → ℕ → Type 0}
+    {src first buffer new : List ℕ} {room limit read written n end : ℕ}
+    → Gathered units_of Means src first buffer room limit read written
+    → length new ≡ length buffer → end ≤ limit
+    → GathersChars units_of Means (drop read src) n (take written buffer) (take end new)
+    → Gathered units_of Means src first new room limit (read + n) end
+gathered_then gathered long bound more = record {
+  fits = omega (arith, gathered.fits, long);
+  bound = bound;
+  long = long ∙ gathered.long;
+  gathers = gathers_then gathered.gathers more;
+}
 
 -- a byte that is a character
 module _ {Means : List ℕ → ℕ → Type 0} {src : List ℕ} {read : ℕ} {before mid after : List ℕ}

@@ -1,15 +1,13 @@
 -- Where text is written over other text, all is well-formed once the rest of a character is made
 -- 00.
-use Rattle.std.proofs.Common.{◌≡◌, ℕ, zero, suc, ◌+◌, ◌-◌, ◌/◌, ◌<◌, ◌≤◌, ◌&&◌, Bool, true, false, nat_le, nat_lt}
-use Rattle.std.proofs.Common.{if◌then◌else◌, List, [], ◌∷◌, ◌++◌, length, take, drop, get_or, refl, ap, ◌∙◌, sym, subst}
-use Rattle.std.proofs.Common.{arith, append_assoc, drop-cons, drop-drop, inl, inr}
+use Rattle.std.proofs.Common.{◌≡◌, ℕ, zero, suc, ◌+◌, ◌-◌, ◌<◌, ◌≤◌, ◌&&◌, Bool, true, false, nat_le, nat_lt}
+use Rattle.std.proofs.Common.{List, [], ◌∷◌, ◌++◌, length, take, drop, refl, ap, ◌∙◌, sym, subst}
+use Rattle.std.proofs.Common.{arith, drop-drop, inl, inr}
 use Rattle.std.proofs.lemmas.Bool.{and_parts, cases_lt}
 use Rattle.std.proofs.lemmas.Bool.Decides.{nat_tests}
-use Rattle.std.proofs.lemmas.List.{take-append-drop, drop-append-le, length-take-le, take-take, take_more_set, take-set}
-use Rattle.std.proofs.lemmas.List.{drop-set-lt}
+use Rattle.std.proofs.lemmas.List.{take-append-drop, drop-append-le}
 use Rattle.std.proofs.lemmas.Str.{IsUtf8-append, IsUtf8-encode, encode_ascii}
-use Rattle.std.proofs.Math.ListN.{set, length-set}
-use Rattle.std.proofs.Math.Seq.{drop-append-add, drop-append_seam}
+use Rattle.std.proofs.Math.Seq.{drop-nil, drop-append-add}
 use Rattle.std.specs.Char.{encode_utf8}
 use Rattle.std.specs.Str.{IsUtf8, all_scalars, encode_utf8_all}
 use Rattle.enc_units.specs.Output.{AreScalars, units_of_text}
@@ -30,14 +28,6 @@ AreContinuations-drop (suc n) (b ∷ bs) continue = AreContinuations-drop n bs c
 abbrev is_continuation : ℕ → Bool
 is_continuation b = nat_le 0x80 b && nat_lt b 0xC0
 
-cond_no : {A : Type 0} (b : Bool) (x y : A) → b ≡ false → (if b then x else y) ≡ y
-cond_no true x y e = cc
-cond_no false x y e = refl
-
-cond_yes : {A : Type 0} (b : Bool) (x y : A) → b ≡ true → (if b then x else y) ≡ x
-cond_yes true x y e = refl
-cond_yes false x y e = cc
-
 -- such bytes become 00
 all_cleared : (bs z : List ℕ) → AreContinuations bs → IsUtf8 (without_continuations z)
     → IsUtf8 (without_continuations (bs ++ z))
@@ -47,25 +37,20 @@ all_cleared (b ∷ bs) z continue utf8 =
     let below = continue.0.1 in
     let test : is_continuation b ≡ true = grind (arith, nat_tests, from, below) in
     let rest = without_continuations (bs ++ z) in
-    subst IsUtf8 (sym (cond_yes _ _ _ test))
-    (subst (λ x. IsUtf8 (x ++ rest)) (encode_ascii 0 (omega arith))
+    rw test (subst (λ x. IsUtf8 (x ++ rest)) (encode_ascii 0 (omega arith))
     (IsUtf8-append (encode_utf8 0) rest (IsUtf8-encode 0 refl) (all_cleared bs z continue.1 utf8)))
 
 -- what begins with a character stays
+
+stays : (b : ℕ) (z : List ℕ) → is_continuation b ≡ false → without_continuations (b ∷ z) ≡ b ∷ z
+stays b z test = rw test refl
+
 char_stays : (c : ℕ) (z : List ℕ) → Form c
     → without_continuations (encode_utf8 c ++ z) ≡ encode_utf8 c ++ z
-char_stays c z (One low code) =
-    let test : is_continuation c ≡ false = grind (arith, nat_tests, low) in
-    subst (λ x. without_continuations (x ++ z) ≡ x ++ z) (sym code) (cond_no _ _ _ test)
-char_stays c z (Two from below code) =
-    let test : is_continuation (192 + c / 64) ≡ false = grind (arith, nat_tests) in
-    subst (λ x. without_continuations (x ++ z) ≡ x ++ z) (sym code) (cond_no _ _ _ test)
-char_stays c z (Three from below code) =
-    let test : is_continuation (224 + c / 4096) ≡ false = grind (arith, nat_tests) in
-    subst (λ x. without_continuations (x ++ z) ≡ x ++ z) (sym code) (cond_no _ _ _ test)
-char_stays c z (Four from code) =
-    let test : is_continuation (240 + c / 262144) ≡ false = grind (arith, nat_tests) in
-    subst (λ x. without_continuations (x ++ z) ≡ x ++ z) (sym code) (cond_no _ _ _ test)
+char_stays c z (One low code) = rw code (stays _ _ (grind (arith, nat_tests)))
+char_stays c z (Two from below code) = rw code (stays _ _ (grind (arith, nat_tests)))
+char_stays c z (Three from below code) = rw code (stays _ _ (grind (arith, nat_tests)))
+char_stays c z (Four from code) = rw code (stays _ _ (grind (arith, nat_tests)))
 
 text_stays : (text : List ℕ) → all_scalars text ≡ true
     → without_continuations (encode_utf8_all text) ≡ encode_utf8_all text
@@ -74,15 +59,12 @@ text_stays (c ∷ text) scalars = char_stays c (encode_utf8_all text) (form_of c
 
 -- the bytes of a character after the first
 tail_by : (c : ℕ) → Form c → AreContinuations (drop 1 (encode_utf8 c))
-tail_by c (One low code) = subst (λ x. AreContinuations (drop 1 x)) (sym code) tt
-tail_by c (Two from below code) =
-    subst (λ x. AreContinuations (drop 1 x)) (sym code) ((omega arith, omega arith), tt)
+tail_by c (One low code) = rw code tt
+tail_by c (Two from below code) = rw code ((omega arith, omega arith), tt)
 tail_by c (Three from below code) =
-    subst (λ x. AreContinuations (drop 1 x)) (sym code)
-    ((omega arith, omega arith), ((omega arith, omega arith), tt))
+    rw code ((omega arith, omega arith), ((omega arith, omega arith), tt))
 tail_by c (Four from code) =
-    subst (λ x. AreContinuations (drop 1 x)) (sym code)
-    ((omega arith, omega arith), ((omega arith, omega arith), ((omega arith, omega arith), tt)))
+    rw code ((omega arith, omega arith), ((omega arith, omega arith), ((omega arith, omega arith), tt)))
 
 -- the rest of a character after its first bytes, and other text
 rest_by : (c n : ℕ) (z : List ℕ) → IsUtf8 (encode_utf8 c ++ z) → IsUtf8 (without_continuations z)
@@ -95,14 +77,10 @@ rest_by c (suc n) z utf8 rest_utf8 =
     (all_cleared _ z (AreContinuations-drop n (drop 1 (encode_utf8 c)) (tail_by c (form_of c)))
     rest_utf8)
 
-drop_nil : (n : ℕ) → ◌≡◌ {A = List ℕ} (drop n []) []
-drop_nil zero = refl
-drop_nil (suc n) = refl
-
 rest_of : (text : List ℕ) (n : ℕ) → all_scalars text ≡ true
     → IsUtf8 (without_continuations (drop n (encode_utf8_all text)))
 rest_of [] n scalars =
-    subst (λ x. IsUtf8 (without_continuations x)) (sym (drop_nil n)) ([], (refl, refl))
+    subst (λ x. IsUtf8 (without_continuations x)) (sym (drop-nil n)) ([], (refl, refl))
 rest_of (c ∷ text) n scalars =
     let parts = and_parts _ _ scalars in
     let rest = encode_utf8_all text in
@@ -140,50 +118,3 @@ pub record Cleared (at end : ℕ) (old new : List ℕ) : Type 0 where
   pub front : take at new ≡ take at old
   pub whole : take end new ++ without_continuations (drop end new)
       ≡ take at old ++ without_continuations (drop at old)
-
-pub goes_on : {at end : ℕ} {old new : List ℕ} → Cleared at end old new → end < length new
-    → 0x80 ≤ get_or new end 0 → get_or new end 0 < 0xC0 → Cleared at (end + 1) old (set new end 0)
-goes_on {at} {end} {old} {new} cleared inside from below =
-    let next : suc end ≡ end + 1 = omega arith in
-    let test : is_continuation (get_or new end 0) ≡ true = grind (arith, nat_tests, from, below) in
-    let zeroed = ap without_continuations (drop-cons new end 0 inside) ∙ cond_yes _ _ _ test
-    ∙ ap (λ k. 0 ∷ without_continuations (drop k new)) next in
-    record {
-      from = omega (arith, cleared.from);
-      within = omega (arith, length-set new end 0);
-      len = length-set new end 0 ∙ cleared.len;
-      front = sym (take-take at end (set new end 0) cleared.from)
-          ∙ ap (take at) (take-set new end 0) ∙ take-take at end new cleared.from ∙ cleared.front;
-      whole =
-          ap (λ z. z ++ without_continuations (drop (end + 1) (set new end 0)))
-          (take_more_set new end 0 inside)
-          ∙ ap (λ z. (take end new ++ 0 ∷ []) ++ without_continuations z)
-          (drop-set-lt (end + 1) new end 0 (omega arith))
-          ∙ append_assoc (take end new) (0 ∷ []) (without_continuations (drop (end + 1) new))
-          ∙ ap (λ z. take end new ++ z) (sym zeroed) ∙ cleared.whole;
-    }
-
--- where no byte of a rest is next, it is done
-pub ends : {at end : ℕ} {old new : List ℕ} → Cleared at end old new
-    → without_continuations (drop end new) ≡ drop end new
-    → drop at new ≡ without_continuations (drop at old)
-ends {at} {end} {old} {new} cleared done =
-    let rest = without_continuations (drop at old) in
-    let long = length-take-le at old (omega (arith, cleared.from, cleared.within, cleared.len)) in
-    ap (drop at) (sym (take-append-drop end new) ∙ ap (λ z. take end new ++ z) (sym done)
-    ∙ cleared.whole) ∙ ap (λ k. drop k (take at old ++ rest)) (sym long)
-    ∙ drop-append_seam (take at old) rest
-
-pub low_next : (end : ℕ) (new : List ℕ) → end < length new → get_or new end 0 < 0x80
-    → without_continuations (drop end new) ≡ drop end new
-low_next end new inside low =
-    let test : is_continuation (get_or new end 0) ≡ false = grind (arith, nat_tests, low) in
-    ap without_continuations (drop-cons new end 0 inside) ∙ cond_no _ _ _ test
-    ∙ sym (drop-cons new end 0 inside)
-
-pub high_next : (end : ℕ) (new : List ℕ) → end < length new → 0xC0 ≤ get_or new end 0
-    → without_continuations (drop end new) ≡ drop end new
-high_next end new inside high =
-    let test : is_continuation (get_or new end 0) ≡ false = grind (arith, nat_tests, high) in
-    ap without_continuations (drop-cons new end 0 inside) ∙ cond_no _ _ _ test
-    ∙ sym (drop-cons new end 0 inside)

@@ -2,6 +2,7 @@
 use Rattle.std.proofs.Common.{◌≡◌, ℕ, zero, suc, List, [], ◌∷◌, ◌++◌, refl, ap, ◌∙◌, sym, arith, append_assoc}
 use Rattle.std.proofs.lemmas.Bool.{and_parts}
 use Rattle.std.specs.Prelude.{All}
+use Rattle.std.proofs.lemmas.List.Elements.{All-tail}
 use Rattle.std.specs.Char.{IsScalar}
 use Rattle.enc_units.specs.Output.{AreScalars, units_of_text}
 use Rattle.enc_units.specs.Pieces.{Piece, piece_bytes, piece_chars, EachMeansChar}
@@ -31,13 +32,23 @@ AreScalars-all (c ∷ text) scalars zero d inside = (and_parts _ _ scalars).0
 AreScalars-all (c ∷ text) scalars (suc k) d inside =
     AreScalars-all text (and_parts _ _ scalars).1 k d (omega arith)
 
+-- where each character is its own code unit, the text is
+pub own_text : (units_of : ℕ → List ℕ) (text : List ℕ) → All (λ c. units_of c ≡ c ∷ []) text
+    → units_of_text units_of text ≡ text
+own_text units_of [] own = refl
+own_text units_of (c ∷ text) own =
+    rw (
+      own 0 0 (omega arith),
+      own_text units_of text
+          (All-tail (λ c. units_of c ≡ c ∷ []) c text own),
+    ) refl
+
 -- a byte that is its own character
 abbrev pub alone : ℕ → List ℕ
 alone b = b ∷ []
 
 pub units_alone : (bytes : List ℕ) → units_of_text alone bytes ≡ bytes
-units_alone [] = refl
-units_alone (b ∷ bytes) = ap (λ z. b ∷ z) (units_alone bytes)
+units_alone bytes = own_text alone bytes (λ k d inside. refl)
 
 module _ (code : ℕ → List ℕ) where
   abbrev pub pieces_of : List ℕ → List Piece

@@ -109,48 +109,40 @@ module _ {units_of : ℕ → List ℕ} {Means : List ℕ → ℕ → Type 0} whe
   }
 
   -- more pieces after them
-  pub then : {before mid after : Output} {src : List ℕ} {a n : ℕ}
-      → PutsPieces units_of Means before mid src a
-      → PutsPieces units_of Means mid after (drop a src) n
+  pub then_rest : {before mid after : Output} {src rest : List ℕ} {a n : ℕ} → rest ≡ drop a src
+      → PutsPieces units_of Means before mid src a → PutsPieces units_of Means mid after rest n
       → PutsPieces units_of Means before after src (a + n)
-  then {before} {mid} first then_more =
+  then_rest {before} {mid} rest_is first then_more =
       let first_units = units_of_text units_of first.text in
       let more_units = units_of_text units_of then_more.text in
       let both = units-append units_of first.text then_more.text in
+      let room = room_left before mid first_units first.written in
       record {
         text = first.text ++ then_more.text;
         scalars = scalars-append first.text then_more.text first.scalars then_more.scalars;
-        reads = reads_then first.reads then_more.reads;
-        fits = omega (
-          arith,
-          ap length both,
-          lengths,
-          first.fits,
-          then_more.fits,
-          room_left before mid first_units first.written,
-        );
+        reads = reads_then first.reads (rw rest_is at then_more.reads);
+        fits = omega (arith, ap length both, lengths, first.fits, then_more.fits, room);
         written = then_more.written ∙ ap (λ o. with_appended o more_units) first.written
             ∙ with_appended-with_appended before first_units more_units
             ∙ ap (with_appended before) (sym both);
       }
 
-  -- the same, where the rest is a list of its own
-  pub then_rest : {before mid after : Output} {src rest : List ℕ} {a n : ℕ} → rest ≡ drop a src
-      → PutsPieces units_of Means before mid src a → PutsPieces units_of Means mid after rest n
-      → PutsPieces units_of Means before after src (a + n)
-  then_rest {mid = mid} {after = after} {n = n} rest_is first then_more =
-      then first (subst (λ z. PutsPieces units_of Means mid after z n) rest_is then_more)
-
-  -- ASCII bytes
-  pub ascii_pieces : {before after : Output} {src : List ℕ} {n : ℕ} → KeepsAscii Means
-      → PutsAscii units_of before after src n → PutsPieces units_of Means before after src n
-  ascii_pieces {src = src} {n = n} keeps puts = record {
+  -- bytes that are their own characters
+  written_pieces : {before after : Output} {src : List ℕ} {n : ℕ}
+      → AreWrittenAsThemselves Means (take n src) → PutsAscii units_of before after src n
+      → PutsPieces units_of Means before after src n
+  written_pieces {src = src} {n = n} own puts = record {
     text = take n src;
     scalars = ascii_scalars (take n src) puts.ascii;
-    reads = reads_own puts.within (own_ascii Means (take n src) keeps puts.ascii);
+    reads = reads_own puts.within own;
     fits = puts.fits;
     written = puts.written;
   }
+
+  pub ascii_pieces : {before after : Output} {src : List ℕ} {n : ℕ} → KeepsAscii Means
+      → PutsAscii units_of before after src n → PutsPieces units_of Means before after src n
+  ascii_pieces {src = src} {n = n} keeps puts =
+      written_pieces (own_ascii Means (take n src) keeps puts.ascii) puts
 
   -- one piece
   pub one_piece : {before after : Output} {src : List ℕ} {n : ℕ} (c : ℕ) → 0 < n → n ≤ length src
@@ -175,7 +167,7 @@ module _ {units_of : ℕ → List ℕ} {Means : List ℕ → ℕ → Type 0} whe
       → after ≡ with_appended mid (units_of c)
       → PutsPieces units_of Means before after src (a + n)
   then_one c first some within means scalar test was_appended written =
-      then first (one_piece c some within scalar means (sym test ∙ was_appended) written)
+      then_rest refl first (one_piece c some within scalar means (sym test ∙ was_appended) written)
 
   -- the same, where the output is known to be as it was
   pub same_then : {before mid after : Output} {src : List ℕ} {n : ℕ} → after ≡ mid
@@ -200,14 +192,8 @@ module _ {units_of : ℕ → List ℕ} {Means : List ℕ → ℕ → Type 0} whe
       → AreWrittenAsThemselves Means (take m src) → PutsAscii units_of before after (take m src) n
       → PutsPieces units_of Means before after src n
   own_pieces {src = src} m {n} own puts =
-      let front = take m src in
-      puts_wider m refl (record {
-        text = take n front;
-        scalars = ascii_scalars (take n front) puts.ascii;
-        reads = reads_own puts.within (All-take (IsWrittenAsItself Means) n front own);
-        fits = puts.fits;
-        written = puts.written;
-      })
+      let own_front = All-take (IsWrittenAsItself Means) n (take m src) own in
+      puts_wider m refl (written_pieces own_front puts)
 
 -- what the bytes mean by one reading, they mean by another
 

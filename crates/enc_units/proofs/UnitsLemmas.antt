@@ -26,15 +26,6 @@ pub two_units : (c : ℕ) → 0x1_0000 ≤ c
     → encode_utf16 c ≡ (0xD800 + (c - 0x1_0000) / 0x400) ∷ (0xDC00 + (c - 0x1_0000) % 0x400) ∷ []
 two_units c h = rw (le-ltb c 0x1_0000 h) refl
 
-first_same : {a b : ℕ} {x y : List ℕ} → a ∷ x ≡ b ∷ y → a ≡ b
-first_same e = cc
-
-rest_same : {a b : ℕ} {x y : List ℕ} → a ∷ x ≡ b ∷ y → x ≡ y
-rest_same e = cc
-
-no_first : (a : ℕ) (x : List ℕ) → a ∷ x ≡ [] → ⊥
-no_first a x e = cc
-
 -- a character of one unit is none of the first units of a pair
 not_both : (c d : ℕ) → c < 0x1_0000 → 0x1_0000 ≤ d → IsScalar c → IsScalar d
     → c ≡ 0xD800 + (d - 0x1_0000) / 0x400 → ⊥
@@ -51,35 +42,26 @@ same_pair c d l m e f = omega arith
 one_same : (c d : ℕ) (x y : List ℕ) → IsScalar c → IsScalar d
     → encode_utf16 c ++ x ≡ encode_utf16 d ++ y → (c ≡ d) × (x ≡ y)
 one_same c d x y scalar also_scalar same_units = elim (cases_lt c 0x1_0000) [
-  | inl one_unit_c ↦ elim (cases_lt d 0x1_0000) [
-    | inl m ↦
-        let same = sym (ap (λ z. z ++ x) (one_unit c one_unit_c)) ∙ same_units
-        ∙ ap (λ z. z ++ y) (one_unit d m) in
-        (first_same same, rest_same same)
-    | inr two_units_d ↦
-        let same = sym (ap (λ z. z ++ x) (one_unit c one_unit_c)) ∙ same_units
-        ∙ ap (λ z. z ++ y) (two_units d two_units_d) in
-        absurd (not_both c d one_unit_c two_units_d scalar also_scalar (first_same same))
+  | inl one_c ↦ elim (cases_lt d 0x1_0000) [
+    | inl one_d ↦ let same = rw (one_unit c one_c, one_unit d one_d) at same_units in (cc, cc)
+    | inr two_d ↦
+        let same = rw (one_unit c one_c, two_units d two_d) at same_units in
+        absurd (not_both c d one_c two_d scalar also_scalar (cc))
   ]
-  | inr two_units_c ↦ elim (cases_lt d 0x1_0000) [
-    | inl one_unit_d ↦
-        let same = sym (ap (λ z. z ++ y) (one_unit d one_unit_d)) ∙ sym same_units
-        ∙ ap (λ z. z ++ x) (two_units c two_units_c) in
-        absurd (not_both d c one_unit_d two_units_c also_scalar scalar (first_same same))
-    | inr two_units_d ↦
-        let same = sym (ap (λ z. z ++ x) (two_units c two_units_c)) ∙ same_units
-        ∙ ap (λ z. z ++ y) (two_units d two_units_d) in
-        let same_trail = rest_same same in (
-          same_pair c d two_units_c two_units_d (first_same same) (first_same same_trail),
-          rest_same same_trail,
-        )
+  | inr two_c ↦ elim (cases_lt d 0x1_0000) [
+    | inl one_d ↦
+        let same = rw (two_units c two_c, one_unit d one_d) at same_units in
+        absurd (not_both d c one_d two_c also_scalar scalar (cc))
+    | inr two_d ↦
+        let same = rw (two_units c two_c, two_units d two_d) at same_units in
+        (same_pair c d two_c two_d (cc) (cc), cc)
   ]
 ]
 
 no_units : (c : ℕ) (x : List ℕ) → encode_utf16 c ++ x ≡ [] → ⊥
 no_units c x is_empty = elim (cases_lt c 0x1_0000) [
-  | inl l ↦ no_first _ _ (sym (ap (λ z. z ++ x) (one_unit c l)) ∙ is_empty)
-  | inr l ↦ no_first _ _ (sym (ap (λ z. z ++ x) (two_units c l)) ∙ is_empty)
+  | inl one ↦ let same = rw (one_unit c one) at is_empty in cc
+  | inr two ↦ let same = rw (two_units c two) at is_empty in cc
 ]
 
 pub utf_16_determines : DetermineTexts encode_utf16

@@ -1,12 +1,11 @@
 -- Runs of characters that are read from UTF-16.
 use Rattle.std.proofs.Common.{◌≡◌, ℕ, zero, suc, ◌+◌, ◌%◌, ◌<◌, ◌≤◌, false, List, [], ◌∷◌, length, map}
 use Rattle.std.proofs.Common.{get_or, take, drop, refl, ap, ◌∙◌, sym, subst, arith, nat_le, nat_lt, ◌&&◌}
-use Rattle.std.proofs.Common.{take-append-drop, set, replicate, ltb, lt-ltb, le-ltb, cond, min}
+use Rattle.std.proofs.Common.{take-append-drop, set, ltb, lt-ltb, le-ltb, cond, min}
 use Rattle.std.proofs.Common.{inl, inr}
 use Rattle.std.proofs.lemmas.Bool.{cases_lt, cond-true, cond-false}
 use Rattle.std.proofs.lemmas.Bool.Decides.{nat_tests}
-use Rattle.std.proofs.lemmas.List.{length-map, length-take-le, take-take, get_or-drop, get_or-take}
-use lib.Lanes.{sel_l}
+use Rattle.std.proofs.lemmas.List.{length-map, length-take-le, take-map, take-take, get_or-drop, get_or-take}
 use Rattle.std.specs.Char.Utf16.{utf16_lossy_chars}
 use Rattle.enc_units.specs.Mappings.{AreAnyUnits, WritesFront, WritesThemselves}
 use Rattle.enc_units.specs.Surrogates.{lossy_unit_char}
@@ -33,11 +32,6 @@ low_bytes (u ∷ us) are_ascii =
     ap (λ x. x ∷ map (λ u. u % 0x80) us) low
     ∙ ap (λ x. u ∷ x) (low_bytes us (λ k d l. are_ascii (suc k) d (omega arith)))
 
-take_map : (n : ℕ) (us : List ℕ) → take n (map (λ u. u % 0x80) us) ≡ map (λ u. u % 0x80) (take n us)
-take_map zero us = refl
-take_map (suc n) [] = refl
-take_map (suc n) (u ∷ us) = ap (λ x. (u % 0x80) ∷ x) (take_map n us)
-
 -- the first n lanes are the first n code units
 pub own_lanes : (n m : ℕ) (us lanes : List ℕ) → n ≤ m → m ≤ 16
     → lanes ≡ map (λ u. u % 0x80) (take 16 us) → AreAscii (take m (take 16 us))
@@ -46,7 +40,7 @@ own_lanes n m us lanes few most e a =
     let fewer : AreAscii (take n (take 16 us)) =
     all_fewer (λ u. u < 0x80) n m (take 16 us) few a in
     let same = take-take n 16 us (omega arith) in
-    ap (take n) e ∙ take_map n (take 16 us) ∙ ap (map (λ u. u % 0x80)) same
+    ap (take n) e ∙ take-map (λ u. u % 0x80) n (take 16 us) ∙ ap (map (λ u. u % 0x80)) same
     ∙ low_bytes (take n us) (subst AreAscii same fewer)
 
 pub low_lanes_long : (us lanes : List ℕ) → lanes ≡ map (λ u. u % 0x80) (take 16 us)
@@ -106,18 +100,11 @@ sixteen_low us lanes n most all are e =
 
 -- clamped units
 
-pub selected : (n m : ℕ) (us : List ℕ) → length us ≡ n
-    → sel_l (map (λ u. ltb u m) us) us (replicate n m) ≡ map (λ u. min u m) us
-selected zero m [] e = refl
-selected zero m (u ∷ us) e = absurd (omega arith)
-selected (suc n) m [] e = absurd (omega arith)
-selected (suc n) m (u ∷ us) e =
-    let least : cond (ltb u m) u m ≡ min u m = elim (cases_lt u m) [
-      | inl l ↦ cond-true _ _ _ (lt-ltb u m l) ∙ omega arith
-      | inr l ↦ cond-false _ _ _ (le-ltb u m l) ∙ omega arith
-    ] in
-    ap (λ x. x ∷ sel_l (map (λ u. ltb u m) us) us (replicate n m)) least
-    ∙ ap (λ x. min u m ∷ x) (selected n m us (omega arith))
+pub least : (u m : ℕ) → cond (ltb u m) u m ≡ min u m
+least u m = elim (cases_lt u m) [
+  | inl below ↦ cond-true _ _ _ (lt-ltb u m below) ∙ omega arith
+  | inr above ↦ cond-false _ _ _ (le-ltb u m above) ∙ omega arith
+]
 
 pub clamped_at : (us : List ℕ) (k : ℕ)
     → get_or (map (λ u. min u 0x7FF) us) k 0 ≡ min (get_or us k 0) 0x7FF

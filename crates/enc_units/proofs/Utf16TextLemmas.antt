@@ -1,6 +1,6 @@
 -- UTF-16 that is written as UTF-8.
 use Rattle.std.proofs.Common.{◌≡◌, ℕ, ◌+◌, ◌-◌, ◌≤◌, false, List, [], ◌∷◌, ◌++◌, length, take, drop, refl, ap, ◌∙◌, sym}
-use Rattle.std.proofs.Common.{arith, subst, nat_le, nat_lt, ◌&&◌, append_assoc, append-nil, drop-drop}
+use Rattle.std.proofs.Common.{arith, nat_le, nat_lt, ◌&&◌, append_assoc, append-nil, drop-drop}
 use Rattle.std.proofs.Common.{take-append-drop}
 use Rattle.std.proofs.lemmas.Bool.{and_parts}
 use Rattle.std.proofs.lemmas.Bool.Decides.{nat_tests}
@@ -39,16 +39,17 @@ lossy_scalars (u ∷ us) rest are_scalars =
 
 -- characters that are read, and their UTF-8
 
-pub text_then : {us front more : List ℕ} {a n : ℕ} → AreUtf8OfUnits us a front
-    → AreUtf8OfUnits (drop a us) n more → AreUtf8OfUnits us (a + n) (front ++ more)
-text_then {us} {front} {more} {a} {n} first others = record {
+-- characters one after another, in a buffer
+pub text_stored : {us before bytes after : List ℕ} {a n : ℕ} → AreUtf8OfUnits us a before
+    → AreUtf8OfUnits (drop a us) n bytes → after ≡ before ++ bytes → AreUtf8OfUnits us (a + n) after
+text_stored {us} {bytes = bytes} {a = a} {n = n} first others stored = record {
   within = omega (arith, lengths, first.within, others.within);
   text = first.text ++ others.text;
   scalars = scalars-append first.text others.text first.scalars others.scalars;
   reads = first.reads ∙ ap (λ z. first.text ++ z) others.reads
       ∙ sym (append_assoc first.text others.text (utf16_lossy_chars (drop n (drop a us))))
       ∙ ap (λ z. (first.text ++ others.text) ++ utf16_lossy_chars z) (drop-drop n a us);
-  written = ap (λ z. z ++ more) first.written
+  written = stored ∙ ap (λ z. z ++ bytes) first.written
       ∙ ap (λ z. units_of_text encode_utf8 first.text ++ z) others.written
       ∙ sym (units-append encode_utf8 first.text others.text);
 }
@@ -78,12 +79,6 @@ text_one {us} {c} {n} first is_scalar = record {
   reads = first.chars;
   written = sym (append-nil (encode_utf8 c));
 }
-
--- in a buffer
-pub text_stored : {us before bytes after : List ℕ} {a n : ℕ} → AreUtf8OfUnits us a before
-    → AreUtf8OfUnits (drop a us) n bytes → after ≡ before ++ bytes → AreUtf8OfUnits us (a + n) after
-text_stored {us} {a = a} {n = n} first others stored =
-    subst (AreUtf8OfUnits us (a + n)) (sym stored) (text_then first others)
 
 -- in a buffer, those of one code unit each
 pub text_then_units : (n : ℕ) {us units before after : List ℕ} {a : ℕ}

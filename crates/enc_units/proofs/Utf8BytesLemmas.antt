@@ -11,22 +11,13 @@ use Rattle.enc_units.specs.Validity.{AreAscii}
 use Rattle.enc_units.proofs.PutLemmas.{put_one}
 use Rattle.enc_units.proofs.Utf16MappedLemmas.{clamped_at, unclamped}
 use Rattle.enc_units.proofs.Utf8MappedLemmas.{short_at, own_written}
-use Rattle.enc_units.proofs.Utf8UnitLanes.{IsLanes, lane_at, splat_lanes, below_lanes, chosen_lanes, firsts, two, twos}
-use Rattle.enc_units.proofs.WriteLoopLemmas.{of_same, writes_one, writes_then}
+use Rattle.enc_units.proofs.Utf8UnitLanes.{two}
+use Rattle.enc_units.proofs.WriteLoopLemmas.{writes_one, writes_then}
 
 -- what sixteen bytes begin
 
 abbrev short : ℕ → ℕ → ℕ
 short a b = cond (ltb a 0x80) a (two a b)
-
-module _ (xs ys : List ℕ) (la : length xs ≡ 16) (lb : length ys ≡ 16) where
-  abbrev shorts : (m : List ℕ) × IsLanes m (λ k. short (get_or xs k 0) (get_or ys k 0))
-  shorts =
-      let first = firsts xs ys la lb in
-      (_, chosen_lanes _ (below_lanes first (splat_lanes 0x80)) first (twos xs ys la lb).1)
-
-  pub short_lane : (k : ℕ) → k < 16 → get_or shorts.0 k 0 ≡ short (get_or xs k 0) (get_or ys k 0)
-  short_lane k below = lane_at shorts.1 k below
 
 pub short_is : (a b : ℕ) → a < 0x100 → b < 0x100 → short a b ≡ short_unit a b
 short_is a b first_fits second_fits = grind (arith, nat_tests)
@@ -91,7 +82,7 @@ module _ {Means : List ℕ → ℕ → Type 0} where
   pub of_rest : (src : List ℕ) (from n : ℕ) {before after : List ℕ} {at k j : ℕ}
       → WritesFront chars IsUtf8 Means (drop (from + n) src) before after at k j
       → WritesFront chars IsUtf8 Means (drop n (drop from src)) before after at k j
-  of_rest src from n writes = of_same (sym (drop-drop n from src)) writes
+  of_rest src from n writes = rw (drop-drop n from src) writes
 
   -- four characters of lanes, one after another
   module _ {text units : List ℕ} {leads : ℕ} (lanes : AreLanesOf text units leads)

@@ -1,50 +1,25 @@
 -- The faults of sixteen bytes with those before them, lane by lane.
 use Rattle.std.proofs.Common.{◌≡◌, ℕ, suc, ◌+◌, ◌-◌, ◌*◌, ◌/◌, ◌%◌, ◌^◌, ◌<◌, ◌≤◌, ◌⊎◌, Bool, true, false, not}
-use Rattle.std.proofs.Common.{◌&&◌, cond, eqb, leb, ltb, le-leb, eqb-true}
-use Rattle.std.proofs.Common.{eq-eqb, List, map, length, get_or, replicate, take, bit_and, bit_or, bit_xor, refl, ap}
+use Rattle.std.proofs.Common.{◌&&◌, cond, eqb, leb, ltb, le-leb, w8}
+use Rattle.std.proofs.Common.{eq-eqb, List, length, get_or, replicate, take, bit_and, bit_or, bit_xor, refl, ap}
 use Rattle.std.proofs.Common.{◌∙◌, sym, subst, arith, inl, inr, ◌∷◌, ◌++◌, drop}
-use Rattle.std.proofs.lemmas.Bool.{and_parts, cases_lt, not-false}
+use Rattle.std.proofs.lemmas.Bool.{and_parts, cases_lt}
 use Rattle.std.proofs.lemmas.Bool.Decides.{nat_tests}
-use Rattle.std.proofs.lemmas.List.{get_or-replicate, get_or-drop, get_or-take, take_all}
+use Rattle.std.proofs.lemmas.List.{get_or-drop, get_or-take}
 use Rattle.std.proofs.lemmas.Nat.{and_le_l, and_le_r}
 use Rattle.std.proofs.lemmas.Nat.Bits.{and_pow, bit_at_or}
-use Rattle.std.proofs.lemmas.Simd.{get_or-chunk, get_or-zip2, length-replicate, length-zip2}
-use Rattle.std.proofs.lemmas.Simd.{pick_l-range_with_len}
+use Rattle.std.proofs.lemmas.Simd.{get_or-chunk, pick_l-range_with_len}
 use Rattle.std.specs.Int.Bits.{or_add_and, xor_assoc, xor_self, xor_zero_l, xor_zero_r}
 use Rattle.std.specs.List.{range_with_len}
-use lib.Lanes.{zip2, mask_l, top, chunk, pick_l}
-use Rattle.enc_units.proofs.LengthLemmas.{lengths}
+use lib.Lanes.{chunk, pick_l}
+use Rattle.enc_units.proofs.LengthLemmas.{lengths, rest_is}
 use Rattle.enc_units.specs.declared.utf8_faults.TheConstants.{FIRST_UPPER, FIRST_LOWER, SECOND_UPPER}
 use Rattle.enc_units.specs.Utf8Run.{CanFollowBytes, CanFollowBytesAt, IsCharBoundaryAfter, ArePairFaults}
 use Rattle.enc_units.specs.Validity.{IsWellFormedUtf8}
 use Rattle.enc_units.proofs.TestLemmas.{every, every_passes}
 use Rattle.enc_units.proofs.Utf8RunLemmas.{blocks_utf8}
 use Rattle.enc_units.specs.Utf8Run.{begins_or_is_second, is_continuation_byte, required_faults}
-use Rattle.enc_units.proofs.Utf8Lanes.{below, unequal_to, none_set}
-use Rattle.enc_units.proofs.Utf8UnitLanes.{IsLanes, own_lanes, lane_at, splat_lanes, and_lanes, by_op, chosen_bytes}
-
--- lanes of operations
-
-pub splat_lane : (f : ℕ → ℕ → ℕ) (vs : List ℕ) (n k : ℕ) → length vs ≡ 16 → k < 16
-    → get_or (zip2 f vs (replicate 16 n)) k 0 ≡ f (get_or vs k 0) n
-splat_lane f vs n k long h =
-    get_or-zip2 f vs (replicate 16 n) k 0 0 0 (omega arith)
-    (omega (arith, length-replicate {A = ℕ} 16 n))
-    ∙ ap (f (get_or vs k 0)) (get_or-replicate 16 k n 0 h)
-
-pub lane_of_two : (f : ℕ → ℕ → ℕ) (xs ys : List ℕ) (k : ℕ) → length xs ≡ 16 → length ys ≡ 16
-    → k < 16 → get_or (zip2 f xs ys) k 0 ≡ f (get_or xs k 0) (get_or ys k 0)
-lane_of_two f xs ys k lx ly h = get_or-zip2 f xs ys k 0 0 0 (omega arith) (omega arith)
-
--- of three lists
-pub lane_of_and : (xs ys zs : List ℕ) (k : ℕ) → length xs ≡ 16 → length ys ≡ 16
-    → length zs ≡ 16 → k < 16
-    → get_or (zip2 bit_and (zip2 bit_and xs ys) zs) k 0
-    ≡ bit_and (bit_and (get_or xs k 0) (get_or ys k 0)) (get_or zs k 0)
-lane_of_and xs ys zs k lx ly lz below =
-    let both : length (zip2 bit_and xs ys) ≡ 16 = length-zip2 bit_and xs ys (lx ∙ sym ly) ∙ lx in
-    lane_of_two bit_and (zip2 bit_and xs ys) zs k both lz below
-    ∙ ap (λ z. bit_and z (get_or zs k 0)) (lane_of_two bit_and xs ys k lx ly below)
+use Rattle.enc_units.proofs.Lanes.{IsLanes, places, own, splat, by_op, chosen, compared}
 
 -- the tables, at all halves
 
@@ -127,15 +102,13 @@ excess_is a n la ln = elim (cases_lt a n) [
   | inr h ↦ grind (arith, nat_tests)
 ]
 
-module _ (n : ℕ) (vs : List ℕ) (long : length vs ≡ 16) where
-  abbrev excesses : (m : List ℕ) × IsLanes m (λ k. excess (get_or vs k 0) n)
-  excesses =
-      let own = own_lanes vs long in
-      let most = chosen_bytes (λ k. ltb (get_or vs k 0) n) (below n vs long).is (splat_lanes n) own
-      in
-      (_, by_op most (splat_lanes n) less)
+abbrev pub excesses : (n : ℕ) (xs : List ℕ) → length xs ≡ 16
+    → (m : List ℕ) × IsLanes places m (λ k. excess (get_or xs k 0) n)
+excesses n xs long =
+    let most = chosen w8 _ (compared ltb n xs long) (splat n) (own xs long) in
+    (_, by_op most (splat n) less)
 
-required_is : (z y : ℕ) → z < 0x100 → y < 0x100
+pub required_is : (z y : ℕ) → z < 0x100 → y < 0x100
     → bit_and (bit_or (excess y 0x60) (excess z 0x70)) 0x80 ≡ required_faults z y
 required_is z y lz ly =
     let of_two = excess_is y 0x60 ly (omega arith) in
@@ -153,20 +126,6 @@ required_is z y lz ly =
                 rw (short, none) (omega arith)
           ]
     ])
-
-module _ (zs ys : List ℕ) (lz : length zs ≡ 16) (ly : length ys ≡ 16) where
-  abbrev required : (m : List ℕ)
-      × IsLanes m (λ k. bit_and (bit_or (excess (get_or ys k 0) 0x60) (excess (get_or zs k 0) 0x70))
-      0x80)
-  required = (
-    _,
-    and_lanes (by_op (excesses 0x60 ys ly).1 (excesses 0x70 zs lz).1 bit_or) (splat_lanes 0x80),
-  )
-
-  pub required_lane : (k : ℕ) → k < 16 → get_or zs k 0 < 0x100 → get_or ys k 0 < 0x100
-      → get_or required.0 k 0 ≡ required_faults (get_or zs k 0) (get_or ys k 0)
-  required_lane k h fz fy =
-      lane_at required.1 k h ∙ required_is (get_or zs k 0) (get_or ys k 0) fz fy
 
 -- a byte without a fault
 
@@ -205,10 +164,7 @@ module _ {z y x b : ℕ} where
 
 pub along : {z y x b z' y' x' b' : ℕ} → z ≡ z' → y ≡ y' → x ≡ x' → b ≡ b' → CanFollowBytes z y x b
     → CanFollowBytes z' y' x' b'
-along {z} {y} {x} {b} {z'} {y'} {x'} {b'} p q r s f =
-    subst (λ v. CanFollowBytes z' y' x' v) s
-    (subst (λ v. CanFollowBytes z' y' v b) r
-    (subst (λ v. CanFollowBytes z' v x b) q (subst (λ v. CanFollowBytes v y x b) p f)))
+along p q r s follows = rw (p, q, r, s) at follows
 
 pub follow_here : (src : List ℕ) (at k : ℕ) → k < 16
     → CanFollowBytes (get_or (chunk at 16 src) k 0) (get_or (chunk (at + 1) 16 src) k 0)
@@ -232,28 +188,27 @@ follow_from src at all k from to =
     let place : at + (k - at) ≡ k = omega arith in
     subst (CanFollowBytesAt src) place (all (k - at) (omega arith))
 
+-- from `at` on, and then from m on
+pub follow_both : (src : List ℕ) {at end : ℕ} (m : ℕ)
+    → ((k : ℕ) → at ≤ k → k < m → CanFollowBytesAt src k)
+    → ((k : ℕ) → m ≤ k → k < end → CanFollowBytesAt src k)
+    → (k : ℕ) → at ≤ k → k < end → CanFollowBytesAt src k
+follow_both src m first more k from to = elim (cases_lt k m) [
+  | inl before ↦ first k from before
+  | inr after ↦ more k after to
+]
+
 pub four_follow : (src : List ℕ) (at : ℕ) → BlockFollows src at → BlockFollows src (at + 16)
     → BlockFollows src (at + 32) → BlockFollows src (at + 48) → (k : ℕ) → at ≤ k → k < at + 64
     → CanFollowBytesAt src k
-four_follow src at one two three four k from to = elim (cases_lt k (at + 16)) [
-  | inl h ↦ follow_from src at one k from h
-  | inr h ↦ elim (cases_lt k (at + 32)) [
-    | inl g ↦ follow_from src (at + 16) two k h (omega arith)
-    | inr g ↦ elim (cases_lt k (at + 48)) [
-      | inl f ↦ follow_from src (at + 32) three k g (omega arith)
-      | inr f ↦ follow_from src (at + 48) four k f (omega arith)
-    ]
-  ]
-]
+four_follow src at one two three four k from to =
+    follow_both src (at + 16) (follow_from src at one)
+    (follow_both src (at + 32) (λ k from to. follow_from src (at + 16) two k from (omega arith))
+    (follow_both src (at + 48) (λ k from to. follow_from src (at + 32) three k from (omega arith))
+    (λ k from to. follow_from src (at + 48) four k from (omega arith)))) k from to
 
 pub neither : (a b : ℕ) → bit_or a b ≡ 0 → (a ≡ 0) × (b ≡ 0)
 neither a b e = omega (arith, or_add_and a b, and_le_l a b, and_le_r a b)
-
-pub all_zero : (vs : List ℕ) → length vs ≡ 16
-    → eqb (mask_l (map (top 7) (zip2 (λ a b. cond (not (eqb a b)) 255 0) vs (replicate 16 0))) % 2 ^
-    64) 0 ≡ true → (k : ℕ) → k < 16 → get_or vs k 0 ≡ 0
-all_zero vs long e k h =
-    eqb-true (get_or vs k 0) 0 (not-false _ (none_set _ _ (unequal_to 0 vs long) e k h))
 
 -- the first block, as after zeros
 
@@ -281,14 +236,12 @@ pub follow_after : (src : List ℕ) (n m : ℕ)
     → ((k : ℕ) → k < m → CanFollowBytesAt (take (length src - n) (drop n src)) k)
     → (k : ℕ) → n ≤ k → k < n + m → CanFollowBytesAt src k
 follow_after src n m all k from to =
-    let rest_long : length (drop n src) ≤ length src - n = omega (arith, lengths) in
-    let rest = take_all (length src - n) (drop n src) rest_long in
     let here : (i j : ℕ) → n + i ≡ j → get_or (drop n src) i 0 ≡ get_or src j 0 =
     λ i j e. get_or-drop n src i 0 ∙ ap (λ m. get_or src m 0) e in
     along (here (k - n) k (omega arith)) (here (suc (k - n)) (suc k) (omega arith))
     (here (suc (suc (k - n))) (suc (suc k)) (omega arith))
     (here (suc (suc (suc (k - n)))) (suc (suc (suc k))) (omega arith))
-    (subst (λ xs. CanFollowBytesAt xs (k - n)) rest (all (k - n) (omega arith)))
+    (rw (rest_is n src) at (all (k - n) (omega arith)))
 
 -- the first sixteen bytes and those after them
 pub follow_all : (src : List ℕ) (n : ℕ)
@@ -309,11 +262,3 @@ start_utf8 src n some within follow ends =
     let place : suc (suc (suc (n - 3))) ≡ n = omega arith in
     blocks_utf8 n (0 ∷ 0 ∷ 0 ∷ src) (omega arith) (omega arith, omega arith, omega arith) follow
     (subst (IsCharBoundaryAfter (0 ∷ 0 ∷ 0 ∷ src)) place ends)
-
-pub follow_more : (src : List ℕ) (at n : ℕ) → ((k : ℕ) → k < at → CanFollowBytesAt src k)
-    → ((k : ℕ) → at ≤ k → k < at + n → CanFollowBytesAt src k)
-    → (k : ℕ) → k < at + n → CanFollowBytesAt src k
-follow_more src at n before more k few = elim (cases_lt k at) [
-  | inl h ↦ before k h
-  | inr h ↦ more k h few
-]

@@ -52,6 +52,11 @@ pub record FoundBy (text : List ℕ) (a b d e : ℕ) : Type 0 where
   pub three : 0xE0 ≤ a → a < 0xF0 → IsFirst text ((a % 16 * 64 + b % 64) * 64 + d % 64) 3
   pub four : 0xF0 ≤ a → IsFirst text (((a % 8 * 64 + b % 64) * 64 + d % 64) * 64 + e % 64) 4
 
+not_short : (a b : ℕ) → 0xE0 ≤ a → a < 0xF8 → 0x80 ≤ b → b < 0xC0 → short_unit a b < 0x800 → ⊥
+not_short a b from to second_from second_to below =
+    let unit : short_unit a b ≡ (a * 0x40 + b + 0xCF80) % 0x1_0000 = grind (arith, nat_tests) in
+    omega arith
+
 module _ (text : List ℕ) (utf8 : IsUtf8 text) (front : Front text) where
   byte_at : {code : List ℕ} → encode_utf8 front.char ≡ code → (i : ℕ)
       → get_or text i 0 ≡ get_or (code ++ front.rest) i 0
@@ -74,8 +79,7 @@ module _ (text : List ℕ) (utf8 : IsUtf8 text) (front : Front text) where
   is_first_by : {code : List ℕ} → 0x80 ≤ front.char → encode_utf8 front.char ≡ code → (d : ℕ)
       → front.char ≡ d → IsFirst text d (length code)
   is_first_by {code} beyond code_is d same =
-      subst (λ x. IsFirst text x (length code)) same
-      (record { scalar = front.scalar; beyond = beyond; first = first_is code_is })
+      rw (← same) (record { scalar = front.scalar; beyond = beyond; first = first_is code_is })
 
   found_by : Form front.char → {a b d e : ℕ} → get_or text 0 0 ≡ a → get_or text 1 0 ≡ b
       → get_or text 2 0 ≡ d → get_or text 3 0 ≡ e → 0x80 ≤ a → FoundBy text a b d e
@@ -113,28 +117,22 @@ module _ (text : List ℕ) (utf8 : IsUtf8 text) (front : Front text) where
       let lead = byte_at code 0 in
       let is_unit : front.char ≡ short_unit a b = grind (arith, nat_tests, lead) in
       let width : 1 ≡ 1 + lead_bit a = grind (arith, nat_tests, lead) in
-      subst (IsFirstUtf8Char text (short_unit a b)) width
-      (subst (λ x. IsFirstUtf8Char text x 1) is_unit (first_is code))
+      rw (← is_unit, ← width) (first_is code)
   short_by (Two from to code) {a} {b} first second below =
       let lead = byte_at code 0 in
       let trail = byte_at code 1 in
       let is_unit : front.char ≡ short_unit a b = grind (arith, nat_tests, lead, trail) in
       let width : 2 ≡ 1 + lead_bit a = grind (arith, nat_tests, lead) in
-      subst (IsFirstUtf8Char text (short_unit a b)) width
-      (subst (λ x. IsFirstUtf8Char text x 2) is_unit (first_is code))
+      rw (← is_unit, ← width) (first_is code)
   short_by (Three from to code) {a} {b} first second below =
-      let lead = byte_at code 0 in
       let trail = byte_at code 1 in
-      let unit : short_unit a b ≡ (a * 0x40 + b + 0xCF80) % 0x1_0000 =
-      grind (arith, nat_tests, lead) in
-      absurd (omega arith)
+      absurd (not_short a b (omega (arith, byte_at code 0)) (omega (arith, byte_at code 0))
+      (omega (arith, trail)) (omega (arith, trail)) below)
   short_by (Four from code) {a} {b} first second below =
-      let lead = byte_at code 0 in
       let trail = byte_at code 1 in
       let most = scalar_below front.char front.scalar in
-      let unit : short_unit a b ≡ (a * 0x40 + b + 0xCF80) % 0x1_0000 =
-      grind (arith, nat_tests, lead) in
-      absurd (omega arith)
+      absurd (not_short a b (omega (arith, byte_at code 0)) (omega (arith, byte_at code 0))
+      (omega (arith, trail)) (omega (arith, trail)) below)
 
 -- at a place of a slice
 module _ (src : List ℕ) (at : ℕ) (utf8 : IsUtf8 (drop at src)) (inside : at < length src) where

@@ -2,11 +2,10 @@
 use Rattle.std.proofs.Common.{◌≡◌, ℕ, zero, suc, ◌+◌, ◌-◌, ◌<◌, ◌≤◌, ◌⊎◌, List, [], ◌∷◌, length, get_or, take, drop}
 use Rattle.std.proofs.Common.{sym, ap, subst, arith, ◌∙◌, inl, inr, take-add, drop-drop}
 use Rattle.std.proofs.lemmas.Bool.{cases_lt, cases_eq}
-use Rattle.std.proofs.lemmas.List.{take_all}
 use Rattle.std.proofs.lemmas.Simd.{get_or-chunk}
 use Rattle.std.proofs.lemmas.Str.{IsUtf8-nil, IsUtf8-append}
 use Rattle.std.proofs.str.Valid.{of_one, of_two, of_three, of_four}
-use Rattle.enc_units.proofs.LengthLemmas.{lengths}
+use Rattle.enc_units.proofs.LengthLemmas.{lengths, rest_is}
 use Rattle.enc_units.specs.Validity.{IsWellFormedUtf8, AreAscii}
 use Rattle.enc_units.specs.Utf8Run.{CanFollowBytes, CanFollowBytesAt, IsCharBoundaryAfter}
 
@@ -22,14 +21,6 @@ unless : (a n : ℕ) {P : Type 0} → (a ≡ n → P) → (a ≡ n → ⊥) ⊎ 
 unless a n f = elim (cases_eq a n) [ inl e ↦ inr (f e) | inr e ↦ inl e ]
 
 -- the character in front
-
-pub one_front : (src : List ℕ) → 0 < length src → get_or src 0 0 < 0x80
-    → IsWellFormedUtf8 (take 1 src)
-one_front src some low = of_one src 0 (omega arith) low
-
-pub two_front : (src : List ℕ) → 1 < length src → (0xC2 ≤ get_or src 0 0) × (get_or src 0 0 < 0xE0)
-    → (0x80 ≤ get_or src 1 0) × (get_or src 1 0 < 0xC0) → IsWellFormedUtf8 (take 2 src)
-two_front src some lead second = of_two src 0 (omega arith) lead second
 
 pub three_front : (src : List ℕ) → 2 < length src
     → (0xE0 ≤ get_or src 0 0) × (get_or src 0 0 < 0xF0)
@@ -102,8 +93,8 @@ module _ (n : ℕ) (rest : (z y x : ℕ) (bs : List ℕ) → length bs ≤ n →
       let continues = rest_follow.0.after_first is_lead in
       let leads = rest_follow.0.leads is_lead in
       elim (cases_lt a 0xE0) [
-        | inl u ↦ IsUtf8-append (a ∷ b ∷ []) bs (two_front (a ∷ b ∷ []) (omega arith) (leads.0, u)
-            continues)
+        | inl u ↦ IsUtf8-append (a ∷ b ∷ []) bs (of_two (a ∷ b ∷ []) 0 (omega arith)
+            (leads.0, u) continues)
             (rest z a b bs (omega arith) (omega arith) rest_follow.1)
         | inr u ↦ third y z a b bs (omega arith) (u, leads.1) continues rest_follow.0 rest_follow.1
       ]
@@ -113,7 +104,7 @@ module _ (n : ℕ) (rest : (z y x : ℕ) (bs : List ℕ) → length bs ≤ n →
   first z y x [] l is_between rest_follow = IsUtf8-nil
   first z y x (a ∷ bs) l is_between rest_follow =
       elim (rest_follow.0.begins is_between.2 is_between.1 is_between.0) [
-        | inl u ↦ IsUtf8-append (a ∷ []) bs (one_front (a ∷ []) (omega arith) u)
+        | inl u ↦ IsUtf8-append (a ∷ []) bs (of_one (a ∷ []) 0 (omega arith) u)
             (rest y x a bs (omega arith) (omega arith) rest_follow.1)
         | inr u ↦ second y x a bs (omega arith) is_between.2 u rest_follow.1
       ]
@@ -149,16 +140,13 @@ blocks_utf8 n (z ∷ y ∷ x ∷ bs) l b h e =
 
 -- n bytes more are well-formed
 
-rest_is : (src : List ℕ) (at : ℕ) → take (length src - at) (drop at src) ≡ drop at src
-rest_is src at = take_all (length src - at) (drop at src) (omega (arith, lengths))
-
 pub longer : (src : List ℕ) (at n : ℕ) → IsWellFormedUtf8 (take at src)
     → IsWellFormedUtf8 (take n (take (length src - at) (drop at src)))
     → IsWellFormedUtf8 (take (at + n) src)
 longer src at n a b =
     subst IsWellFormedUtf8 (sym (take-add at n src))
     (IsUtf8-append (take at src) (take n (drop at src)) a
-    (subst (λ r. IsWellFormedUtf8 (take n r)) (rest_is src at) b))
+    (subst (λ r. IsWellFormedUtf8 (take n r)) (rest_is at src) b))
 
 -- the same, where three bytes before them are looked at as well
 pub longer_from : (src : List ℕ) (at n : ℕ) → 3 ≤ at → IsWellFormedUtf8 (take at src)
@@ -166,8 +154,8 @@ pub longer_from : (src : List ℕ) (at n : ℕ) → 3 ≤ at → IsWellFormedUtf
     → IsWellFormedUtf8 (take (at + n) src)
 longer_from src at n h a b =
     let place : at - 3 + 3 ≡ at = omega arith in
-    let rest = ap (drop 3) (rest_is src (at - 3)) ∙ drop-drop 3 (at - 3) src
-    ∙ ap (λ m. drop m src) place ∙ sym (rest_is src at) in
+    let rest = ap (drop 3) (rest_is (at - 3) src) ∙ drop-drop 3 (at - 3) src
+    ∙ ap (λ m. drop m src) place ∙ sym (rest_is at src) in
     longer src at n a (subst (λ r. IsWellFormedUtf8 (take n r)) rest b)
 
 -- after a complete character, ASCII can follow

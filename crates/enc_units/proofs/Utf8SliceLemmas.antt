@@ -1,5 +1,5 @@
 -- What an output in UTF-8 shows.
-use Rattle.std.proofs.Common.{◌≡◌, ℕ, suc, ◌+◌, ◌-◌, ◌≤◌, List, [], ◌∷◌, ◌++◌, length, take, drop, refl, ap, ◌∙◌, sym}
+use Rattle.std.proofs.Common.{◌≡◌, ℕ, ◌+◌, ◌-◌, ◌≤◌, List, ◌++◌, length, take, drop, ap, ◌∙◌, sym}
 use Rattle.std.proofs.Common.{◌<◌, inl, inr, arith, drop-drop}
 use Rattle.std.proofs.lemmas.Bool.{cases_lt}
 use Rattle.std.proofs.lemmas.Str.{encode_ascii}
@@ -7,20 +7,19 @@ use Rattle.std.specs.Borrow.{GName}
 use Rattle.std.specs.Prelude.{slice_index}
 use Rattle.std.specs.Char.{encode_utf8}
 use borrow.Rule.Slice.PartMut.{put_mid}
+use Rattle.enc_units.proofs.PieceListLemmas.{own_text}
 use Rattle.enc_units.proofs.LengthLemmas.{lengths}
 use Rattle.enc_units.proofs.PutLemmas.{Put, put_length, put_front, put_rest, put_copied}
 use Rattle.enc_units.specs.AsciiRun.{PutsAscii}
-use Rattle.enc_units.specs.Output.{with_appended, units_of_text, slice_output}
+use Rattle.enc_units.specs.Output.{Output, with_appended, units_of_text, slice_output}
 use Rattle.enc_units.specs.Validity.{AreAscii}
 use Rattle.enc_units.proofs.AsciiLemmas.{ascii_one}
 use Rattle.enc_units.proofs.OutputLemmas.{same_output}
 
 -- ASCII bytes are their own code units
 pub ascii_units : (bs : List ℕ) → AreAscii bs → units_of_text encode_utf8 bs ≡ bs
-ascii_units [] are_ascii = refl
-ascii_units (b ∷ bs) are_ascii =
-    ap (λ x. x ++ units_of_text encode_utf8 bs) (encode_ascii b (are_ascii 0 0 (omega arith)))
-    ∙ ap (λ x. b ∷ x) (ascii_units bs (λ k d h. are_ascii (suc k) d (omega arith)))
+ascii_units bs are_ascii =
+    own_text encode_utf8 bs (λ k d inside. encode_ascii _ (are_ascii k d inside))
 
 -- a slice once bytes are put after its first elements
 pub grown : {len n : ℕ} {dst bytes new : List ℕ} (borrow : GName) → Put len n dst bytes new
@@ -29,6 +28,24 @@ grown {len} {n} {dst} borrow put =
     same_output borrow (put_front put) (omega (arith, put_length put, put.count))
     (put_rest put (len + n) (omega arith) ∙ sym (drop-drop n len dst)
     ∙ ap (λ m. drop m (drop len dst)) put.count)
+
+-- ASCII at the front that is its own code units, up to a byte that is not or does not fit
+pub puts_own : {units_of : ℕ → List ℕ}
+    → ((bs : List ℕ) → AreAscii bs → units_of_text units_of bs ≡ bs)
+    → {before after : Output} {src : List ℕ} {n : ℕ} → n ≤ length src → n ≤ before.room
+    → AreAscii (take n src) → (n < length src → slice_index src n < 0x80 → before.room ≤ n)
+    → after ≡ with_appended before (take n src) → PutsAscii units_of before after src n
+puts_own own {before} {src = src} {n = n} within fits ascii full written =
+    let units = own (take n src) ascii in
+    record {
+      within = within;
+      ascii = ascii;
+      fits = omega (arith, ap length units, lengths);
+      written = written ∙ ap (with_appended before) (sym units);
+      longest = λ more low.
+          let longer = ap length (own (take (n + 1) src) (ascii_one n src ascii more low)) in
+          omega (arith, full more low, longer, lengths);
+    }
 
 -- ASCII at the front, as much as fits, is stored after the first elements of a slice
 pub puts_ascii : {units_of : ℕ → List ℕ} {len n : ℕ} {src : List ℕ} (dst new : List ℕ)
@@ -42,21 +59,9 @@ pub puts_ascii : {units_of : ℕ → List ℕ} {len n : ℕ} {src : List ℕ} (d
     (slice_output (len + n) (put_mid len (length dst - len) dst new) borrow) src n
 puts_ascii {len = len} {n = n} {src = src} dst new borrow alone within read fits ascii ends
     stored =
-    let units = alone (take n src) ascii in
-    record {
-      within = read;
-      ascii = ascii;
-      fits = omega (arith, ap length units, lengths);
-      written = grown borrow (put_copied len n dst src new within read (omega (arith, lengths))
-          stored)
-          ∙ ap (with_appended (slice_output len dst borrow)) (sym units);
-      longest = λ more low. elim (cases_lt n (length dst - len)) [
-        | inl less ↦ absurd (omega (arith, ends more (omega (arith, lengths)), low))
-        | inr all ↦ omega (
-          arith,
-          ap length (alone (take (n + 1) src)
-              (ascii_one n src ascii more low)),
-          lengths,
-        )
-      ];
-    }
+    puts_own alone read (omega (arith, lengths)) ascii
+    (λ more low. elim (cases_lt n (length dst - len)) [
+      | inl less ↦ absurd (omega (arith, ends more (omega (arith, lengths)), low))
+      | inr all ↦ all
+    ])
+    (grown borrow (put_copied len n dst src new within read (omega (arith, lengths)) stored))

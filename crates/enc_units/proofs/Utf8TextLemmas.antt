@@ -26,39 +26,6 @@ gives_none : (z b u : ℕ) → z < 0xF0 → (0x80 ≤ b) × (b < 0xC0) → if_on
 gives_none z b u h f = let none : gives_unit z b ≡ false = grind (arith, nat_tests) in
     ap (λ t. if_one t u) none
 
-of_two : (z w c : ℕ) → 0x80 ≤ c → c < 0x800
-    → if_one (gives_unit z (192 + c / 64)) (code_unit_of_byte (192 + c / 64) (128 + c % 64) w) ≡ c
-    ∷ []
-of_two z w c l h = gives_one z (192 + c / 64) (128 + c % 64) w c (grind (arith, nat_tests))
-    (grind (arith, nat_tests))
-
-of_three : (z c : ℕ) → 0x800 ≤ c → c < 0x1_0000
-    → if_one (gives_unit z (224 + c / 4096))
-    (code_unit_of_byte (224 + c / 4096) (128 + c / 64 % 64) (128 + c % 64)) ≡ c
-    ∷ []
-of_three z c l h = gives_one z (224 + c / 4096) (128 + c / 64 % 64) (128 + c % 64) c
-    (grind (arith, nat_tests))
-    (grind (arith, nat_tests))
-
-of_four : (z c : ℕ) → 0x1_0000 ≤ c → c < 0x11_0000
-    → if_one (gives_unit z (240 + c / 262144))
-    (code_unit_of_byte (240 + c / 262144) (128 + c / 4096 % 64) (128 + c / 64 % 64))
-    ≡ (0xD800 + (c - 0x1_0000) / 0x400)
-    ∷ []
-of_four z c l h =
-    gives_one z (240 + c / 262144) (128 + c / 4096 % 64) (128 + c / 64 % 64)
-    (0xD800 + (c - 0x1_0000) / 0x400)
-    (grind (arith, nat_tests)) (grind (arith, nat_tests))
-
-of_second : (z w c : ℕ) → 0xF0 ≤ z → 0x1_0000 ≤ c → c < 0x11_0000
-    → if_one (gives_unit z (128 + c / 64 % 64))
-    (code_unit_of_byte (128 + c / 64 % 64) (128 + c % 64) w)
-    ≡ (0xDC00 + (c - 0x1_0000) % 0x400) ∷ []
-of_second z w c g l h =
-    gives_one z (128 + c / 64 % 64) (128 + c % 64) w (0xDC00 + (c - 0x1_0000) % 0x400)
-    (grind (arith, nat_tests))
-    (grind (arith, nat_tests))
-
 -- bytes that stand at a place
 
 abbrev pub Stand : List ℕ → ℕ → List ℕ → Type 0
@@ -97,7 +64,8 @@ module _ (src : List ℕ) (c : ℕ) (t : List ℕ) (rest : Gives src t) (at : �
   two_bytes : 0x80 ≤ c → c < 0x800 → Goal ((192 + c / 64) ∷ (128 + c % 64) ∷ []) (c ∷ [])
   two_bytes from below s =
       let first : unit_at src at ≡ c ∷ [] =
-      rw (s.0, s.1.0) (of_two (byte_two_before src at) _ c from below) in
+      rw (s.0, s.1.0)
+      (gives_one (byte_two_before src at) (192 + c / 64) (128 + c % 64) (get_or src (suc (suc at)) 0) c (grind (arith, nat_tests)) (grind (arith, nat_tests))) in
       let second : unit_at src (suc at) ≡ [] =
       gives_none (byte_two_before src (suc at)) (get_or src (suc at) 0) _ no_fourth
       (omega (arith, s.1.0)) in
@@ -107,7 +75,8 @@ module _ (src : List ℕ) (c : ℕ) (t : List ℕ) (rest : Gives src t) (at : �
       → Goal ((224 + c / 4096) ∷ (128 + c / 64 % 64) ∷ (128 + c % 64) ∷ []) (c ∷ [])
   three_bytes from below s =
       let first : unit_at src at ≡ c ∷ [] =
-      rw (s.0, s.1.0, s.1.1.0) (of_three (byte_two_before src at) c from below) in
+      rw (s.0, s.1.0, s.1.1.0)
+      (gives_one (byte_two_before src at) (224 + c / 4096) (128 + c / 64 % 64) (128 + c % 64) c (grind (arith, nat_tests)) (grind (arith, nat_tests))) in
       let second : unit_at src (suc at) ≡ [] =
       gives_none (byte_two_before src (suc at)) (get_or src (suc at) 0) _ no_fourth
       (omega (arith, s.1.0)) in
@@ -129,13 +98,16 @@ module _ (src : List ℕ) (c : ℕ) (t : List ℕ) (rest : Gives src t) (at : �
   four_bytes beyond_basic below_most s =
       let last = suc (suc (suc at)) in
       let first : unit_at src at ≡ (0xD800 + (c - 0x1_0000) / 0x400) ∷ [] =
-      rw (s.0, s.1.0, s.1.1.0) (of_four (byte_two_before src at) c beyond_basic below_most) in
+      rw (s.0, s.1.0, s.1.1.0)
+      (gives_one (byte_two_before src at) (240 + c / 262144) (128 + c / 4096 % 64) (128 + c / 64 % 64)
+      (0xD800 + (c - 0x1_0000) / 0x400) (grind (arith, nat_tests)) (grind (arith, nat_tests))) in
       let second : unit_at src (suc at) ≡ [] =
       gives_none (byte_two_before src (suc at)) (get_or src (suc at) 0) _ no_fourth
       (omega (arith, s.1.0)) in
       let third : unit_at src (suc (suc at)) ≡ (0xDC00 + (c - 0x1_0000) % 0x400) ∷ [] =
       rw (s.1.1.0, s.1.1.1.0)
-      (of_second (get_or src at 0) _ c (omega (arith, s.0)) beyond_basic below_most) in
+      (gives_one (get_or src at 0) (128 + c / 64 % 64) (128 + c % 64) (get_or src (suc last) 0)
+      (0xDC00 + (c - 0x1_0000) % 0x400) (grind (arith, nat_tests, s.0)) (grind (arith, nat_tests))) in
       let fourth : unit_at src last ≡ [] =
       gives_none (get_or src (suc at) 0) (get_or src last 0) _ (omega (arith, s.1.0))
       (omega (arith, s.1.1.1.0)) in

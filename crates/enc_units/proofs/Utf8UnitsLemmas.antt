@@ -235,7 +235,3 @@ dropped_beyond n m xs ys within same =
     let place : n + (m - n) ≡ m = omega arith in
     sym (drop-drop (m - n) n xs ∙ ap (λ i. drop i xs) place) ∙ ap (drop (m - n)) same
     ∙ drop-drop (m - n) n ys ∙ ap (λ i. drop i ys) place
-
-pub same_bytes : (bs : List ℕ) → map (λ b. b) bs ≡ bs
-same_bytes [] = refl
-same_bytes (b ∷ bs) = ap (λ z. b ∷ z) (same_bytes bs)

@@ -1,19 +1,12 @@
 -- Characters of an input, UTF-8 or UTF-16, that a loop writes one after another.
 use Rattle.std.proofs.Common.{◌≡◌, ℕ, ◌+◌, ◌-◌, ◌≤◌, List, ◌∷◌, ◌++◌, length, take, drop, ap, ◌∙◌, sym, subst, arith}
 use Rattle.std.proofs.Common.{drop-drop}
-use Rattle.std.proofs.lemmas.List.{length-take-le, take_all}
+use Rattle.std.proofs.lemmas.List.{length-take-le}
 use lib.Lanes.{put_chunk}
-use Rattle.enc_units.proofs.LengthLemmas.{lengths}
-use Rattle.enc_units.specs.Mappings.{WritesMapped, WritesThemselves, WritesFront, KeepsAscii, AreWrittenAsThemselves}
-use Rattle.enc_units.specs.Validity.{AreAscii}
-use borrow.Rule.Slice.PartMut.{put_mid}
+use Rattle.enc_units.proofs.LengthLemmas.{lengths, rest_is}
+use Rattle.enc_units.specs.Mappings.{WritesMapped, WritesThemselves, WritesFront, AreWrittenAsThemselves}
 use Rattle.enc_units.proofs.MappingLemmas.{maps_none, maps_ascii, maps_both, maps_one, same_length}
-use Rattle.enc_units.proofs.PutLemmas.{Put, put_lanes, put_copied}
-
--- the rest of a slice
-pub rest_is : (read : ℕ) (src : List ℕ) → take (length src - read) (drop read src) ≡ drop read src
-rest_is read src =
-    take_all (length src - read) (drop read src) (omega (arith, lengths))
+use Rattle.enc_units.proofs.PutLemmas.{Put, put_lanes}
 
 -- the first lanes are stored
 
@@ -35,19 +28,6 @@ pub all_stored : {Means : List ℕ → ℕ → Type 0} (src before : List ℕ) (
     → WritesThemselves Means src before (put_chunk at before lanes) at m
 all_stored src before at m lanes long within fits same own =
     front_stored at m lanes same own within fits (put_lanes m at before lanes fits long).onto
-
--- ASCII is copied
-pub ascii_copied : {Means : List ℕ → ℕ → Type 0} (at n : ℕ) (before src new : List ℕ)
-    → KeepsAscii Means → at ≤ length before → n ≤ length src → n ≤ length before - at
-    → AreAscii (take n src)
-    → new ≡ take n src ++ drop n (take (length before - at) (drop at before))
-    → WritesThemselves Means src before (put_mid at (length before - at) before new) at n
-ascii_copied at n before src new keeps within read room are_ascii copied = record {
-  within = read;
-  ascii = λ k d l. (are_ascii k d l, keeps _ (are_ascii k d l));
-  fits = omega (arith, within, room);
-  onto = (put_copied at n before src new within read room copied).onto;
-}
 
 module _ {chars_in : List ℕ → List ℕ} {Rest : List ℕ → Type 0} {Means : List ℕ → ℕ
     → Type 0} where
@@ -97,12 +77,12 @@ module _ {chars_in : List ℕ → List ℕ} {Rest : List ℕ → Type 0} {Means 
             j) later then_more.writes);
       }
 
-  -- the same of an equal text
-  pub of_same : {text other before after : List ℕ} {at n m : ℕ} → text ≡ other
-      → WritesFront chars_in Rest Means text before after at n m
-      → WritesFront chars_in Rest Means other before after at n m
-  of_same {before = before} {after = after} {at = at} {n = n} {m = m} same writes =
-      subst (λ z. WritesFront chars_in Rest Means z before after at n m) same writes
+  -- the same, where the rest is a slice of its own
+  pub writes_on : {text before mid after : List ℕ} {at n m k j : ℕ}
+      → WritesFront chars_in Rest Means text before mid at n m
+      → WritesFront chars_in Rest Means (take (length text - n) (drop n text)) mid after (at + m) k j
+      → WritesFront chars_in Rest Means text before after at (n + k) (m + j)
+  writes_on {text} {n = n} first more = writes_then first (rw (rest_is n text) at more)
 
 -- the invariant of a loop that writes from `from` on, and has come to `at`
 module _ (chars_in : List ℕ → List ℕ) (Rest : List ℕ → Type 0) (Means : List ℕ → ℕ → Type 0) where
@@ -127,17 +107,10 @@ module _ {chars_in : List ℕ → List ℕ} {Rest : List ℕ → Type 0} {Means 
         front = subst (WritesFront chars_in Rest Means text first dst from n) count writes;
       }
 
-  pub written_none : {text first : List ℕ} {from : ℕ} → from ≤ length first → Rest text
-      → Written chars_in Rest Means text first first from 0 from
-  written_none {text} {first} {from} fits rest =
-      let start : from + 0 ≡ from = omega arith in
-      subst (Written chars_in Rest Means text first first from 0) start
-      (written_from (writes_none fits rest))
-
   -- the loop goes on
   pub written_then : {text first dst new : List ℕ} {from read at n k : ℕ}
       → Written chars_in Rest Means text first dst from read at
-      → WritesFront chars_in Rest Means (drop read text) dst new at n k
+      → WritesFront chars_in Rest Means (take (length text - read) (drop read text)) dst new at n k
       → Written chars_in Rest Means text first new from (read + n) (at + k)
   written_then {text} {first} {dst} {new} {from} {read} {at} {n} {k} written more =
       let place : at ≡ from + (at - from) = omega (arith, written.ahead) in
@@ -148,7 +121,5 @@ module _ {chars_in : List ℕ → List ℕ} {Rest : List ℕ → Type 0} {Means 
         long = long ∙ written.long;
         room = omega (arith, long, more.writes.fits);
         front = subst (WritesFront chars_in Rest Means text first new from (read + n)) count
-            (writes_then written.front
-            (subst (λ x. WritesFront chars_in Rest Means (drop read text) dst new x n k) place
-            more));
+            (writes_on written.front (rw place at more));
       }

@@ -1,6 +1,6 @@
-use Rattle.std.proofs.Common.{arith}
-use Rattle.enc_units.proofs.AsciiLemmas.{ascii_of_mask}
+use Rattle.std.proofs.Common.{arith, w8}
+use Rattle.enc_units.proofs.LaneLemmas.{ascii_of_mask}
 use Rattle.enc_units.proofs.ascii.are_all_ascii.Goals as goal
 
 pub returns : goal.returns
-returns c = ascii_of_mask 64 c.args.lanes (omega arith) c.fits-lanes.0
+returns c = ascii_of_mask w8 64 (omega arith) c.args.lanes c.fits-lanes.0

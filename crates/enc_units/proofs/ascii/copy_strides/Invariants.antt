@@ -1,10 +1,9 @@
-use Rattle.std.proofs.Common.{◌≡◌, ◌-◌, ◌≤◌, ◌++◌, take, drop}
-use Rattle.enc_units.specs.Validity.{AreAscii}
+use Rattle.std.proofs.Common.{◌-◌}
+use Rattle.enc_units.proofs.AsciiLemmas.{CopiesAscii}
 use Rattle.enc_units.proofs.ascii.copy_strides.Given as goal
 
 abbrev pub invariant-loop-at : goal.invariant-loop-at
-invariant-loop-at l = (l.at ≤ l.most) × AreAscii (take l.at l.src)
-    × (l.dst ≡ take l.at l.src ++ drop l.at l.fn.dst)
+invariant-loop-at l = CopiesAscii l.src l.fn.dst l.dst l.most l.at
 
 abbrev pub decreases-loop-at : goal.decreases-loop-at
 decreases-loop-at l = l.most - l.at

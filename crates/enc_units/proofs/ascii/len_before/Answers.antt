@@ -1,22 +1,24 @@
-use Rattle.std.proofs.Common.{eqb, false-eqb, sym, arith, w8}
+use Rattle.std.proofs.Common.{eqb, arith, w8}
+use Rattle.std.proofs.lemmas.Bool.{eqb-false}
 use Rattle.std.proofs.lemmas.Simd.{bitmask_splat}
-use Rattle.enc_units.proofs.LaneLemmas.{all_fail, some_fail, front_bound, front_fails}
+use Rattle.enc_units.proofs.LaneLemmas.{none_passes, some_passes}
 use Rattle.enc_units.proofs.ascii.len_before.Goals as goal
 
 pub returns-then-found-eq0-clause-none : goal.returns-then-found-eq0-clause-none
-returns-then-found-eq0-clause-none c k d h =
+returns-then-found-eq0-clause-none c k d inside =
     let is = bitmask_splat w8 eqb c.args.lanes 16 c.args.byte c.fits-lanes.0 (omega arith) in
-    false-eqb _ _ (sym (front_fails (λ x. eqb x c.args.byte) _ c.fits-lanes.0 _ is 16 (all_fail
-    (λ x. eqb x c.args.byte) _ c.fits-lanes.0 _ is c.if-found-eq0.true) k d h))
+    eqb-false _ _ ((none_passes (λ x. eqb x c.args.byte) _ 16 c.fits-lanes.0 (omega arith) _ is
+    c.if-found-eq0.true).fail k d inside)
 
 pub returns-else-found-eq0-clause-bound : goal.returns-else-found-eq0-clause-bound
 returns-else-found-eq0-clause-bound c =
     let is = bitmask_splat w8 eqb c.args.lanes 16 c.args.byte c.fits-lanes.0 (omega arith) in
-    front_bound (λ x. eqb x c.args.byte) _ c.fits-lanes.0 _ is _ (some_fail
-    (λ x. eqb x c.args.byte) _ c.fits-lanes.0 _ is c.if-found-eq0.false)
+    let before = some_passes (λ x. eqb x c.args.byte) _ 16 c.fits-lanes.0 (omega arith) _ is
+    c.if-found-eq0.false in
+    omega (arith, before.bound)
 
 pub returns-else-found-eq0-clause-none : goal.returns-else-found-eq0-clause-none
-returns-else-found-eq0-clause-none c k d h =
+returns-else-found-eq0-clause-none c k d inside =
     let is = bitmask_splat w8 eqb c.args.lanes 16 c.args.byte c.fits-lanes.0 (omega arith) in
-    false-eqb _ _ (sym (front_fails (λ x. eqb x c.args.byte) _ c.fits-lanes.0 _ is _ (some_fail
-    (λ x. eqb x c.args.byte) _ c.fits-lanes.0 _ is c.if-found-eq0.false) k d h))
+    eqb-false _ _ ((some_passes (λ x. eqb x c.args.byte) _ 16 c.fits-lanes.0 (omega arith) _ is
+    c.if-found-eq0.false).fail k d inside)

@@ -1,11 +1,11 @@
-use Rattle.std.proofs.Common.{refl, eqb-true}
+use Rattle.std.proofs.Common.{eqb-true}
 use Rattle.enc_units.proofs.CodeUnitsLemmas.{units_alone}
 use Rattle.enc_units.proofs.UnitLanes.{all_before}
 use Rattle.enc_units.proofs.code_units.are_scalars.Goals as goal
 
 pub returns-clause-scalars : goal.returns-clause-scalars
-returns-clause-scalars c h =
-    all_before c.args.units c.fits-units.0 c.fits-units.1 _ refl (eqb-true _ 0 h)
+returns-clause-scalars c none =
+    all_before c.args.units c.fits-units.0 c.fits-units.1 (eqb-true _ 0 none)
 
 pub returns-clause-alone : goal.returns-clause-alone
 returns-clause-alone c = units_alone c.args.units c.fits-units.1

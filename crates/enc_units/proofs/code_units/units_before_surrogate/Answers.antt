@@ -1,19 +1,18 @@
-use Rattle.std.proofs.Common.{refl}
 use Rattle.enc_units.proofs.CodeUnitsLemmas.{units_alone}
-use Rattle.enc_units.proofs.UnitLanes.{all_before, few_before, scalars_before}
+use Rattle.enc_units.proofs.UnitLanes.{all_before, some_before}
 use Rattle.enc_units.proofs.code_units.units_before_surrogate.Goals as goal
 
 pub returns-then-surrogates-eq0-clause-scalars : goal.returns-then-surrogates-eq0-clause-scalars
 returns-then-surrogates-eq0-clause-scalars c =
-    all_before c.args.units c.fits-units.0 c.fits-units.1 _ refl c.if-surrogates-eq0.true
+    all_before c.args.units c.fits-units.0 c.fits-units.1 c.if-surrogates-eq0.true
 
 pub returns-else-surrogates-eq0-clause-bound : goal.returns-else-surrogates-eq0-clause-bound
 returns-else-surrogates-eq0-clause-bound c =
-    few_before c.args.units c.fits-units.0 c.fits-units.1 _ refl c.if-surrogates-eq0.false
+    (some_before c.args.units c.fits-units.0 c.fits-units.1 c.if-surrogates-eq0.false).0
 
 pub returns-else-surrogates-eq0-clause-scalars : goal.returns-else-surrogates-eq0-clause-scalars
 returns-else-surrogates-eq0-clause-scalars c =
-    scalars_before c.args.units c.fits-units.0 c.fits-units.1 _ refl c.if-surrogates-eq0.false
+    (some_before c.args.units c.fits-units.0 c.fits-units.1 c.if-surrogates-eq0.false).1
 
 pub returns-then-surrogates-eq0-clause-alone : goal.returns-then-surrogates-eq0-clause-alone
 returns-then-surrogates-eq0-clause-alone c = units_alone c.args.units c.fits-units.1

@@ -1,15 +1,9 @@
-use Rattle.std.proofs.Common.{◌≡◌, ◌++◌, ◌∙◌, ap, subst, arith, take, drop, length}
+use Rattle.std.proofs.Common.{subst, arith, drop}
 use Rattle.std.proofs.lemmas.List.{take-take}
 use Rattle.enc_units.proofs.LengthLemmas.{lengths}
 use Rattle.enc_units.specs.Mappings.{AreWrittenAsThemselves}
-use Rattle.enc_units.proofs.GatherLemmas.{stored_lanes}
-use Rattle.enc_units.proofs.PiecesLemmas.{own_ascii}
+use Rattle.enc_units.proofs.GatherLemmas.{stored_slice}
 use Rattle.enc_units.proofs.gather.store_own.Goals as goal
-
-pub returns-then-has_ascii-clause-own : goal.returns-then-has_ascii-clause-own
-returns-then-has_ascii-clause-own g c =
-    own_ascii (g.P.Pieces.means c.args.pieces) _ (c.has_ascii.ensures c.if-has_ascii.true)
-    c.store_ascii.ensures.ascii
 
 pub returns-clause-own : goal.returns-clause-own
 returns-clause-own g c =
@@ -19,10 +13,5 @@ returns-clause-own g c =
 
 pub returns-clause-stored : goal.returns-clause-stored
 returns-clause-stored g c =
-    let own = c.own_len.result in
-    let bound = c.own_len.ensures.bound in
-    let rest = drop c.args.from c.args.src.now in
-    let long : length (take 16 rest) ≡ 16 =
-    omega (arith, lengths) in
-    stored_lanes c.args.at own c.args.buffer.now (take 16 rest) (omega arith) (omega (arith, bound))
-    ∙ ap (λ z. take c.args.at c.args.buffer.now ++ z) (take-take own 16 rest bound)
+    stored_slice c.args.at _ 16 c.args.buffer.now (drop c.args.from c.args.src.now)
+    (omega (arith, lengths)) (omega arith) c.own_len.ensures.bound

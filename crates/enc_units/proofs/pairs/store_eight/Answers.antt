@@ -4,10 +4,6 @@ use Rattle.enc_units.proofs.LengthLemmas.{lengths}
 use Rattle.enc_units.proofs.PairsLemmas.{places_after}
 use Rattle.enc_units.proofs.pairs.store_eight.Goals as goal
 
-pub returns-then-not-is_whole-clause-gathers : goal.returns-then-not-is_whole-clause-gathers
-returns-then-not-is_whole-clause-gathers g c src long are =
-    c.store_four-first.ensures.gathers src (omega (arith, long)) (λ i l. are i (omega arith))
-
 pub returns-clause-gathers : goal.returns-clause-gathers
 returns-clause-gathers g c src long are =
     let first = c.store_four-first.result.0 in

@@ -1,7 +1,7 @@
 use Rattle.std.proofs.Common.{arith, subst, take, sym}
 use Rattle.enc_units.specs.Validity.{AreAscii}
 use Rattle.enc_units.proofs.AsciiMaskLemmas.{ascii_loaded}
-use Rattle.enc_units.proofs.GatherLemmas.{gathers_on}
+use Rattle.enc_units.proofs.GatherLemmas.{gathers_then}
 use Rattle.enc_units.proofs.single_bytes.store_hops.Goals as goal
 
 pub store_hop-first-requires-clause-are_ascii : goal.store_hop-first-requires-clause-are_ascii
@@ -22,5 +22,5 @@ store_hop-second-requires-clause-are_ascii g c =
 
 pub returns-clause-gathers : goal.returns-clause-gathers
 returns-clause-gathers g c =
-    gathers_on c.store_hop-first.ensures.gathers c.split_at.ensures.back
-    c.store_hop-second.ensures.gathers
+    gathers_then c.store_hop-first.ensures.gathers
+    (rw c.split_at.ensures.back at c.store_hop-second.ensures.gathers)

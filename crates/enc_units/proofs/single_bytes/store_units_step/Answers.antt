@@ -1,19 +1,11 @@
-use Rattle.std.proofs.Common.{◌≡◌, ◌∙◌, ◌+◌, ap, arith, refl, take, set, length-set}
+use Rattle.std.proofs.Common.{◌≡◌, ◌∙◌, ◌+◌, ap, arith, take, set, length-set}
 use Rattle.std.proofs.lemmas.List.{take_more_set}
-use Rattle.enc_units.proofs.GatherLemmas.{gathers_nothing, gathers_byte_unit}
+use Rattle.enc_units.proofs.GatherLemmas.{gathers_byte_unit}
 use Rattle.std.proofs.Common.{subst, sym, ◌∷◌, []}
 use Rattle.std.proofs.lemmas.List.{get_or-drop}
 use Rattle.enc_units.specs.Pairs.{MeansUnit}
 use Rattle.enc_units.proofs.LengthLemmas.{lengths}
 use Rattle.enc_units.proofs.single_bytes.store_units_step.Goals as goal
-
-pub loop-read-init : goal.loop-read-init
-loop-read-init g c = (
-  omega arith,
-  refl,
-  gathers_nothing
-      (ap (λ k. take k c.args.buffer.now) (omega arith)),
-)
 
 pub loop-read-preserved : goal.loop-read-preserved
 loop-read-preserved g c =

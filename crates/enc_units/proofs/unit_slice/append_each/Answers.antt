@@ -1,21 +1,9 @@
-use Rattle.enc_units.proofs.PiecesLemmas.{start, then_rest, then_one, same_then}
+use Rattle.enc_units.proofs.PiecesLemmas.{then_rest, then_one}
 use Rattle.enc_units.proofs.unit_slice.append_each.Goals as goal
-
-pub loop-at-init : goal.loop-at-init
-loop-at-init g c = start
 
 pub loop-at-preserved-then-own-gt0 : goal.loop-at-preserved-then-own-gt0
 loop-at-preserved-then-own-gt0 g c =
     then_rest c.split_at.ensures.back c.loop-at.invariant c.append_own-own.ensures
-
-pub returns-in_default : goal.returns-in_default
-returns-in_default g c =
-    then_rest c.split_at.ensures.back c.loop-at.invariant c.append_own-own.ensures
-
-pub returns-then-not-append_char : goal.returns-then-not-append_char
-returns-then-not-append_char g c =
-    same_then (c.append_char.ensures.unchanged c.if-not-append_char.true)
-    (then_rest c.split_at.ensures.back c.loop-at.invariant c.append_own-own.ensures)
 
 pub loop-at-preserved : goal.loop-at-preserved
 loop-at-preserved g c =

@@ -1,18 +1,12 @@
 use Rattle.std.proofs.Common.{subst}
 use Rattle.std.proofs.lemmas.List.{take-take}
 use Rattle.enc_units.specs.Mappings.{AreWrittenAsThemselves}
-use Rattle.enc_units.proofs.PiecesLemmas.{start, ascii_pieces, own_pieces}
+use Rattle.enc_units.proofs.PiecesLemmas.{ascii_pieces, own_pieces}
 use Rattle.enc_units.proofs.unit_slice.append_own.Goals as goal
 
 pub returns-then-has_ascii : goal.returns-then-has_ascii
 returns-then-has_ascii g c =
     ascii_pieces (c.has_ascii.ensures c.if-has_ascii.true) c.append_ascii.ensures
-
-pub returns-then-src-lt16 : goal.returns-then-src-lt16
-returns-then-src-lt16 g c = start
-
-pub returns-then-own-eq0 : goal.returns-then-own-eq0
-returns-then-own-eq0 g c = start
 
 pub returns : goal.returns
 returns g c =

@@ -1,21 +1,16 @@
-use Rattle.std.proofs.Common.{leb, leb-false, w16}
-use Rattle.enc_units.proofs.LaneLemmas.{all_fail, some_fail, front_bound, front_fails, splat_mask}
+use Rattle.std.proofs.Common.{arith, w16}
+use Rattle.enc_units.proofs.LaneLemmas.{ascii_before, no_others, before_others}
 use Rattle.enc_units.proofs.utf16_mapped.ascii_units.Goals as goal
 
 pub returns-then-others-eq0-clause-ascii : goal.returns-then-others-eq0-clause-ascii
-returns-then-others-eq0-clause-ascii c k d h =
-    let is = splat_mask w16 leb 128 _ c.fits-units.0 in
-    leb-false _ _ (front_fails (leb 128) _ c.fits-units.0 _ is 16 (all_fail
-    (leb 128) _ c.fits-units.0 _ is c.if-others-eq0.true) k d h)
+returns-then-others-eq0-clause-ascii c =
+    no_others w16 16 (omega arith) _ c.fits-units.0 c.if-others-eq0.true
 
 pub returns-else-others-eq0-clause-bound : goal.returns-else-others-eq0-clause-bound
 returns-else-others-eq0-clause-bound c =
-    let is = splat_mask w16 leb 128 _ c.fits-units.0 in
-    front_bound (leb 128) _ c.fits-units.0 _ is _
-    (some_fail (leb 128) _ c.fits-units.0 _ is c.if-others-eq0.false)
+    let before = before_others w16 16 (omega arith) _ c.fits-units.0 c.if-others-eq0.false in
+    omega (arith, before.bound)
 
 pub returns-else-others-eq0-clause-ascii : goal.returns-else-others-eq0-clause-ascii
-returns-else-others-eq0-clause-ascii c k d h =
-    let is = splat_mask w16 leb 128 _ c.fits-units.0 in
-    leb-false _ _ (front_fails (leb 128) _ c.fits-units.0 _ is _ (some_fail
-    (leb 128) _ c.fits-units.0 _ is c.if-others-eq0.false) k d h)
+returns-else-others-eq0-clause-ascii c =
+    ascii_before (before_others w16 16 (omega arith) _ c.fits-units.0 c.if-others-eq0.false)

@@ -1,12 +1,11 @@
-use Rattle.std.proofs.Common.{ap, ◌∙◌, replicate, ltb, w16}
-use Rattle.std.proofs.lemmas.Simd.{tops_compared, zip2_splat}
-use lib.Lanes.{sel_l}
-use Rattle.enc_units.proofs.Utf16MappedLemmas.{selected}
+use Rattle.std.proofs.Common.{ap, ◌∙◌, ltb, map, w16}
+use Rattle.enc_units.proofs.Lanes.{itself, splat_over, by_op, chosen, flag}
+use Rattle.enc_units.proofs.Utf16MappedLemmas.{least}
 use Rattle.enc_units.proofs.utf16_mapped.clamped.Goals as goal
 
 pub returns : goal.returns
 returns c =
-    ap (λ ms. sel_l ms c.args.units (replicate 16 0x7FF))
-    (tops_compared w16 ltb c.args.units (replicate 16 0x7FF)
-    ∙ zip2_splat ltb c.args.units 16 0x7FF c.fits-units.0)
-    ∙ selected 16 0x7FF c.args.units c.fits-units.0
+    let units = c.args.units in
+    let most = splat_over units 16 0x7FF c.fits-units.0 in
+    (chosen w16 _ (by_op (itself units) most (flag w16 ltb)) (itself units) most).is
+    ∙ ap (λ f. map f units) (λ i u. least u 0x7FF i)

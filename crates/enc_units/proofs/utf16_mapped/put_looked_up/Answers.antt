@@ -1,13 +1,12 @@
 use Rattle.enc_units.proofs.Utf16MappedLemmas.{own_written}
-use Rattle.enc_units.proofs.WriteLoopLemmas.{rest_is, of_same, writes_then}
+use Rattle.enc_units.proofs.WriteLoopLemmas.{writes_on}
 use Rattle.enc_units.proofs.utf16_mapped.put_looked_up.Goals as goal
 
 pub returns-then-len-eq16-clause-writes : goal.returns-then-len-eq16-clause-writes
 returns-then-len-eq16-clause-writes g c =
-    writes_then c.put_units-len.ensures.writes
-    (of_same (rest_is _ c.args.src.now) (own_written c.put_strides-more.ensures))
+    writes_on c.put_units-len.ensures.writes
+    (own_written c.put_strides-more.ensures)
 
 pub returns-clause-writes : goal.returns-clause-writes
 returns-clause-writes g c =
-    writes_then c.put_units-len.ensures.writes
-    (of_same (rest_is _ c.args.src.now) c.put_char-width.ensures)
+    writes_on c.put_units-len.ensures.writes c.put_char-width.ensures

@@ -1,11 +1,11 @@
 use Rattle.enc_units.proofs.Utf16MappedLemmas.{own_written}
-use Rattle.enc_units.proofs.WriteLoopLemmas.{rest_is, of_same, writes_then}
+use Rattle.enc_units.proofs.WriteLoopLemmas.{writes_on}
 use Rattle.enc_units.proofs.utf16_mapped.put_turn.Goals as goal
 
 pub returns-then-len-eq16-clause-writes : goal.returns-then-len-eq16-clause-writes
 returns-then-len-eq16-clause-writes g c =
-    writes_then (own_written c.put_ascii-len.ensures)
-    (of_same (rest_is _ c.args.src.now) (own_written c.put_strides-more.ensures))
+    writes_on (own_written c.put_ascii-len.ensures)
+    (own_written c.put_strides-more.ensures)
 
 pub returns-clause-writes : goal.returns-clause-writes
 returns-clause-writes g c = own_written c.put_ascii-len.ensures

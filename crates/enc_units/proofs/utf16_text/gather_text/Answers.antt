@@ -1,7 +1,6 @@
-use Rattle.std.proofs.Common.{◌∙◌, ◌++◌, ◌+◌, ap, refl, subst, arith, take}
-use Rattle.enc_units.specs.Surrogates.{IsFirstUtf16Char}
+use Rattle.std.proofs.Common.{◌∙◌, ◌++◌, ◌+◌, ap, refl, arith, take}
 use Rattle.enc_units.proofs.Utf16TextLemmas.{text_then_units, text_one, text_stored}
-use Rattle.enc_units.proofs.WriteLoopLemmas.{rest_is}
+use Rattle.enc_units.proofs.LengthLemmas.{rest_is}
 use Rattle.enc_units.proofs.utf16_text.gather_text.Goals as goal
 
 pub loop-written-preserved-then-count-eq8 : goal.loop-written-preserved-then-count-eq8
@@ -19,9 +18,8 @@ loop-written-preserved c =
     let invariant = c.loop-written.invariant in
     let stored = c.store_scalars-count.ensures in
     let stored_text = c.store_text-written.ensures in
-    let first = subst (λ us. IsFirstUtf16Char us c.in-Some.character c.in-Some.width)
-    (rest_is (c.loop-written.read + c.store_scalars-count.result.0) c.args.src.now)
-    c.in-Some.ensures in
+    let rest = rest_is (c.loop-written.read + c.store_scalars-count.result.0) c.args.src.now in
+    let first = rw rest at c.in-Some.ensures in
     let text = ap (λ k. take k c.store_text-written.new.buffer) stored_text.end ∙ stored_text.stored
     ∙ ap (λ z. take c.store_scalars-count.result.1 c.store_scalars-count.new.buffer ++ z)
     c.utf8_of.ensures.bytes in (
@@ -32,9 +30,3 @@ loop-written-preserved c =
           (text_then_units _ invariant.3 stored.few (omega arith) refl stored.scalars stored.stored)
           (text_one first c.utf8_of.ensures.scalar) text,
     )
-
-pub returns-in_default-clause-text : goal.returns-in_default-clause-text
-returns-in_default-clause-text c =
-    let stored = c.store_scalars-count.ensures in
-    text_then_units _ c.loop-written.invariant.3 stored.few (omega arith) refl stored.scalars
-    stored.stored

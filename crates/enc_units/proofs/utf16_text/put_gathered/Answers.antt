@@ -2,11 +2,8 @@ use Rattle.std.proofs.Common.{◌≡◌, ◌+◌, ◌≤◌, arith, length, take
 use Rattle.enc_units.proofs.LengthLemmas.{lengths}
 use Rattle.enc_units.proofs.PutLemmas.{put_part}
 use Rattle.enc_units.proofs.Utf16TextLemmas.{writes_text}
-use Rattle.enc_units.proofs.WriteLoopLemmas.{of_same, rest_is, written_none, written_then}
+use Rattle.enc_units.proofs.WriteLoopLemmas.{written_then}
 use Rattle.enc_units.proofs.utf16_text.put_gathered.Goals as goal
-
-pub parts-init : goal.parts-init
-parts-init g c = written_none c.requires.room tt
 
 pub parts-preserved : goal.parts-preserved
 parts-preserved g c =
@@ -17,6 +14,5 @@ parts-preserved g c =
     let long : count ≡ length part = omega (arith, gathered.bound, lengths) in
     let room : end + count ≤ length c.parts.dst =
     omega (arith, gathered.room, c.parts.invariant.room) in
-    written_then c.parts.invariant (of_same (rest_is c.parts.read c.args.src.now)
-    (writes_text c.requires.utf8 gathered.text
-    (put_part end count c.parts.dst c.copy_from_slice.ensures.after long room)))
+    written_then c.parts.invariant (writes_text c.requires.utf8 gathered.text
+    (put_part end count c.parts.dst c.copy_from_slice.ensures.after long room))

@@ -1,13 +1,14 @@
+use Rattle.std.proofs.str.Valid.{of_one, of_two}
 use Rattle.std.proofs.Common.{arith}
-use Rattle.enc_units.proofs.Utf8RunLemmas.{one_front, two_front, three_front, four_front}
+use Rattle.enc_units.proofs.Utf8RunLemmas.{three_front, four_front}
 use Rattle.enc_units.proofs.utf8.char_len.Goals as goal
 
 pub returns-then-first-lt128-clause-utf8 : goal.returns-then-first-lt128-clause-utf8
-returns-then-first-lt128-clause-utf8 c = one_front c.args.src.now (omega arith) (omega arith)
+returns-then-first-lt128-clause-utf8 c = of_one c.args.src.now 0 (omega arith) (omega arith)
 
 pub returns-then-first-lt224-clause-utf8 : goal.returns-then-first-lt224-clause-utf8
 returns-then-first-lt224-clause-utf8 c =
-    two_front c.args.src.now (omega arith) (omega arith) (omega arith)
+    of_two c.args.src.now 0 (omega arith) (omega arith) (omega arith)
 
 pub returns-then-first-lt240-clause-utf8 : goal.returns-then-first-lt240-clause-utf8
 returns-then-first-lt240-clause-utf8 c =

@@ -1,5 +1,6 @@
 use Rattle.std.proofs.Common.{◌≡◌, ◌∙◌, length, get_or, bit_xor, sym, arith}
-use Rattle.enc_units.proofs.Utf8FaultLemmas.{lane_of_two, can_follow}
+use Rattle.enc_units.proofs.Utf8FaultLemmas.{can_follow}
+use Rattle.enc_units.proofs.Lanes.{own, by_op, lane_at}
 use Rattle.enc_units.proofs.utf8.faults.Goals as goal
 
 pub returns : goal.returns
@@ -11,4 +12,4 @@ returns c k few none =
     let required_at = get_or required k 0 in
     let pair_at = get_or pairs k 0 in
     can_follow required_at pair_at (c.faults_within.ensures k few) (c.pair_faults.ensures k few)
-    (sym (lane_of_two bit_xor required pairs k required_long pairs_long few) ∙ none)
+    (sym (lane_at (by_op (own required required_long) (own pairs pairs_long) bit_xor) k few) ∙ none)

@@ -1,9 +1,14 @@
-use Rattle.enc_units.proofs.Utf8FaultLemmas.{required_lane}
+use Rattle.std.proofs.Common.{◌∙◌, bit_and, bit_or}
+use Rattle.enc_units.proofs.Lanes.{splat, by_op, lane_at}
+use Rattle.enc_units.proofs.Utf8FaultLemmas.{excesses, required_is}
 use Rattle.enc_units.proofs.Utf8UnitLanes.{lane_bound}
 use Rattle.enc_units.proofs.utf8.faults_within.Goals as goal
 
 pub returns : goal.returns
-returns c k h =
+returns c k below =
     let args = c.args in
-    required_lane args.third args.second c.fits-third.0 c.fits-second.0 k h
-    (lane_bound args.third k c.fits-third h) (lane_bound args.second k c.fits-second h)
+    let second = (excesses 0x60 args.second c.fits-second.0).1 in
+    let third = (excesses 0x70 args.third c.fits-third.0).1 in
+    lane_at (by_op (by_op second third bit_or) (splat 0x80) bit_and) k below
+    ∙ required_is _ _ (lane_bound args.third k c.fits-third below)
+    (lane_bound args.second k c.fits-second below)

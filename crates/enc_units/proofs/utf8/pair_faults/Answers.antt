@@ -1,7 +1,8 @@
-use Rattle.std.proofs.Common.{◌≡◌, ◌∙◌, length, get_or, ap, sym, subst, arith}
+use Rattle.std.proofs.Common.{◌∙◌, get_or, bit_and, ap, sym, subst, arith}
 use Rattle.enc_units.specs.declared.utf8_faults.TheConstants.{FIRST_UPPER, FIRST_LOWER, SECOND_UPPER}
 use Rattle.enc_units.specs.Utf8Run.{ArePairFaults}
-use Rattle.enc_units.proofs.Utf8FaultLemmas.{lane_of_and, pair_faults_of}
+use Rattle.enc_units.proofs.Utf8FaultLemmas.{pair_faults_of}
+use Rattle.enc_units.proofs.Lanes.{own, by_op, lane_at}
 use Rattle.enc_units.proofs.Utf8UnitLanes.{lane_bound}
 use Rattle.enc_units.proofs.utf8.pair_faults.Goals as goal
 
@@ -15,10 +16,9 @@ returns c k few =
     ∙ ap (λ p. get_or FIRST_LOWER p 0) (c.lower_halves.ensures.value k few) in
     let second = c.pick-3.ensures.lanes k few
     ∙ ap (λ p. get_or SECOND_UPPER p 0) (c.upper_halves-2.ensures.value k few) in
-    let one_long : length c.pick.result ≡ 16 = omega arith in
-    let other_long : length c.pick-2.result ≡ 16 = omega arith in
-    let third_long : length c.pick-3.result ≡ 16 = omega arith in
+    let first_two = by_op (own c.pick.result (omega arith)) (own c.pick-2.result (omega arith)) bit_and
+    in
     subst (ArePairFaults x b)
-    (sym (lane_of_and _ _ _ k one_long other_long third_long few))
+    (sym (lane_at (by_op first_two (own c.pick-3.result (omega arith)) bit_and) k few))
     (pair_faults_of (lane_bound c.args.first k c.fits-first few)
     (lane_bound c.args.second k c.fits-second few) upper lower second)

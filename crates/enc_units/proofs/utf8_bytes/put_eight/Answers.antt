@@ -3,14 +3,6 @@ use Rattle.enc_units.proofs.LengthLemmas.{lengths}
 use Rattle.enc_units.proofs.WriteLoopLemmas.{writes_then}
 use Rattle.enc_units.proofs.utf8_bytes.put_eight.Goals as goal
 
-pub put_four-first-requires-clause-units : goal.put_four-first-requires-clause-units
-put_four-first-requires-clause-units g c k below = omega
-    (arith, c.lanes_at-lanes.ensures.unit k below)
-
-pub put_four-second-requires-clause-units : goal.put_four-second-requires-clause-units
-put_four-second-requires-clause-units g c k below =
-    omega (arith, c.lanes_at-lanes.ensures.unit k below)
-
 pub returns-then-not-is_whole-clause-writes : goal.returns-then-not-is_whole-clause-writes
 returns-then-not-is_whole-clause-writes g c =
     c.put_four-first.ensures.writes (drop c.args.from c.args.src.now) (omega (arith, lengths))

@@ -1,4 +1,4 @@
-use Rattle.std.proofs.Common.{◌∙◌, ◌+◌, ◌/◌, ◌^◌, refl, arith, length-set}
+use Rattle.std.proofs.Common.{◌∙◌, ◌/◌, ◌^◌, refl, arith, length-set}
 use Rattle.enc_units.proofs.EndsLemmas.{end_is, end_next}
 use Rattle.enc_units.proofs.Utf8BytesLemmas.{four_further}
 use Rattle.enc_units.proofs.WriteLoopLemmas.{writes_none}
@@ -13,10 +13,6 @@ loop-count-init g c = (
   refl,
   λ text long lanes utf8. writes_none (omega arith) utf8,
 )
-
-pub unit_byte-byte-requires : goal.unit_byte-byte-requires
-unit_byte-byte-requires g c =
-    omega (arith, c.requires.units (c.args.place + c.loop-count.read) (omega arith))
 
 pub loop-count-preserved : goal.loop-count-preserved
 loop-count-preserved g c =

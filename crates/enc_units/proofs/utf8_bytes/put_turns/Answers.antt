@@ -1,12 +1,6 @@
-use Rattle.std.proofs.Common.{◌∙◌, arith, refl}
-use Rattle.enc_units.proofs.WriteLoopLemmas.{writes_none, writes_then}
+use Rattle.std.proofs.Common.{◌∙◌, arith}
+use Rattle.enc_units.proofs.WriteLoopLemmas.{writes_then}
 use Rattle.enc_units.proofs.utf8_bytes.put_turns.Goals as goal
-
-pub loop-read-init : goal.loop-read-init
-loop-read-init g c = (omega arith, refl, writes_none c.requires.room c.requires.utf8)
-
-pub put_turn-more-requires-clause-utf8 : goal.put_turn-more-requires-clause-utf8
-put_turn-more-requires-clause-utf8 g c = c.loop-read.invariant.2.rest
 
 pub loop-read-preserved : goal.loop-read-preserved
 loop-read-preserved g c =

@@ -2,10 +2,6 @@ use Rattle.std.proofs.Common.{arith}
 use Rattle.enc_units.proofs.Utf8MappedLemmas.{found_at, second_within, third_within, fourth_within}
 use Rattle.enc_units.proofs.utf8_mapped.found_at.Goals as goal
 
-pub from_u32_unchecked-requires : goal.from_u32_unchecked-requires
-from_u32_unchecked-requires c =
-    ((found_at _ _ c.requires.utf8 c.requires.within c.requires.beyond).two (omega arith)).scalar
-
 pub returns-then-first-lt224-clause-beyond : goal.returns-then-first-lt224-clause-beyond
 returns-then-first-lt224-clause-beyond c = rw c.from_u32_unchecked.ensures
     ((found_at _ _ c.requires.utf8 c.requires.within c.requires.beyond).two (omega arith)).beyond

@@ -1,6 +1,5 @@
-use Rattle.std.proofs.Common.{◌+◌}
 use Rattle.enc_units.proofs.Utf8MappedLemmas.{own_written}
-use Rattle.enc_units.proofs.WriteLoopLemmas.{rest_is, of_same, written_from, written_then}
+use Rattle.enc_units.proofs.WriteLoopLemmas.{written_from, written_then}
 use Rattle.enc_units.proofs.utf8_mapped.write_utf8.Goals as goal
 
 pub sixteens-init : goal.sixteens-init
@@ -8,22 +7,14 @@ sixteens-init g c = written_from (own_written c.requires.utf8 c.put_strides-read
 
 pub sixteens-preserved : goal.sixteens-preserved
 sixteens-preserved g c =
-    written_then (written_then c.sixteens.invariant
-    (of_same (rest_is c.sixteens.read c.args.src.now) c.put_turn-len.ensures))
-    (of_same (rest_is (c.sixteens.read + c.put_turn-len.result.0) c.args.src.now)
-    c.put_by_lanes-len.ensures)
+    written_then (written_then c.sixteens.invariant c.put_turn-len.ensures)
+    c.put_by_lanes-len.ensures
 
 pub returns-then-len-eq0 : goal.returns-then-len-eq0
-returns-then-len-eq0 g c =
-    (written_then c.sixteens.invariant
-    (of_same (rest_is c.sixteens.read c.args.src.now) c.put_turn-len.ensures)).front
+returns-then-len-eq0 g c = (written_then c.sixteens.invariant c.put_turn-len.ensures).front
 
 pub ones-preserved : goal.ones-preserved
-ones-preserved g c =
-    written_then c.ones.invariant
-    (of_same (rest_is c.ones.read c.args.src.now) c.put_char-width.ensures)
+ones-preserved g c = written_then c.ones.invariant c.put_char-width.ensures
 
 pub returns-then-width-eq0 : goal.returns-then-width-eq0
-returns-then-width-eq0 g c =
-    (written_then c.ones.invariant
-    (of_same (rest_is c.ones.read c.args.src.now) c.put_char-width.ensures)).front
+returns-then-width-eq0 g c = (written_then c.ones.invariant c.put_char-width.ensures).front

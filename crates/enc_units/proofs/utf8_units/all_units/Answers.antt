@@ -1,11 +1,23 @@
-use Rattle.std.proofs.Common.{◌∙◌}
-use Rattle.enc_units.proofs.Utf8UnitLanes.{all_at, all_units_are, lane_bound}
+use Rattle.std.proofs.Common.{◌∙◌, ◌/◌, ◌^◌, leb, ltb, bit_and, w16}
+use Rattle.enc_units.proofs.Lanes.{own, splat, widened, by_op, chosen, flag, lane_at}
+use Rattle.enc_units.proofs.Utf8UnitLanes.{pairs, twos, threes, add16, times16, all_units_are, lane_bound}
 use Rattle.enc_units.proofs.utf8_units.all_units.Goals as goal
 
 pub returns : goal.returns
 returns c k below =
     let args = c.args in
-    all_at args.first args.second args.third c.fits-first.0 c.fits-second.0 c.fits-third.0 k below
+    let first = widened (own args.first c.fits-first.0) in
+    let second = widened (own args.second c.fits-second.0) in
+    let third = widened (own args.third c.fits-third.0) in
+    let pair = (pairs first second).1 in
+    let low = by_op (by_op (by_op pair (splat 0xFF80) add16) (splat 0x3FF) bit_and)
+    (splat 0xDC00) add16 in
+    let upper = by_op third (splat 4) (λ a b. a / 2 ^ b) in
+    let four = by_op (by_op (by_op pair (splat 4) times16) upper add16) (splat 0xE5B8) add16 in
+    let one = chosen w16 _ (by_op first (splat 0x80) (flag w16 ltb)) first low in
+    let short = chosen w16 _ (by_op (splat 0xC0) first (flag w16 leb)) (twos first second).1 one in
+    let long = chosen w16 _ (by_op (splat 0xE0) first (flag w16 leb))
+    (threes first second third).1 short in
+    lane_at (chosen w16 _ (by_op (splat 0xF0) first (flag w16 leb)) four long) k below
     ∙ all_units_are _ _ _ (lane_bound args.first k c.fits-first below)
-    (lane_bound args.second k c.fits-second below)
-    (lane_bound args.third k c.fits-third below)
+    (lane_bound args.second k c.fits-second below) (lane_bound args.third k c.fits-third below)

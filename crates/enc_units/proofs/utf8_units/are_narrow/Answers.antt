@@ -1,5 +1,7 @@
-use Rattle.enc_units.proofs.Utf8UnitLanes.{narrow_lanes}
+use Rattle.std.proofs.Common.{leb-false}
+use Rattle.enc_units.proofs.Lanes.{at_least, none_set}
 use Rattle.enc_units.proofs.utf8_units.are_narrow.Goals as goal
 
 pub returns : goal.returns
-returns c = narrow_lanes c.args.bytes c.fits-bytes.0
+returns c none k below =
+    leb-false _ _ (none_set _ (at_least 0xF0 c.args.bytes c.fits-bytes.0) k below none)

@@ -1,5 +1,10 @@
-use Rattle.enc_units.proofs.Utf8UnitLanes.{mask_bit}
+use Rattle.std.proofs.Common.{ltb}
+use Rattle.enc_units.proofs.Lanes.{at_least, compared, either, flag_bit}
 use Rattle.enc_units.proofs.utf8_units.marks_of.Goals as goal
 
 pub returns : goal.returns
-returns c k h = mask_bit c.args.before c.args.bytes c.fits-before.0 c.fits-bytes.0 k h
+returns c k below =
+    let bytes = c.args.bytes in
+    let begin = either _ _ (compared ltb 0x80 bytes c.fits-bytes.0) (at_least 0xC0 bytes c.fits-bytes.0)
+    in
+    flag_bit _ (either _ _ begin (at_least 0xF0 c.args.before c.fits-before.0)) k below

@@ -1,11 +1,15 @@
-use Rattle.std.proofs.Common.{◌∙◌}
-use Rattle.enc_units.proofs.Utf8UnitLanes.{narrow_at, narrow_unit, lane_bound}
+use Rattle.std.proofs.Common.{◌∙◌, leb, ltb, w16}
+use Rattle.enc_units.proofs.Lanes.{own, splat, widened, by_op, chosen, flag, lane_at}
+use Rattle.enc_units.proofs.Utf8UnitLanes.{twos, threes, narrow_unit, lane_bound}
 use Rattle.enc_units.proofs.utf8_units.narrow_units.Goals as goal
 
 pub returns : goal.returns
-returns c k below n g =
+returns c k below short gives =
     let args = c.args in
-    narrow_at args.first args.second args.third c.fits-first.0 c.fits-second.0 c.fits-third.0 k
-    below
-    ∙ narrow_unit _ _ _ n (lane_bound args.second k c.fits-second below)
-    (lane_bound args.third k c.fits-third below) g
+    let first = widened (own args.first c.fits-first.0) in
+    let second = widened (own args.second c.fits-second.0) in
+    let three = (threes first second (widened (own args.third c.fits-third.0))).1 in
+    let long = chosen w16 _ (by_op (splat 0xE0) first (flag w16 leb)) three (twos first second).1 in
+    lane_at (chosen w16 _ (by_op first (splat 0x80) (flag w16 ltb)) first long) k below
+    ∙ narrow_unit _ _ _ short (lane_bound args.second k c.fits-second below)
+    (lane_bound args.third k c.fits-third below) gives

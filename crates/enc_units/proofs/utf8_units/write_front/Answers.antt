@@ -1,21 +1,7 @@
 use Rattle.std.proofs.Common.{◌+◌, arith}
 use Rattle.enc_units.proofs.UnitsWrittenLemmas.{written_further, sixteen_ahead}
-use Rattle.enc_units.proofs.Utf8UnitsLemmas.{units_few, dropped_beyond}
+use Rattle.enc_units.proofs.Utf8UnitsLemmas.{dropped_beyond}
 use Rattle.enc_units.proofs.utf8_units.write_front.Goals as goal
-
-pub store_one-written-requires-clause-room : goal.store_one-written-requires-clause-room
-store_one-written-requires-clause-room c =
-    let src = c.args.src.now in
-    let ahead = sixteen_ahead src c.args.len c.loop-read.read (omega arith) c.requires.utf8
-    (omega arith) in
-    omega (arith, ahead, c.loop-read.invariant.count, units_few src 0 c.args.len)
-
-pub store_sixteen-written-requires-clause-room : goal.store_sixteen-written-requires-clause-room
-store_sixteen-written-requires-clause-room c =
-    let src = c.args.src.now in
-    let ahead = sixteen_ahead src c.args.len c.loop-read.read (omega arith) c.requires.utf8
-    (omega arith) in
-    omega (arith, ahead, c.loop-read.invariant.count, units_few src 0 c.args.len)
 
 pub loop-read-preserved-then-read-lt2 : goal.loop-read-preserved-then-read-lt2
 loop-read-preserved-then-read-lt2 c =

@@ -1,5 +1,5 @@
 use Rattle.std.proofs.Common.{refl}
-use Rattle.std.proofs.Common.{◌≡◌, ◌∙◌, ◌+◌, ◌-◌, ◌≤◌, ◌++◌, length, take, drop, ap, sym, arith}
+use Rattle.std.proofs.Common.{◌≡◌, ◌∙◌, ◌+◌, ◌-◌, ◌≤◌, ◌++◌, length, take, ap, arith}
 use Rattle.enc_units.specs.Utf8Units.{units_from}
 use Rattle.enc_units.proofs.LengthLemmas.{lengths}
 use Rattle.enc_units.proofs.PutLemmas.{put_length, put_front, put_rest, put_part}
@@ -14,13 +14,6 @@ returns-clause-gathers c =
     let all : c.loop-read.read ≡ c.args.len = omega arith in
     gathers_units c.args.src.now c.args.len _ (omega arith) c.requires.utf8
     (written.front ∙ ap (units_from c.args.src.now 0) all)
-
-pub returns-clause-rest : goal.returns-clause-rest
-returns-clause-rest c =
-    let written = c.loop-read.invariant.1 in
-    let all : c.loop-read.read ≡ c.args.len = omega arith in
-    let end = written.count ∙ ap (λ n. length (units_from c.args.src.now 0 n)) all in
-    ap (λ n. drop n c.loop-read.dst) end ∙ written.rest ∙ ap (λ n. drop n c.args.dst.now) (sym end)
 
 pub loop-read-preserved : goal.loop-read-preserved
 loop-read-preserved c =

@@ -1,25 +1,13 @@
-use Rattle.std.proofs.Common.{◌∙◌, ap, arith}
-use lib.Lanes.{put_chunk}
-use Rattle.enc_units.proofs.AsciiLemmas.{ascii_more, ascii_one, copied_more, copied_one}
-use Rattle.enc_units.proofs.Utf8UnitsLemmas.{same_bytes}
+use Rattle.std.proofs.Common.{arith}
+use Rattle.enc_units.proofs.AsciiLemmas.{copies_more, copies_one}
+use Rattle.std.proofs.lemmas.List.{map-id}
 use Rattle.enc_units.proofs.widen.widen_ascii.Goals as goal
 
 pub loop-at-preserved : goal.loop-at-preserved
 loop-at-preserved c =
-    let invariant = c.loop-at.invariant in (
-      omega arith,
-      ascii_more _ _ _ invariant.1 (c.are_ascii.ensures c.if-not-are_ascii.false),
-      ap (put_chunk c.loop-at.at c.loop-at.dst) (same_bytes _)
-          ∙ copied_more c.loop-at.at 16 c.args.src.now c.loop-at.dst c.args.dst.now (omega arith)
-          (omega arith)
-          invariant.2,
-    )
+    copies_more c.loop-at.invariant (omega arith) (omega arith) 16 (omega arith) (map-id _)
+    (c.are_ascii.ensures c.if-not-are_ascii.false)
 
 pub loop-at-2-preserved : goal.loop-at-2-preserved
 loop-at-2-preserved c =
-    let invariant = c.loop-at-2.invariant in (
-      omega arith,
-      ascii_one _ _ invariant.1 (omega arith) (omega arith),
-      copied_one c.loop-at-2.at c.args.src.now c.loop-at-2.dst c.args.dst.now (omega arith)
-          (omega arith) invariant.2,
-    )
+    copies_one c.loop-at-2.invariant (omega arith) (omega arith) (omega arith) (omega arith)

@@ -1,14 +1,12 @@
-use Rattle.std.proofs.Common.{◌≡◌, ◌+◌, ◌-◌, ◌≤◌, [], length, take}
+use Rattle.std.proofs.Common.{◌+◌, ◌-◌, length}
 use Rattle.std.specs.Char.{encode_utf8}
-use Rattle.enc_units.specs.Gathering.{GathersChars}
+use Rattle.enc_units.proofs.GatherLemmas.{Gathered}
 use Rattle.enc_units.proofs.gather.OneByOneGather.gather.Given as goal
 
 abbrev pub invariant-loop-written : goal.invariant-loop-written
 invariant-loop-written g l =
-    (l.most + 16 ≤ length l.buffer) × (l.written ≤ l.most + 16)
-    × (length l.buffer ≡ length l.initial.buffer)
-    × GathersChars encode_utf8 (g.P.Pieces.means l.self.pieces) l.src l.read []
-    (take l.written l.buffer)
+    Gathered encode_utf8 (g.P.Pieces.means l.self.pieces) l.src l.initial.buffer l.buffer
+    (l.most + 16) (l.most + 16) l.read l.written
 
 abbrev pub decreases-loop-written : goal.decreases-loop-written
 decreases-loop-written g l = length l.src - l.read

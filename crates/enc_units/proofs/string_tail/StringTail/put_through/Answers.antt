@@ -1,12 +1,8 @@
 use Rattle.std.proofs.Common.{refl, ap, arith, rules, length}
 use Rattle.enc_units.proofs.LengthLemmas.{lengths}
 use Rattle.enc_units.proofs.PiecesLemmas.{then_rest}
-use Rattle.enc_units.proofs.AsciiPrefixLemmas.{gathered_utf8, appends_gathered}
+use Rattle.enc_units.proofs.AsciiPrefixLemmas.{appends_gathered}
 use Rattle.enc_units.proofs.string_tail.StringTail.put_through.Goals as goal
-
-pub append-requires-clause-utf8 : goal.append-requires-clause-utf8
-append-requires-clause-utf8 g c =
-    gathered_utf8 c.put_pieces-read.ensures (rw c.new-out.ensures.len refl) (search rules)
 
 pub loop-front-preserved : goal.loop-front-preserved
 loop-front-preserved g c =

@@ -1,9 +1,6 @@
 use Rattle.std.proofs.Common.{◌∙◌, sym}
-use Rattle.enc_units.proofs.PiecesLemmas.{start, one_piece}
+use Rattle.enc_units.proofs.PiecesLemmas.{one_piece}
 use Rattle.enc_units.proofs.utf16_slice.Utf16Slice.append_first.Goals as goal
-
-pub returns-then-src-eq0 : goal.returns-then-src-eq0
-returns-then-src-eq0 c = start
 
 pub returns : goal.returns
 returns c =

@@ -1,8 +1,5 @@
-use Rattle.enc_units.proofs.PiecesLemmas.{start, then_one}
+use Rattle.enc_units.proofs.PiecesLemmas.{then_one}
 use Rattle.enc_units.proofs.utf8_slice.Utf8Slice.append_few.Goals as goal
-
-pub loop-count-init : goal.loop-count-init
-loop-count-init g c = start
 
 pub loop-count-preserved : goal.loop-count-preserved
 loop-count-preserved g c =

@@ -1,11 +1,7 @@
 use Rattle.std.proofs.Common.{arith}
-use Rattle.enc_units.proofs.PiecesLemmas.{then_rest, same_then}
+use Rattle.enc_units.proofs.PiecesLemmas.{then_rest}
 use Rattle.enc_units.proofs.GatherLemmas.{puts_gathered}
 use Rattle.enc_units.proofs.utf8_slice.Utf8Slice.append_turns.Goals as goal
-
-pub returns-then-not-append : goal.returns-then-not-append
-returns-then-not-append g c =
-    same_then (c.append.ensures.unchanged c.if-not-append.true) c.loop-at.invariant
 
 pub returns-then-written-buffer : goal.returns-then-written-buffer
 returns-then-written-buffer g c =
