@@ -1,5 +1,5 @@
 -- A prefix determines the first sequences exactly if it contains them and their lookahead.
-use Rattle.std.proofs.Common.{◌≡◌, ℕ, ◌+◌, ◌-◌, ◌≤◌, ◌↔◌, zero, suc, List, [], ◌∷◌, ◌++◌, length, take, drop, refl, ap}
+use Rattle.std.proofs.Common.{◌≡◌, ℕ, ◌+◌, ◌-◌, ◌≤◌, zero, suc, List, [], ◌∷◌, ◌++◌, length, take, drop, refl, ap}
 use Rattle.std.proofs.Common.{◌∙◌, sym, subst, arith, append_assoc, inl, inr}
 use Rattle.std.proofs.lemmas.Bool.Decides.{leb_tells}
 use Rattle.std.proofs.lemmas.List.{length-take-le, take-append-le, take-take, take-append-drop, drop-append-le}
@@ -177,17 +177,6 @@ module _ (rule : Rule) (law : HasLookahead rule) where
             enough_bytes y
             ∙ ap (λ ts. s ∷ ts) first.1,
       )
-
-  -- The first k bytes of an input determine its first sequences exactly if they contain them and
-  -- their lookahead.
-  pub determined_by : (ss rest : List Sequence) (set k : ℕ) (z : List ℕ) → AreBytes z
-      → sequences_of rule set z ≡ ss ++ rest → k ≤ length z
-      → Determines (sequences_of rule set) (take k z) ss ↔ CoverLookahead rule set z ss k
-  determined_by ss rest set k z a whole enough_bytes = (
-    reach_after ss rest set k z a whole enough_bytes,
-    determine_if_after ss rest set k z whole
-        enough_bytes,
-  )
 
 -- bytes determine it or only the end does, not both
 pub determined_not_by_end : (rule : Rule) (set b : ℕ) (z : List ℕ) (n : ℕ)

@@ -1,8 +1,7 @@
 -- The steps of the loop over the bytes of one call.
 use Rattle.std.proofs.Common.{◌≡◌, ℕ, ◌+◌, ◌<◌, ◌≤◌, true, false, List, [], ◌∷◌, length, drop, refl}
 use Rattle.std.proofs.Common.{ap, ◌∙◌, sym, arith, subst, append-nil, nat_le, inl, inr, ◌||◌}
-use Rattle.std.proofs.lemmas.Bool.{false≢true}
-use Rattle.std.proofs.lemmas.Bool.Decides.{nat_tests}
+use Rattle.std.proofs.lemmas.Bool.{false≢true, leb-true, leb-false}
 use Rattle.enc_decoder.specs.declared.byte_codec.Emission.{Emission}
 use Rattle.enc_decoder.specs.declared.machine.NextEvent.TheVariants.{NeedsInput, HoldsByte, Emits}
 use Rattle.enc_units.specs.declared.decoder_result.DecoderResult.{DecoderResult}
@@ -25,12 +24,6 @@ use Rattle.enc_decoder.proofs.OutputStageLemmas.{Reaches, Progress, progress_at,
 use Rattle.enc_decoder.proofs.FirstSequenceLemmas.{true_or_false}
 use Rattle.enc_decoder.proofs.NextEventLemmas.{not_late}
 use Rattle.enc_decoder.proofs.EventLeavesLemmas as event
-
-within_room : (m n : ℕ) → nat_le m n ≡ true → m ≤ n
-within_room m n is_le = grind (arith, nat_tests)
-
-past_room : (m n : ℕ) → nat_le m n ≡ false → n < m
-past_room m n is_not_le = grind (arith, nat_tests)
 
 -- a call that writes nothing goes on at a stage
 module _ {units_of : ℕ → List ℕ} {old now : Remainder} {before at : Output} {stage : Stage}
@@ -95,7 +88,7 @@ module _ {C : Type 0} {units_of : ℕ → List ℕ} (state : C → CodecState) {
               ap (λ t. length (units_of_text units_of t)) (emits.0.replacement malformed),
               ap length (append-nil (units_of 0xFFFD)),
             )
-            | inr valid ↦ past_room (length (units_of_text units_of (text_chars s.text))) at.room
+            | inr valid ↦ leb-false (length (units_of_text units_of (text_chars s.text))) at.room
                 (none_for_text valid)
           ] in
           let not_reported : keeps_room stage.mode ≡ false → is_malformed s.kind ≡ false =
@@ -120,7 +113,7 @@ module _ {C : Type 0} {units_of : ℕ → List ℕ} (state : C → CodecState) {
           progress_at (reaches_state reaches leads (record {
             text = ap (units_of_text units_of) same_text;
             scalars = subst AreScalars same_text scalars;
-            fits = omega (arith, within_room (length units) at.room fits, room_at reaches);
+            fits = omega (arith, leb-true (length units) at.room fits, room_at reaches);
             flag = sym (ap (λ b. b || false) valid);
             none_replaced = λ _. refl;
           }) onto) same_read (or_false stage.replaced)

@@ -5,7 +5,6 @@ use Rattle.std.proofs.lemmas.List.{length-append}
 use Rattle.std.proofs.lemmas.Str.{length-encode, len_utf8_bounds}
 use Rattle.std.specs.Char.{encode_utf8}
 use Rattle.std.specs.Char.Escape.{encode_utf16}
-use Rattle.enc_units.specs.Output.{units_of_text}
 use Rattle.enc_decoder.specs.Sequence.{Sequence, sequence_text}
 use Rattle.enc_decoder.specs.Segmentation.{Rule, head_sequence, sequences_after, sequences_of}
 use Rattle.enc_decoder.specs.RuleLaws.{HasTexts, IsSmallText, HasSmallTexts}
@@ -98,13 +97,3 @@ one_small c = record {
 
 pub none_small : IsSmallText []
 none_small = record { utf_8 = omega arith; utf_16 = omega arith }
-
--- a text without units is empty
-pub no_units : (text : List ℕ) → units_of_text encode_utf8 text ≡ [] → text ≡ []
-no_units [] e = refl
-no_units (c ∷ text) e = absurd (omega (
-  arith,
-  (units_bounds c).0,
-  length-append (encode_utf8 c) (units_of_text encode_utf8 text),
-  ap length e,
-))
