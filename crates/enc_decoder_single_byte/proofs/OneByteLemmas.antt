@@ -14,7 +14,7 @@ use Rattle.enc_decoder.proofs.SegmentationLemmas.{sequences_of-head}
 use Rattle.enc_decoder.proofs.EmissionLemmas.{shows_with}
 use Rattle.enc_decoder.specs.Taking.{IsWholeChar}
 use Rattle.enc_decoder.specs.Latin1.{HasNoByteSequences}
-use Rattle.enc_decoder.proofs.FirstSequenceLemmas.{looks_at_none}
+use Rattle.enc_decoder.proofs.FirstSequenceLemmas.{lookahead_by}
 use Rattle.enc_decoder.proofs.RuleLemmas.{one_small}
 use Rattle.enc_decoder.proofs.Latin1Lemmas.{has_bytes_by}
 
@@ -75,22 +75,16 @@ module _ (character : ℕ → Option ℕ) where
       let none_more = no_more set (character b) in
       record { there = omega arith; same = λ y. refl }
 
-  has_lookahead : HasLookahead (one_byte_rule character)
-  has_lookahead = record {
-    valid = λ set b z _. determined_by_itself set b z;
-    others = λ set b z. inl (
-      0,
-      omega arith,
-      looks_at_none (one_byte_rule character) set b z (determined_by_itself set b z),
-    );
-  }
-
   has_small_texts : HasSmallTexts (one_byte_rule character)
   unfolding one_byte_rule
   has_small_texts set b z = small set (character b)
 
   pub one_byte_is_lawful : IsLawfulRule (one_byte_rule character)
-  one_byte_is_lawful = record { lookahead = has_lookahead; small_texts = has_small_texts }
+  one_byte_is_lawful = record {
+    lookahead = lookahead_by (one_byte_rule character)
+        (λ set b z. inl (determined_by_itself set b z));
+    small_texts = has_small_texts;
+  }
 
 has_text : (set : ℕ) (character : Option ℕ) → (one_byte_head set character).text ≡ [] → ⊥
 has_text set None e = cc
@@ -109,10 +103,3 @@ single_byte_ascii runs b is_ascii = cond-true _ _ _ (lt-ltb b 0x80 is_ascii)
 
 pub x_user_defined_ascii : (b : ℕ) → b < 0x80 → x_user_defined_char b ≡ Some b
 x_user_defined_ascii b is_ascii = cond-true _ _ _ (lt-ltb b 0x80 is_ascii)
-
-pub single_byte_has_bytes : (runs : List (ℕ × ℕ × ℕ))
-    → ¬ (HasNoByteSequences (one_byte_rule (single_byte_char runs)))
-single_byte_has_bytes runs = one_byte_has_bytes (single_byte_char runs) 0x61 0x61 refl
-
-pub x_user_defined_has_bytes : ¬ (HasNoByteSequences (one_byte_rule x_user_defined_char))
-x_user_defined_has_bytes = one_byte_has_bytes x_user_defined_char 0x61 0x61 refl
