@@ -103,3 +103,10 @@ single_byte_ascii runs b is_ascii = cond-true _ _ _ (lt-ltb b 0x80 is_ascii)
 
 pub x_user_defined_ascii : (b : ℕ) → b < 0x80 → x_user_defined_char b ≡ Some b
 x_user_defined_ascii b is_ascii = cond-true _ _ _ (lt-ltb b 0x80 is_ascii)
+
+pub single_byte_has_bytes : (runs : List (ℕ × ℕ × ℕ))
+    → ¬ (HasNoByteSequences (one_byte_rule (single_byte_char runs)))
+single_byte_has_bytes runs = one_byte_has_bytes (single_byte_char runs) 0x61 0x61 refl
+
+pub x_user_defined_has_bytes : ¬ (HasNoByteSequences (one_byte_rule x_user_defined_char))
+x_user_defined_has_bytes = one_byte_has_bytes x_user_defined_char 0x61 0x61 refl
