@@ -5,14 +5,11 @@ use Rattle.std.proofs.lemmas.Bool.Decides.{nat_tests}
 use Rattle.std.specs.Char.{encode_utf8}
 use Rattle.std.specs.Char.Escape.{encode_utf16}
 use Rattle.enc_units.specs.Output.{units_of_text}
-use Rattle.enc_units.specs.Checked.{checked_mul}
 use Rattle.enc_decoder.specs.Segmentation.{Rule, one_byte_head, head_sequence, sequences_after, sequences_of}
 use Rattle.enc_decoder.specs.Remainder.{AreBytes}
-use Rattle.enc_decoder.specs.CodecState.{CodecState, remainder_of}
-use Rattle.enc_decoder.specs.Call.{DecodeErrorMode, Replacement, Fatal}
 use Rattle.enc_decoder.specs.declared.text_lengths.TextLengths.TheVariants as lengths
 use Rattle.enc_decoder.specs.Lengths.{utf_8_length}
-use Rattle.enc_decoder.specs.Need.{NeedExceeds, AreEnoughForCodec, IsBmpText}
+use Rattle.enc_decoder.specs.Need.{AreEnoughForCodec, IsBmpText}
 use Rattle.enc_decoder.proofs.NeedLemmas.{units, units-both, units-one}
 use Rattle.enc_decoder.proofs.EnoughLemmas.{thrice_is, same_some, basic_by, bounded, enough_by, HasUnitsWithin}
 use Rattle.enc_index.specs.Index.{Run, index_at, entry_character, is_entry_code_point}
@@ -95,10 +92,10 @@ module _ (character : ℕ → Option ℕ) (is_basic : AreBasic character) where
   one_byte_enough : AreEnoughForCodec lengths.OneByte
       (record { rule = rule; set = 0; pending = [] })
   one_byte_enough = enough_by lengths.OneByte _ thrice thrice (λ src n bytes is_length. omega (
-      arith,
-      bounded_bytes encode_utf16 1 (λ _ basic. basic.utf_16) 0 src bytes,
-      same_some (length src) n is_length,
-    ))
+    arith,
+    bounded_bytes encode_utf16 1 (λ _ basic. basic.utf_16) 0 src bytes,
+    same_some (length src) n is_length,
+  ))
     where
       thrice : HasUnitsWithin encode_utf8 (utf_8_length lengths.OneByte)
           (record { rule = rule; set = 0; pending = [] })

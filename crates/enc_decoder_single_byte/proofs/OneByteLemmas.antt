@@ -6,7 +6,7 @@ use Rattle.enc_decoder.specs.declared.byte_codec.Text.TheVariants.{One}
 use Rattle.enc_decoder.specs.Segmentation.{Head, head_sequence, sequences_of, one_byte_head}
 use Rattle.enc_decoder.specs.CodecState.{CodecState}
 use Rattle.enc_decoder.specs.CodecLaw.{HandlesByte}
-use Rattle.enc_decoder.specs.RuleLaws.{HasTexts, HasLookahead, IsSmallText, HasSmallTexts, IsDeterminedWithin}
+use Rattle.enc_decoder.specs.RuleLaws.{HasTexts, IsSmallText, HasSmallTexts, IsDeterminedWithin}
 use Rattle.enc_decoder.specs.RuleLaws.{IsLawfulRule}
 use Rattle.enc_decoder_single_byte.specs.OneByte.{one_byte_rule, one_byte_step, single_byte_char, x_user_defined_char}
 use Rattle.enc_decoder_single_byte.specs.OneByteState.{one_byte_state}

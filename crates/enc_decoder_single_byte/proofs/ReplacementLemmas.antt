@@ -5,7 +5,7 @@ use Rattle.enc_decoder.specs.declared.byte_codec.Text.TheVariants.{Nothing, One}
 use Rattle.enc_decoder.specs.declared.byte_codec.HandlerResult.TheVariants.{Emit}
 use Rattle.enc_decoder.specs.CodecLaw.{HandlesByte, lone_fault}
 use Rattle.enc_decoder.specs.Latin1.{HasNoByteSequences}
-use Rattle.enc_decoder.specs.RuleLaws.{HasLookahead, HasSmallTexts, IsDeterminedWithin, IsLawfulRule}
+use Rattle.enc_decoder.specs.RuleLaws.{HasSmallTexts, IsDeterminedWithin, IsLawfulRule}
 use Rattle.enc_decoder_single_byte.specs.Replacement.{replacement_rule, replacement_state}
 use Rattle.enc_decoder.proofs.SegmentationLemmas.{sequences_of-cons}
 use Rattle.enc_decoder.proofs.EmissionLemmas.{shows_with}
