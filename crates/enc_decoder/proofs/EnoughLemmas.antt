@@ -1,8 +1,10 @@
 -- Which lengths are enough, by what the sequences of a rule have for each byte.
+use Rattle.enc_decoder.specs.declared.text_lengths.TextLengths.TheVariants.{MultiByte}
 use Rattle.std.proofs.Common.{◌≡◌, ℕ, ◌+◌, ◌*◌, ◌/◌, ◌^◌, ◌<◌, ◌≤◌, zero, suc, Bool, true, false, cond, nat_lt, Option}
-use Rattle.std.proofs.Common.{Some, None, List, [], ◌∷◌, ◌++◌, length, take, drop, refl, ap, ◌∙◌, sym, arith}
+use Rattle.std.proofs.Common.{Some, None, List, [], ◌∷◌, ◌++◌, length, take, drop, refl, ap, ◌∙◌, sym, arith, inl, inr}
 use Rattle.std.proofs.lemmas.Str.{length-encode}
 use Rattle.std.proofs.lemmas.Bool.Decides.{nat_tests}
+use Rattle.std.proofs.lemmas.Bool.{cases_lt, cond-true, lt-ltb}
 use Rattle.std.proofs.lemmas.List.{length-append, take-append-drop}
 use Rattle.std.specs.Char.{encode_utf8, len_utf8}
 use Rattle.std.specs.Char.Escape.{encode_utf16}
@@ -47,8 +49,7 @@ pub same_some : (a b : ℕ) → Some a ≡ Some b → a ≡ b
 same_some a b e = cc
 
 pub sum_is : (n h q : ℕ) → checked_add (Some n) h ≡ Some q → q ≡ n + h
-sum_is n h q e = let sum = plus_is (Some n) h q e in sum.2
-    ∙ ap (λ a. a + h) (sym (same_some n sum.0 sum.1))
+sum_is n h q e = fitting_is (n + h) q (nat_lt (n + h) (2 ^ 64)) e
 
 pub thrice_is : (o : Option ℕ) (m q : ℕ) → ((a : ℕ) → o ≡ Some a → a ≡ m) → checked_mul o 3 ≡ Some q
     → q ≡ 3 * m
@@ -167,26 +168,24 @@ enough_by formulas v utf_8 reporting utf_16 = record {
       needs_all units_of mode v src last n exceeds,
     )
 
--- At most three code units of UTF-8 and one of UTF-16 for each byte.
+-- a text of at most three code units of UTF-8 and one of UTF-16 for each of n bytes
+abbrev HasFew : List ℕ → ℕ → Type 0
+HasFew text n = (length (units_of_text encode_utf8 text) ≤ 3 * n)
+    × (length (units_of_text encode_utf16 text) ≤ n)
+
+-- each sequence has such a text
 abbrev pub HasFewUnits : Rule → Type 0
 HasFewUnits rule = (set b : ℕ) (z : List ℕ)
-    → (length (units_of_text encode_utf8 (rule set b z).text)
-    ≤ 3 * suc (length (take (rule set b z).more z)))
-    × (length (units_of_text encode_utf16 (rule set b z).text)
-    ≤ suc (length (take (rule set b z).more z)))
+    → HasFew (rule set b z).text (suc (length (take (rule set b z).more z)))
 
 pub basic_by : (c : ℕ) → c < 0x1_0000 → IsBmpText (c ∷ [])
 basic_by c l = record {
-  utf_8 = omega (arith, length-append (encode_utf8 c) [], length-encode c, at_most_three c l);
-  utf_16 = ap_one (nat_lt c 0x1_0000) _ _ _ (grind (arith, nat_tests));
+  utf_8 = omega (arith, length-append (encode_utf8 c) [], length-encode c, at_most_three);
+  utf_16 = rw (cond-true (nat_lt c 0x1_0000) _ _ (lt-ltb c 0x1_0000 l)) (omega arith);
 }
   where
-    at_most_three : (c : ℕ) → c < 0x1_0000 → len_utf8 c ≤ 3
-    at_most_three c l = grind (arith, nat_tests)
-
-    ap_one : (t : Bool) (a b d : ℕ) → t ≡ true → length (cond t (a ∷ []) (b ∷ d ∷ []) ++ []) ≤ 1
-    ap_one true a b d e = omega arith
-    ap_one false a b d e = absurd (cc)
+    at_most_three : len_utf8 c ≤ 3
+    at_most_three = grind (arith, nat_tests)
 
 pub none_basic : IsBmpText []
 none_basic = record { utf_8 = omega arith; utf_16 = omega arith }
@@ -196,19 +195,14 @@ pub few_by_single_bytes : (rule : Rule) → HasSmallTexts rule
     → ((set b : ℕ) (z : List ℕ) → length (take (rule set b z).more z) ≡ 0
     → IsBmpText (rule set b z).text)
     → HasFewUnits rule
-few_by_single_bytes rule small basic set b z = by_length (length (take (rule set b z).more z)) refl
-  where
-    by_length : (n : ℕ) → length (take (rule set b z).more z) ≡ n
-        → (length (units_of_text encode_utf8 (rule set b z).text)
-        ≤ 3 * suc (length (take (rule set b z).more z)))
-        × (length (units_of_text encode_utf16 (rule set b z).text)
-        ≤ suc (length (take (rule set b z).more z)))
-    by_length zero is_length =
-        let small_text = basic set b z is_length in
-        (omega (arith, small_text.utf_8), omega (arith, small_text.utf_16))
-    by_length (suc n) is_length =
-        let small_text = small set b z in
-        (omega (arith, small_text.utf_8, is_length), omega (arith, small_text.utf_16, is_length))
+few_by_single_bytes rule small basic set b z =
+    elim (cases_lt 0 (length (take (rule set b z).more z))) [
+      | inl some ↦
+          let text = small set b z in (omega (arith, text.utf_8), omega (arith, text.utf_16))
+      | inr none ↦
+          let text = basic set b z (omega arith) in
+          (omega (arith, text.utf_8), omega (arith, text.utf_16))
+    ]
 
 module _ (v : CodecState) (few : HasFewUnits v.rule) where
   -- at most `each` code units for each byte

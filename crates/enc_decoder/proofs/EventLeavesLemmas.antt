@@ -1,4 +1,5 @@
 -- What each event of the loop over bytes leaves, and the call that it ends.
+use Rattle.enc_decoder.proofs.StageLemmas.{stage_at}
 use Rattle.enc_decoder.proofs.NextEventLemmas.{holds_sequences}
 use Rattle.std.proofs.lemmas.Bool.{false≢true}
 use Rattle.std.proofs.Common.{◌≡◌, ℕ, ◌<◌, ◌≤◌, suc, Bool, true, false, List, [], ◌∷◌, ◌++◌, length, get_or}
@@ -22,7 +23,7 @@ use Rattle.enc_decoder.proofs.DeterminedLemmas.{determined_at}
 use Rattle.enc_decoder.proofs.ByteLemmas.{bytes-drop, determines_by_more}
 use Rattle.enc_decoder.proofs.NextEventLemmas as event
 use Rattle.enc_decoder.proofs.StageLemmas.{Stage}
-use Rattle.enc_decoder.proofs.LeavesLemmas.{Leaves, stage_at}
+use Rattle.enc_decoder.proofs.LeavesLemmas.{Leaves}
 use Rattle.enc_decoder.proofs.StateLeavesLemmas.{LeadsOn, unread, byte_follows, rest_follows, state_leaves}
 
 -- a call that reads and does nothing

@@ -1,5 +1,6 @@
 -- A call over bytes that were held back, and one over those that follow them, are a call over all
 -- of them.
+pub use Rattle.std.proofs.lemmas.List.{nil_from_length as no_bytes}
 use Rattle.std.proofs.Common.{◌≡◌, ℕ, ◌+◌, ◌-◌, ◌<◌, ◌≤◌, Bool, true, false, List, [], ◌∷◌, ◌++◌, length, take, drop}
 use Rattle.std.proofs.Common.{refl, ap, ◌∙◌, sym, arith, append_assoc, ◌||◌, inl, inr, subst, ◌⊎◌}
 use Rattle.std.proofs.lemmas.Bool.{false≢true}
@@ -25,11 +26,6 @@ abbrev pub IsPrefixedInto : (ℕ → List ℕ) → Remainder → Remainder → C
 IsPrefixedInto units_of old new c =
     PrefixedCallInto units_of old new c.src c.last c.mode c.before c.after c.result c.read
     c.replaced
-
--- a list of no length is empty
-pub no_bytes : (x : List ℕ) → length x ≡ 0 → x ≡ []
-no_bytes [] e = refl
-no_bytes (b ∷ x) e = absurd (omega arith)
 
 module _ {units_of : ℕ → List ℕ} {old new : Remainder} {c : CallInto} where
   -- the same call over the same bytes, and the number of bytes read
@@ -203,16 +199,14 @@ pub joins : {units_of : ℕ → List ℕ} {old mid new : Remainder} {held : List
       replaced = had || c.replaced;
     })
 joins {held = held} {before} {given} {had} {c} bytes also first second =
-    let held_call : Call = record {
+    let held_call : Call = call_writing (record c {
       src = held;
       last = false;
-      mode = c.mode;
-      room = before.room;
+      before = before;
       result = InputEmpty;
       read = given;
-      wrote = first.wrote;
       replaced = had;
-    } in
+    }) first.wrote in
     let next_call : Call = call_writing c second.wrote in
     let all_read = first.call.call.stops.all_read in
     let both = two_calls {first = held_call} {second = next_call} bytes also (record {
