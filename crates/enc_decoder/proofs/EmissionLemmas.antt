@@ -1,6 +1,6 @@
 -- What a codec shows, for every codec.
 use Rattle.std.proofs.Common.{◌≡◌, ℕ, ◌+◌, ◌<◌, ◌≤◌, true, false, List, [], ◌∷◌, ◌++◌, length, ap, ◌∙◌, sym, arith}
-use Rattle.std.proofs.Common.{append-nil}
+use Rattle.std.proofs.Common.{append-nil, subst}
 use Rattle.std.proofs.lemmas.List.{length-append}
 use Rattle.std.proofs.lemmas.Bool.{false≢true}
 use Rattle.enc_decoder.specs.declared.byte_codec.Kind.{Kind}
@@ -49,18 +49,23 @@ nothing_pending v e q d =
 
 module _ {C : Type 0} (state : C → CodecState) (c next : C) (text : Text) (kind : Kind) (len : ℕ)
   where
+    -- these bytes are the first sequence if y follows, and the next state goes on with z
+    abbrev Shows : List ℕ → List ℕ → List ℕ → Type 0
+    Shows bytes y z = (remainder_of (state c)).sequences y
+        ≡ record { bytes = bytes; text = text_chars text; kind = kind; set = (state next).set }
+        ∷ (remainder_of (state next)).sequences z
+
+    -- a malformed one has U+FFFD for its text, and is not too long
+    abbrev KeepsBounds : Type 0
+    KeepsBounds = is_malformed kind ≡ true
+        → (text_chars text ≡ 0xFFFD ∷ []) × (AreMalformedLens len (length (state next).pending))
+
     -- a byte is the last of a sequence, after which nothing is pending
     pub shows_with : (b : ℕ) → (state next).rule ≡ (state c).rule → (state next).pending ≡ []
         → len ≡ length (state c).pending + 1
         → is_repeated_escape kind ≡ false
         → (is_malformed kind ≡ true → (text_chars text ≡ 0xFFFD ∷ []) × (len ≤ 4))
-        → ((z : List ℕ) → (remainder_of (state c)).sequences (b ∷ z)
-        ≡ record {
-          bytes = (state c).pending ++ b ∷ [];
-          text = text_chars text;
-          kind = kind;
-          set = (state next).set;
-        } ∷ (remainder_of (state next)).sequences z)
+        → ((z : List ℕ) → Shows ((state c).pending ++ b ∷ []) (b ∷ z) z)
         → HandlesByte state c b
         (Emit (record { text = text; kind = kind; len = len; takes_byte = true; next = next }))
     shows_with b same_rule none_pending is_len not_repeated malformed_text comes =
@@ -90,12 +95,8 @@ module _ {C : Type 0} (state : C → CodecState) (c next : C) (text : Text) (kin
     -- them
     pub shows_before : (may_follow : List ℕ → Type 0) (bytes : List ℕ)
         → (state next).rule ≡ (state c).rule → (state c).pending ≡ bytes ++ (state next).pending
-        → len ≡ length bytes → 0 < len → is_repeated_escape kind ≡ false
-        → (is_malformed kind ≡ true
-        → (text_chars text ≡ 0xFFFD ∷ []) × (AreMalformedLens len (length (state next).pending)))
-        → ((y : List ℕ) → may_follow y → (remainder_of (state c)).sequences y
-        ≡ record { bytes = bytes; text = text_chars text; kind = kind; set = (state next).set }
-        ∷ (remainder_of (state next)).sequences y)
+        → len ≡ length bytes → 0 < len → is_repeated_escape kind ≡ false → KeepsBounds
+        → ((y : List ℕ) → may_follow y → Shows bytes y y)
         → IsNextSequence state c may_follow []
         (record { text = text; kind = kind; len = len; takes_byte = false; next = next })
     shows_before may_follow bytes same_rule parts is_len some not_repeated faults first = record {
@@ -115,23 +116,12 @@ module _ {C : Type 0} (state : C → CodecState) (c next : C) (text : Text) (kin
     -- the next byte shows it
     pub shows_at : (b : ℕ) (bytes : List ℕ) → (state next).rule ≡ (state c).rule
         → (state c).pending ≡ bytes ++ (state next).pending
-        → len ≡ length bytes → 0 < len → is_repeated_escape kind ≡ false
-        → (is_malformed kind ≡ true
-        → (text_chars text ≡ 0xFFFD ∷ []) × (AreMalformedLens len (length (state next).pending)))
-        → ((z : List ℕ) → (remainder_of (state c)).sequences (b ∷ z)
-        ≡ record { bytes = bytes; text = text_chars text; kind = kind; set = (state next).set }
-        ∷ (remainder_of (state next)).sequences (b ∷ z))
+        → len ≡ length bytes → 0 < len → is_repeated_escape kind ≡ false → KeepsBounds
+        → ((z : List ℕ) → Shows bytes (b ∷ z) (b ∷ z))
         → HandlesByte state c b
         (Emit (record { text = text; kind = kind; len = len; takes_byte = false; next = next }))
-    shows_at b bytes same_rule parts is_len some not_repeated malformed_text comes = (
-      shows_before (BeginsWithByte b) bytes same_rule parts is_len some not_repeated
-          malformed_text
-          (λ y begins. ap (remainder_of (state c)).sequences begins.1 ∙ comes begins.0
-          ∙ ap (λ x. record {
-            bytes = bytes;
-            text = text_chars text;
-            kind = kind;
-            set = (state next).set;
-          } ∷ (remainder_of (state next)).sequences x) (sym begins.1)),
+    shows_at b bytes same_rule parts is_len some not_repeated keeps_bounds comes = (
+      shows_before (BeginsWithByte b) bytes same_rule parts is_len some not_repeated keeps_bounds
+          (λ y begins. subst (λ x. Shows bytes x x) (sym begins.1) (comes begins.0)),
       λ takes. absurd (false≢true takes),
     )

@@ -1,8 +1,10 @@
 -- Which lengths are enough, by what the sequences of a rule have for each byte.
+use Rattle.enc_decoder.specs.declared.text_lengths.TextLengths.TheVariants.{MultiByte}
 use Rattle.std.proofs.Common.{◌≡◌, ℕ, ◌+◌, ◌*◌, ◌/◌, ◌^◌, ◌<◌, ◌≤◌, zero, suc, Bool, true, false, cond, nat_lt, Option}
-use Rattle.std.proofs.Common.{Some, None, List, [], ◌∷◌, ◌++◌, length, take, drop, refl, ap, ◌∙◌, sym, arith}
+use Rattle.std.proofs.Common.{Some, None, List, [], ◌∷◌, ◌++◌, length, take, drop, refl, ap, ◌∙◌, sym, arith, inl, inr}
 use Rattle.std.proofs.lemmas.Str.{length-encode}
 use Rattle.std.proofs.lemmas.Bool.Decides.{nat_tests}
+use Rattle.std.proofs.lemmas.Bool.{cases_lt, cond-true, lt-ltb}
 use Rattle.std.proofs.lemmas.List.{length-append, take-append-drop}
 use Rattle.std.specs.Char.{encode_utf8, len_utf8}
 use Rattle.std.specs.Char.Escape.{encode_utf16}
@@ -16,7 +18,9 @@ use Rattle.enc_decoder.specs.RuleLaws.{HasSmallTexts}
 use Rattle.enc_decoder.specs.declared.text_lengths.TextLengths.{TextLengths}
 use Rattle.enc_decoder.specs.declared.text_lengths.TextLengths.TheVariants as lengths
 use Rattle.enc_decoder.specs.Lengths.{utf_8_length, reporting_length, utf_16_length}
-use Rattle.enc_decoder.specs.Need.{sequences_before_malformed, needed_units, NeedExceeds, AreEnoughForCodec, IsBmpText}
+use Rattle.enc_decoder.specs.Need.{sequences_before_malformed, needed_units, NeedExceeds, IsBmpText}
+use Rattle.enc_decoder.specs.Need.{IsEnoughForCodec, AreEnoughForCodec}
+use Rattle.enc_decoder.specs.Remainder.{AreBytes}
 use Rattle.enc_decoder.proofs.NeedLemmas.{units, units-both, units-one, needed_more, at_end}
 
 -- what a formula comes to, where no step of it passes usize
@@ -45,8 +49,7 @@ pub same_some : (a b : ℕ) → Some a ≡ Some b → a ≡ b
 same_some a b e = cc
 
 pub sum_is : (n h q : ℕ) → checked_add (Some n) h ≡ Some q → q ≡ n + h
-sum_is n h q e = let sum = plus_is (Some n) h q e in sum.2
-    ∙ ap (λ a. a + h) (sym (same_some n sum.0 sum.1))
+sum_is n h q e = fitting_is (n + h) q (nat_lt (n + h) (2 ^ 64)) e
 
 pub thrice_is : (o : Option ℕ) (m q : ℕ) → ((a : ℕ) → o ≡ Some a → a ≡ m) → checked_mul o 3 ≡ Some q
     → q ≡ 3 * m
@@ -138,26 +141,51 @@ never_passes units_of mode most v within src last n is_most exceeds =
           (length-append v.pending src),
     )
 
--- At most three code units of UTF-8 and one of UTF-16 for each byte.
+-- All sequences of the pending bytes and any others have at most as many code units as a formula
+-- gives.
+abbrev pub HasUnitsWithin : (ℕ → List ℕ) → (ℕ → ℕ → Option ℕ) → CodecState → Type 0
+HasUnitsWithin units_of length_of v = (src : List ℕ) (n : ℕ) → AreBytes src
+    → length_of (length src) (length v.pending) ≡ Some n
+    → units units_of (sequences_of v.rule v.set (v.pending ++ src)) ≤ n
+
+-- Such formulas are enough.
+pub enough_by : (formulas : TextLengths) (v : CodecState)
+    → HasUnitsWithin encode_utf8 (utf_8_length formulas) v
+    → HasUnitsWithin encode_utf8 (reporting_length formulas) v
+    → HasUnitsWithin encode_utf16 (utf_16_length formulas) v → AreEnoughForCodec formulas v
+enough_by formulas v utf_8 reporting utf_16 = record {
+  utf_8 = enough encode_utf8 Replacement (utf_8_length formulas) utf_8;
+  reporting = λ keeps. enough encode_utf8 (Fatal keeps) (reporting_length formulas) reporting;
+  utf_16 = λ mode. enough encode_utf16 mode (utf_16_length formulas) utf_16;
+}
+  where
+    enough : (units_of : ℕ → List ℕ) (mode : DecodeErrorMode) (length_of : ℕ → ℕ → Option ℕ)
+        → HasUnitsWithin units_of length_of v → IsEnoughForCodec units_of mode length_of v
+    enough units_of mode length_of within src last n bytes is_length exceeds = omega (
+      arith,
+      within src n bytes is_length,
+      needed_less units_of mode (sequences_of v.rule v.set (v.pending ++ src)),
+      needs_all units_of mode v src last n exceeds,
+    )
+
+-- a text of at most three code units of UTF-8 and one of UTF-16 for each of n bytes
+abbrev HasFew : List ℕ → ℕ → Type 0
+HasFew text n = (length (units_of_text encode_utf8 text) ≤ 3 * n)
+    × (length (units_of_text encode_utf16 text) ≤ n)
+
+-- each sequence has such a text
 abbrev pub HasFewUnits : Rule → Type 0
 HasFewUnits rule = (set b : ℕ) (z : List ℕ)
-    → (length (units_of_text encode_utf8 (rule set b z).text)
-    ≤ 3 * suc (length (take (rule set b z).more z)))
-    × (length (units_of_text encode_utf16 (rule set b z).text)
-    ≤ suc (length (take (rule set b z).more z)))
+    → HasFew (rule set b z).text (suc (length (take (rule set b z).more z)))
 
 pub basic_by : (c : ℕ) → c < 0x1_0000 → IsBmpText (c ∷ [])
 basic_by c l = record {
-  utf_8 = omega (arith, length-append (encode_utf8 c) [], length-encode c, at_most_three c l);
-  utf_16 = ap_one (nat_lt c 0x1_0000) _ _ _ (grind (arith, nat_tests));
+  utf_8 = omega (arith, length-append (encode_utf8 c) [], length-encode c, at_most_three);
+  utf_16 = rw (cond-true (nat_lt c 0x1_0000) _ _ (lt-ltb c 0x1_0000 l)) (omega arith);
 }
   where
-    at_most_three : (c : ℕ) → c < 0x1_0000 → len_utf8 c ≤ 3
-    at_most_three c l = grind (arith, nat_tests)
-
-    ap_one : (t : Bool) (a b d : ℕ) → t ≡ true → length (cond t (a ∷ []) (b ∷ d ∷ []) ++ []) ≤ 1
-    ap_one true a b d e = omega arith
-    ap_one false a b d e = absurd (cc)
+    at_most_three : len_utf8 c ≤ 3
+    at_most_three = grind (arith, nat_tests)
 
 pub none_basic : IsBmpText []
 none_basic = record { utf_8 = omega arith; utf_16 = omega arith }
@@ -167,90 +195,55 @@ pub few_by_single_bytes : (rule : Rule) → HasSmallTexts rule
     → ((set b : ℕ) (z : List ℕ) → length (take (rule set b z).more z) ≡ 0
     → IsBmpText (rule set b z).text)
     → HasFewUnits rule
-few_by_single_bytes rule small basic set b z = by_length (length (take (rule set b z).more z)) refl
-  where
-    by_length : (n : ℕ) → length (take (rule set b z).more z) ≡ n
-        → (length (units_of_text encode_utf8 (rule set b z).text)
-        ≤ 3 * suc (length (take (rule set b z).more z)))
-        × (length (units_of_text encode_utf16 (rule set b z).text)
-        ≤ suc (length (take (rule set b z).more z)))
-    by_length zero is_length =
-        let small_text = basic set b z is_length in
-        (omega (arith, small_text.utf_8), omega (arith, small_text.utf_16))
-    by_length (suc n) is_length =
-        let small_text = small set b z in
-        (omega (arith, small_text.utf_8, is_length), omega (arith, small_text.utf_16, is_length))
+few_by_single_bytes rule small basic set b z =
+    elim (cases_lt 0 (length (take (rule set b z).more z))) [
+      | inl some ↦
+          let text = small set b z in (omega (arith, text.utf_8), omega (arith, text.utf_16))
+      | inr none ↦
+          let text = basic set b z (omega arith) in
+          (omega (arith, text.utf_8), omega (arith, text.utf_16))
+    ]
 
 module _ (v : CodecState) (few : HasFewUnits v.rule) where
-  parted : (n : ℕ) (z : List ℕ) → length (take n z) + length (drop n z) ≡ length z
-  parted n z = sym (length-append (take n z) (drop n z)) ∙ ap length (take-append-drop n z)
+  -- at most `each` code units for each byte
+  all_bounded : (units_of : ℕ → List ℕ) (each : ℕ)
+      → ((set b : ℕ) (z : List ℕ) → length (units_of_text units_of (v.rule set b z).text)
+      ≤ each * suc (length (take (v.rule set b z).more z)))
+      → (z : List ℕ) → units units_of (sequences_of v.rule v.set z) ≤ each * length z
+  all_bounded units_of each most z = bounded units_of v.rule (λ _ n. each * n) (λ set b y.
+      let more = (v.rule set b y).more in
+      let parted = sym (length-append (take more y) (drop more y))
+      ∙ ap length (take-append-drop more y) in
+      grind (arith, most set b y, parted)) v.set z
 
   pub utf_8_bounded : (z : List ℕ)
       → needed_units encode_utf8 Replacement (sequences_of v.rule v.set z) ≤ 3 * length z
-  utf_8_bounded z = bounded encode_utf8 v.rule (λ _ n. 3 * n)
-      (λ set b y. omega (arith, (few set b y).0, parted (v.rule set b y).more y)) v.set z
+  utf_8_bounded z = all_bounded encode_utf8 3 (λ set b y. (few set b y).0) z
 
   pub utf_16_bounded : (mode : DecodeErrorMode) (z : List ℕ)
       → needed_units encode_utf16 mode (sequences_of v.rule v.set z) ≤ length z
   utf_16_bounded mode z =
-      let within = bounded encode_utf16 v.rule (λ _ n. n)
-      (λ set within y. omega (arith, (few set within y).1, parted (v.rule set within y).more y))
-      v.set z in
+      let within = all_bounded encode_utf16 1 (λ set b y. omega (arith, (few set b y).1)) z in
       omega (arith, within, needed_less encode_utf16 mode (sequences_of v.rule v.set z))
 
-  reporting_bounded : (keeps : Bool) (z : List ℕ)
-      → needed_units encode_utf8 (Fatal keeps) (sequences_of v.rule v.set z) ≤ 3 * length z
-  reporting_bounded keeps z =
+  pub multi_byte_enough : AreEnoughForCodec lengths.MultiByte v
+  multi_byte_enough = enough_by lengths.MultiByte v thrice thrice (λ src n _ is_length.
+      let within = all_bounded encode_utf16 1 (λ set b z. omega (arith, (few set b z).1))
+      (v.pending ++ src) in
       omega (
         arith,
-        utf_8_bounded z,
-        needed_less encode_utf8 (Fatal keeps)
-            (sequences_of v.rule v.set z),
-      )
-
-  -- by formulas that have this number of code units for all bytes
-  enough_by : (formulas : TextLengths)
-      → ((src : List ℕ) (n : ℕ) → utf_8_length formulas (length src) (length v.pending) ≡ Some n
-      → 3 * (length v.pending + length src) ≤ n)
-      → ((src : List ℕ) (n : ℕ) → reporting_length formulas (length src) (length v.pending) ≡ Some n
-      → 3 * (length v.pending + length src) ≤ n)
-      → ((src : List ℕ) (n : ℕ) → utf_16_length formulas (length src) (length v.pending) ≡ Some n
-      → length v.pending + length src ≤ n)
-      → AreEnoughForCodec formulas v
-  enough_by formulas utf_8 reporting utf_16 = record {
-    utf_8 = λ src last n _ is_length.
-        never_passes encode_utf8 Replacement (λ k. 3 * k) v utf_8_bounded src last n
-        (utf_8 src n is_length);
-    reporting = λ keeps src last n _ is_length.
-        never_passes encode_utf8 (Fatal keeps) (λ k. 3 * k) v (reporting_bounded keeps) src last n
-        (reporting src n is_length);
-    utf_16 = λ mode src last n _ is_length.
-        never_passes encode_utf16 mode (λ k. k) v (utf_16_bounded mode) src last n
-        (utf_16 src n is_length);
-  }
-
-  pub multi_byte_enough : AreEnoughForCodec lengths.MultiByte v
-  multi_byte_enough = enough_by lengths.MultiByte thrice thrice
-      (λ src n is_length. omega (arith, sum_is (length src) (length v.pending) n is_length))
+        within,
+        length-append v.pending src,
+        sum_is (length src) (length v.pending) n is_length,
+      ))
     where
-      thrice : (src : List ℕ) (n : ℕ)
-          → checked_mul (checked_add (Some (length src)) (length v.pending)) 3 ≡ Some n
-          → 3 * (length v.pending + length src) ≤ n
-      thrice src n is_length = omega (
-        arith,
-        thrice_is (checked_add (Some (length src)) (length v.pending))
-            (length src + length v.pending) n (sum_is (length src) (length v.pending)) is_length,
-      )
-
-  pub one_byte_enough : v.pending ≡ [] → AreEnoughForCodec lengths.OneByte v
-  one_byte_enough none = enough_by lengths.OneByte thrice thrice
-      (λ src n is_length. omega (arith, same_some (length src) n is_length, ap length none))
-    where
-      thrice : (src : List ℕ) (n : ℕ) → checked_mul (Some (length src)) 3 ≡ Some n
-          → 3 * (length v.pending + length src) ≤ n
-      thrice src n is_length = omega (
-        arith,
-        thrice_is (Some (length src)) (length src) n
-            (λ a is_some. sym (same_some (length src) a is_some)) is_length,
-        ap length none,
-      )
+      thrice : HasUnitsWithin encode_utf8 (utf_8_length lengths.MultiByte) v
+      thrice src n _ is_length =
+          let within = all_bounded encode_utf8 3 (λ set b z. (few set b z).0) (v.pending ++ src) in
+          omega (
+            arith,
+            within,
+            length-append v.pending src,
+            thrice_is (checked_add (Some (length src)) (length v.pending))
+                (length src + length v.pending) n (sum_is (length src) (length v.pending)) is_length,
+          )

@@ -1,7 +1,10 @@
 -- What each event of the loop over bytes leaves, and the call that it ends.
+use Rattle.enc_decoder.proofs.StageLemmas.{stage_at}
+use Rattle.enc_decoder.proofs.NextEventLemmas.{holds_sequences}
+use Rattle.std.proofs.lemmas.Bool.{false≢true}
 use Rattle.std.proofs.Common.{◌≡◌, ℕ, ◌<◌, ◌≤◌, suc, Bool, true, false, List, [], ◌∷◌, ◌++◌, length, get_or}
 use Rattle.std.proofs.Common.{take, drop, refl, ap, ◌∙◌, sym, arith, append-nil, inl, inr, subst, drop-cons}
-use Rattle.std.proofs.Common.{length-drop}
+use Rattle.std.proofs.Common.{length-drop, length-take}
 use Rattle.std.proofs.Math.ListN.{drop_of_length-le}
 use Rattle.enc_decoder.specs.declared.byte_codec.Emission.{Emission}
 use Rattle.enc_decoder.specs.declared.machine.NextEvent.TheVariants.{NeedsInput, HoldsByte, Emits}
@@ -10,9 +13,9 @@ use Rattle.enc_units.specs.declared.decoder_result.DecoderResult.TheVariants.{In
 use Rattle.enc_units.specs.Output.{units_of_text}
 use Rattle.enc_decoder.specs.Sequence.{Sequence, is_malformed, is_repeated_escape}
 use Rattle.enc_decoder.specs.Segmentation.{sequences_of}
-use Rattle.enc_decoder.specs.Remainder.{Remainder, AreBytes, AreFirstSequences, Determines}
+use Rattle.enc_decoder.specs.Remainder.{Remainder, AreBytes, AreFirstSequences, Determines, IsUndetermined}
 use Rattle.enc_decoder.specs.CodecState.{CodecState, remainder_of}
-use Rattle.enc_decoder.specs.CodecLaw.{IsNextEvent, MayFollowRead, text_chars}
+use Rattle.enc_decoder.specs.CodecLaw.{IsNextEvent, MayFollowRead, text_chars, taken_bytes}
 use Rattle.enc_decoder.specs.Call.{RawDecoderCall, DecoderStops, DecodeErrorMode, ReadsToReported, AreReportedLens}
 use Rattle.enc_decoder.specs.Call.{is_replacement_mode, keeps_room}
 use Rattle.enc_decoder.proofs.SegmentationLemmas.{sequences_of-nil}
@@ -20,7 +23,7 @@ use Rattle.enc_decoder.proofs.DeterminedLemmas.{determined_at}
 use Rattle.enc_decoder.proofs.ByteLemmas.{bytes-drop, determines_by_more}
 use Rattle.enc_decoder.proofs.NextEventLemmas as event
 use Rattle.enc_decoder.proofs.StageLemmas.{Stage}
-use Rattle.enc_decoder.proofs.LeavesLemmas.{Leaves, stage_at}
+use Rattle.enc_decoder.proofs.LeavesLemmas.{Leaves}
 use Rattle.enc_decoder.proofs.StateLeavesLemmas.{LeadsOn, unread, byte_follows, rest_follows, state_leaves}
 
 -- a call that reads and does nothing
@@ -57,11 +60,32 @@ module _ {C : Type 0} (state : C → CodecState) (c : C) (stage : Stage) where
       → unread stage ≡ byte ∷ drop (suc stage.read) stage.src
   byte_first has_next = drop-cons stage.src stage.read 0 has_next
 
-  one_byte : stage.read < length stage.src → take 1 (unread stage) ≡ byte ∷ []
-  one_byte has_next = ap (take 1) (byte_first has_next)
+  -- the bytes that are read with a sequence: the next byte, or none
+  taken : (takes : Bool) → (takes ≡ true → stage.read < length stage.src)
+      → take (length (taken_bytes takes byte)) (unread stage) ≡ taken_bytes takes byte
+  taken true has_next = ap (take 1) (byte_first (has_next refl))
+  taken false has_next = refl
 
-  one_within : stage.read < length stage.src → 1 ≤ length (unread stage)
-  one_within has_next = omega (arith, has_next, length-drop stage.read stage.src)
+  -- what follows them
+  followed : (takes : Bool) → (takes ≡ true → stage.read < length stage.src) → (y : List ℕ)
+      → MayFollowRead (unread stage) (length (taken_bytes takes byte)) stage.last y
+      → MayFollowRead stage.src stage.read stage.last (taken_bytes takes byte ++ y)
+  followed true has_next y follows =
+      byte_follows stage.src stage.read stage.last y (has_next refl)
+  followed false has_next y follows = record {
+    more = λ has_byte.
+        let begins = follows.more (omega (arith, has_byte, length-drop stage.read stage.src)) in
+        let same_byte = ap (λ x. get_or x 0 0) (byte_first has_byte) in
+        (begins.0, begins.1 ∙ ap (λ b. b ∷ begins.0) same_byte);
+    ended = λ all_read. follows.ended (omega (arith, length-drop stage.read stage.src));
+  }
+
+  -- what may follow the bytes read so far begins with them
+  parted : (takes : Bool) → (takes ≡ true → stage.read < length stage.src) → (y : List ℕ)
+      → MayFollowRead stage.src stage.read stage.last y
+      → (z : List ℕ) × (y ≡ taken_bytes takes byte ++ z)
+  parted true has_next y follows = follows.more (has_next refl)
+  parted false has_next y follows = (y, refl)
 
   -- more input is needed
   pub input_empty : {units_of : ℕ → List ℕ} {room : ℕ}
@@ -83,16 +107,17 @@ module _ {C : Type 0} (state : C → CodecState) (c : C) (stage : Stage) where
   -- a byte is held
   pub holds_byte : {n : C} → IsNextEvent state c stage.src stage.read stage.last (HoldsByte n)
       → LeadsOn (state c) (state n) stage 1 []
-  holds_byte {n} held = record {
-    within = one_within held.0;
-    same_rule = event.holds_rule (state c) (state n) byte held.1.0;
-    set = event.holds_set (state c) (state n) byte held.1.0;
-    accounted = ap (λ x. (state c).pending ++ x) (one_byte held.0)
-        ∙ sym (event.holds_pending (state c) (state n) byte held.1.0);
-    first = λ y _. ap (λ x. now.sequences (x ++ y)) (one_byte held.0)
-        ∙ event.holds_sequences (state c) (state n) byte held.1.0 y;
-    undetermined = λ _. held.1.1;
-  }
+  holds_byte {n} held =
+      let one_byte = taken true (λ _. held.0) in
+      record {
+        within = omega (arith, held.0, length-drop stage.read stage.src);
+        same_rule = λ i. (held.1.0 i).rule;
+        set = λ i. (held.1.0 i).set;
+        accounted = ap (λ x. (state c).pending ++ x) one_byte ∙ (λ i. (sym held.1.0 i).pending);
+        first = λ y _. ap (λ x. now.sequences (x ++ y)) one_byte
+            ∙ event.holds_sequences (state c) (state n) byte held.1.0 y;
+        undetermined = λ _. held.1.1;
+      }
 
   -- a sequence
   module _ {s : Emission C} (emits : IsNextEvent state c stage.src stage.read stage.last (Emits s))
@@ -100,79 +125,75 @@ module _ {C : Type 0} (state : C → CodecState) (c : C) (stage : Stage) where
       abbrev pub emitted : Sequence
       emitted = event.sequence emits.0
 
+      -- the number of bytes read with it
+      abbrev pub count : ℕ
+      count = length (taken_bytes s.takes_byte byte)
+
+      pub has_byte : s.takes_byte ≡ true → stage.read < length stage.src
+      has_byte takes = (emits.1 takes).0
+
       comes : (y : List ℕ) → MayFollowRead stage.src stage.read stage.last y
           → AreFirstSequences (emitted ∷ []) (now.sequences y)
-      comes = event.comes_first emits.0 (λ takes. (emits.1 takes).0)
+      comes y follows = let parts = parted s.takes_byte has_byte y follows in (
+        _,
+        ap now.sequences parts.1 ∙ emits.0.first parts.0
+            (subst (MayFollowRead stage.src stage.read stage.last) parts.1 follows),
+      )
 
       -- the next byte determines it
       shown_next : stage.read < length stage.src
           → Determines now.sequences (take 1 (unread stage)) (emitted ∷ [])
       shown_next has_next z _ =
           subst (λ x. AreFirstSequences (emitted ∷ []) (now.sequences (x ++ z)))
-          (sym (one_byte has_next))
+          (sym (taken true (λ _. has_next)))
           (comes (byte ∷ z) (byte_follows stage.src stage.read stage.last z has_next))
 
       shown_then : 0 < length (unread stage)
           → Determines now.sequences (take 1 (unread stage)) (emitted ∷ [])
       shown_then some = shown_next (omega (arith, length-drop stage.read stage.src))
 
-      -- it takes the byte
-      module _ (takes : s.takes_byte ≡ true) where
-        pub leads_with : LeadsOn (state c) (state s.next) stage 1 (emitted ∷ [])
-        leads_with = record {
-          within = one_within (emits.1 takes).0;
-          same_rule = emits.0.same_rule;
-          set = refl;
-          accounted = ap (λ x. (state c).pending ++ x) (one_byte (emits.1 takes).0)
-              ∙ event.parts_with emits.0 takes
-              ∙ ap (λ x. x ++ (state s.next).pending) (sym (append-nil emits.0.bytes));
-          first = λ y _. ap (λ x. now.sequences (x ++ y)) (one_byte (emits.1 takes).0)
-              ∙ event.first_with emits.0 takes y
-              (byte_follows stage.src stage.read stage.last y (emits.1 takes).0);
-          undetermined = λ _. (emits.1 takes).2;
-        }
+      pub leads : LeadsOn (state c) (state s.next) stage count (emitted ∷ [])
+      leads =
+          let read_with = taken s.takes_byte has_byte in
+          record {
+            within = omega (arith, ap length read_with, length-take count (unread stage));
+            same_rule = emits.0.same_rule;
+            set = refl;
+            accounted = ap (λ x. (state c).pending ++ x) read_with ∙ emits.0.parts
+                ∙ ap (λ x. x ++ (state s.next).pending) (sym (append-nil emits.0.bytes));
+            first = λ y follows. ap (λ x. now.sequences (x ++ y)) read_with
+                ∙ emits.0.first y (followed s.takes_byte has_byte y follows);
+            undetermined = λ some. (emits.1 (takes_some s.takes_byte some)).2;
+          }
+        where
+          takes_some : (takes : Bool) → 0 < length (taken_bytes takes byte) → takes ≡ true
+          takes_some true some = refl
+          takes_some false some = absurd (omega arith)
 
-        pub reads_with : AreBytes stage.src → ReadsToReported (is_repeated_escape s.kind)
-            now.sequences (unread stage) (emitted ∷ []) 1 (state s.next).pending
-        reads_with bytes = by_kind (is_repeated_escape s.kind) (emits.0.clean takes)
-          where
-            by_kind : (late : Bool) → (late ≡ false → (state s.next).pending ≡ [])
-                → ReadsToReported late now.sequences (unread stage) (emitted ∷ []) 1
-                (state s.next).pending
-            by_kind true clean = record {
-              not_shown = inr ((emits.1 takes).1 emitted);
-              shown = shown_next (emits.1 takes).0;
-            }
-            by_kind false clean = record {
-              not_shown = inl (clean refl);
-              shown_next = λ more. determines_by_more now.sequences (unread stage) 1 2
-                  (emitted ∷ []) (bytes-drop stage.read stage.src bytes) (omega arith)
-                  (shown_next (emits.1 takes).0);
-            }
-
-      -- the next byte doesn't belong to it
-      module _ (keeps_off : s.takes_byte ≡ false) where
-        pub leads_before : LeadsOn (state c) (state s.next) stage 0 (emitted ∷ [])
-        leads_before = record {
-          within = omega arith;
-          same_rule = emits.0.same_rule;
-          set = refl;
-          accounted = append-nil (state c).pending ∙ event.parts_before emits.0 keeps_off
-              ∙ ap (λ x. x ++ (state s.next).pending) (sym (append-nil emits.0.bytes));
-          first = λ y follows. event.first_before emits.0 keeps_off y (record {
-            more = λ has_next.
-                let begins = follows.more (one_within has_next) in
-                let same_byte = ap (λ x. get_or x 0 0) (byte_first has_next) in
-                (begins.0, begins.1 ∙ ap (λ b. b ∷ begins.0) same_byte);
-            ended = λ all_read. follows.ended (omega (arith, length-drop stage.read stage.src));
-          });
-          undetermined = λ some. absurd (omega arith);
-        }
-
-        pub reads_before : ReadsToReported (is_repeated_escape s.kind) now.sequences (unread stage)
-            (emitted ∷ []) 0 (state s.next).pending
-        reads_before = rw (event.not_late emits.0 keeps_off)
-            (record { not_shown = inr (inl refl); shown_next = shown_then })
+      pub reads : AreBytes stage.src → ReadsToReported (is_repeated_escape s.kind) now.sequences
+          (unread stage) (emitted ∷ []) count (state s.next).pending
+      reads bytes =
+          by_kind (is_repeated_escape s.kind) s.takes_byte emits.0.late emits.0.clean emits.1
+        where
+          by_kind : (late takes : Bool) → (late ≡ true → takes ≡ true)
+              → (takes ≡ true → late ≡ false → (state s.next).pending ≡ [])
+              → (takes ≡ true → (stage.read < length stage.src) × IsUndetermined now.sequences
+              × IsUndetermined (remainder_of (state s.next)).sequences)
+              → ReadsToReported late now.sequences (unread stage) (emitted ∷ [])
+              (length (taken_bytes takes byte)) (state s.next).pending
+          by_kind true true late_takes clean next = record {
+            not_shown = inr ((next refl).1 emitted);
+            shown = shown_next (next refl).0;
+          }
+          by_kind true false late_takes clean next = absurd (false≢true (late_takes refl))
+          by_kind false true late_takes clean next = record {
+            not_shown = inl (clean refl refl);
+            shown_next = λ more. determines_by_more now.sequences (unread stage) 1 2
+                (emitted ∷ []) (bytes-drop stage.read stage.src bytes) (omega arith)
+                (shown_next (next refl).0);
+          }
+          by_kind false false late_takes clean next =
+              record { not_shown = inr (inl refl); shown_next = shown_then }
 
       -- its text doesn't fit
       pub output_full : {units_of : ℕ → List ℕ} {mode : DecodeErrorMode} {room : ℕ}
@@ -192,18 +213,15 @@ module _ {C : Type 0} (state : C → CodecState) (c : C) (stage : Stage) where
       })
 
       -- it is malformed, and is reported
-      abbrev pub reported : {units_of : ℕ → List ℕ} {mode : DecodeErrorMode} {room n a : ℕ}
-          → AreBytes stage.src → LeadsOn (state c) (state s.next) stage n (emitted ∷ [])
-          → ReadsToReported (is_repeated_escape s.kind) now.sequences (unread stage)
-          (emitted ∷ []) n (state s.next).pending
-          → is_replacement_mode mode ≡ false → is_malformed s.kind ≡ true
+      abbrev pub reported : {units_of : ℕ → List ℕ} {mode : DecodeErrorMode} {room a : ℕ}
+          → AreBytes stage.src → is_replacement_mode mode ≡ false → is_malformed s.kind ≡ true
           → a ≡ length (state s.next).pending
           → (keeps_room mode ≡ true → length (units_of 0xFFFD) ≤ room)
           → RawDecoderCall units_of now (remainder_of (state s.next)) (unread stage) stage.last mode
-          room (Malformed s.len a) n [] false
-      reported {n = n} bytes leads reads fatal malformed is_pending kept =
+          room (Malformed s.len a) count [] false
+      reported bytes fatal malformed is_pending kept =
           let leaves : Leaves now (remainder_of (state s.next))
-          (stage_at stage n (emitted ∷ []) [] false) = state_leaves bytes leads in
+          (stage_at stage count (emitted ∷ []) [] false) = state_leaves bytes leads in
           record {
             call = record {
               put = [];
@@ -231,7 +249,7 @@ module _ {C : Type 0} (state : C → CodecState) (c : C) (stage : Stage) where
                 determined = determined_at stage.last now.sequences (unread stage) (emitted ∷ [])
                     (λ z ends. (_, leaves.residual z ends));
                 none_after = leaves.none_after;
-                reads = reads;
+                reads = reads bytes;
               };
             };
             accounted = leads.accounted;

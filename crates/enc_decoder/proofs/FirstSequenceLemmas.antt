@@ -1,8 +1,8 @@
 -- The bytes that determine the first sequence, for every rule.
-use Rattle.std.proofs.Common.{◌≡◌, ℕ, ◌+◌, ◌≤◌, suc, Bool, true, false, List, [], ◌∷◌, ◌++◌, length, take, drop, refl}
+use Rattle.std.proofs.Common.{◌≡◌, ℕ, ◌+◌, ◌≤◌, suc, List, [], ◌∷◌, ◌++◌, length, take, drop}
 use Rattle.std.proofs.Common.{ap, ◌∙◌, sym, arith, subst, append-nil, append_assoc, ◌⊎◌, inl, inr}
+pub use Rattle.std.proofs.lemmas.Bool.{cases_Bool as true_or_false}
 use Rattle.std.proofs.lemmas.List.{length-take-le, take-take, take-append-drop}
-use Rattle.enc_decoder.specs.declared.byte_codec.Kind.{Kind}
 use Rattle.enc_decoder.specs.declared.byte_codec.Kind.TheVariants.{Valid}
 use Rattle.enc_decoder.specs.Sequence.{Sequence}
 use Rattle.enc_decoder.specs.Segmentation.{Rule, Head, head_sequence, sequences_of}
@@ -12,10 +12,6 @@ use Rattle.enc_decoder.specs.RuleLaws.{HasLookahead}
 use Rattle.enc_decoder.proofs.ByteLemmas.{bytes-append, bytes-take, bytes-drop}
 use Rattle.enc_decoder.proofs.SegmentationLemmas.{sequences_of-cons}
 use Rattle.enc_decoder.proofs.EmissionLemmas.{undetermined_by}
-
-pub true_or_false : (t : Bool) → (t ≡ true) ⊎ (t ≡ false)
-true_or_false true = inl refl
-true_or_false false = inr refl
 
 -- the same head with whatever follows
 pub determined_by_head : (rule : Rule) (set b : ℕ) (z : List ℕ) (n : ℕ) (h : Head)
@@ -80,26 +76,19 @@ within_by rule h set b z = elim (h.others set b z) [
   | inr e ↦ e.within
 ]
 
-same_head : (h k : Head) → h.more ≡ k.more → h.text ≡ k.text → h.kind ≡ k.kind → h.set ≡ k.set
-    → h ≡ k
-same_head h k same_more same_text same_kind same_set =
-    let made : ℕ → List ℕ → Kind → ℕ
-    → Head = λ a b c d. record { more = a; text = b; kind = c; set = d } in
-    ap (λ a. made a h.text h.kind h.set) same_more ∙ ap (λ b. made k.more b h.kind h.set) same_text
-    ∙ ap (λ c. made k.more k.text c h.set) same_kind ∙ ap (made k.more k.text k.kind) same_set
-
-tails : (a b : ℕ) (y z : List ℕ) → a ∷ y ≡ b ∷ z → y ≡ z
-tails a b y z e = cc
-
 pub same_by_sequence : (h k : Head) (b : ℕ) (y z : List ℕ) → h.more ≤ length y → k.more ≤ length z
     → head_sequence h b y ≡ head_sequence k b z → h ≡ k
 same_by_sequence h k b y z within also same =
-    let same_following : take h.more y ≡ take k.more z =
-    tails b b _ _ (ap (λ (s : Sequence). s.bytes) same) in
-    same_head h k (sym (length-take-le h.more y within) ∙ ap length same_following
-    ∙ length-take-le k.more z also)
-    (ap (λ (s : Sequence). s.text) same) (ap (λ (s : Sequence). s.kind) same)
-    (ap (λ (s : Sequence). s.set) same)
+    let same_bytes = ap (λ (s : Sequence). s.bytes) same in
+    let same_following : take h.more y ≡ take k.more z = cc in
+    let same_more : h.more ≡ k.more = sym (length-take-le h.more y within)
+    ∙ ap length same_following ∙ length-take-le k.more z also in
+    λ i. record {
+      more = same_more i;
+      text = (same i).text;
+      kind = (same i).kind;
+      set = (same i).set;
+    }
 
 -- Bytes that only the end of the input makes a sequence determine nothing.
 pub undetermined_by_end : (rule : Rule) (set b : ℕ) (z : List ℕ)

@@ -1,4 +1,5 @@
 -- A call of an inner decoder is a call of an outer one, whose chunk is shifted.
+use Rattle.enc_decoder.specs.declared.byte_codec.Kind.TheVariants.{Valid, Skipped, RepeatedEscape}
 use Rattle.std.proofs.Common.{◌≡◌, ℕ, ◌+◌, ◌-◌, ◌<◌, ◌≤◌, Bool, true, false, List, [], ◌∷◌, ◌++◌, length, take, drop}
 use Rattle.std.proofs.Common.{refl, ap, ◌∙◌, sym, arith, append_assoc, ◌||◌, inl, inr, subst, ◌⊎◌}
 use Rattle.std.proofs.lemmas.Bool.{false≢true}
@@ -8,15 +9,14 @@ use Rattle.enc_decoder.specs.declared.byte_codec.Kind.{Kind}
 use Rattle.enc_decoder.specs.declared.byte_codec.Kind.TheVariants as kind
 use Rattle.enc_units.specs.declared.decoder_result.DecoderResult.{DecoderResult}
 use Rattle.enc_units.specs.declared.decoder_result.DecoderResult.TheVariants.{InputEmpty, OutputFull, Malformed}
-use Rattle.enc_decoder.specs.Sequence.{Sequence, sequence_bytes, is_repeated_escape, set_after}
+use Rattle.enc_decoder.specs.Sequence.{Sequence, sequence_bytes, is_repeated_escape, set_after, is_malformed}
 use Rattle.enc_decoder.specs.Remainder.{Remainder, AreBytes, AreFirstSequences, Determines, AreDetermined}
 use Rattle.enc_decoder.specs.Call.{DecoderCall, DecoderStops, AreReportedLens, ReadsToReported}
 use Rattle.enc_decoder.specs.CallRecord.{Call, IsCall}
 use Rattle.enc_decoder.specs.Converting.{shifted_result}
 use Rattle.enc_decoder.proofs.SequenceLemmas.{sequence_bytes-one}
 use Rattle.enc_decoder.proofs.DeterminedLemmas.{begins_after}
-use Rattle.enc_decoder.proofs.StageLemmas.{Stage, HasWritten, IsPartAt, text_on, scalars_on, fits_on, flag_on}
-use Rattle.enc_decoder.proofs.StageLemmas.{length_on, none_replaced_on}
+use Rattle.enc_decoder.proofs.StageLemmas.{Stage, HasWritten, IsPartAt, stage_after, written_on, length_on}
 use Rattle.enc_decoder.proofs.InnerInputLemmas.{ShiftsInput, MatchesRead, HasSequence, sequence_at_end, most_or_more}
 use Rattle.enc_decoder.proofs.InnerInputLemmas.{determines_outside, determines_inside, none_before, determined_outside}
 use Rattle.enc_decoder.proofs.InnerInputLemmas.{none_shown, shown_next, inner_within, reads_all}
@@ -194,34 +194,31 @@ module _ {units_of : ℕ → List ℕ} {old mid : Remainder} {stage : Stage} {in
           → ReadsToReported is_escape old.sequences stage.src (stage.done ++ call.done) read
           new.pending
       reads_on true is_sure reported = record {
-        not_shown = elim (most_or_more read 0) [
-          | inl none_read ↦ inl (omega arith)
-          | inr some_read ↦ inr (λ determines. elim reads.exact [
-            | inl none_read ↦ absurd (omega arith)
-            | inr near ↦ elim near [
-              | inl below ↦ one_less_hidden (omega (arith, below)) determines
-              | inr far ↦ elim reported.not_shown [
-                | inl none ↦ elim (reads.none none) [
-                  | inl none_read ↦ absurd (omega arith)
-                  | inr below ↦ one_less_hidden (omega (arith, below)) determines
-                ]
-                | inr hidden ↦ elim (most_or_more read shift.from) [
-                  | inl at_start ↦ one_less_hidden (omega (arith, shift.near)) determines
-                  | inr past_start ↦ hidden (determines_inside shift (inner.read - 1) (read - 1)
-                      call.done (omega arith) (omega (arith, reads.within))
-                      (omega (arith, shift.shift, far.1)) determines)
+        not_shown = elim (most_or_more shift.below (read - 1)) [
+          | inl past ↦ elim reads.exact [
+            | inl none_read ↦ inl none_read
+            | inr near ↦ elim (most_or_more read shift.below) [
+              | inl close ↦ inl (omega (arith, past, close))
+              | inr beyond ↦ elim near [
+                | inl below ↦ absurd (omega (arith, beyond, below))
+                | inr far ↦ elim reported.not_shown [
+                  | inl none ↦ elim (reads.none none) [
+                    | inl none_read ↦ inl none_read
+                    | inr below ↦ absurd (omega (arith, beyond, below))
+                  ]
+                  | inr hidden ↦ inr (λ determines. hidden (determines_inside shift (inner.read - 1)
+                      (read - 1) call.done (omega (arith, shift.near, past))
+                      (omega (arith, reads.within))
+                      (omega (arith, shift.shift, shift.near, past, beyond, far.1)) determines))
                 ]
               ]
             ]
-          ])
+          ]
+          | inr below ↦ inr (none_before shift call.done some (read - 1) below)
         ];
         shown = determines_outside shift bytes inner.read read call.done (is_sure refl)
             reads.within reads.there reported.shown;
       }
-        where
-          one_less_hidden : read - 1 < shift.below
-              → Determines old.sequences (take (read - 1) stage.src) (stage.done ++ call.done) → ⊥
-          one_less_hidden below = none_before shift call.done some (read - 1) below
       reads_on false is_sure reported = record {
         not_shown = elim state.same [
           | inl same_pending ↦ elim reported.not_shown [
@@ -283,6 +280,16 @@ module _ {units_of : ℕ → List ℕ} {old mid : Remainder} {stage : Stage} {in
     stops_outside (Malformed l a) is_result stops escape =
         stops_malformed l a stops is_result escape
 
+    -- the text of both
+    both : HasWritten units_of (stage_after stage read call.put inner.wrote inner.replaced)
+    both = written_on written (record {
+      text = call.text;
+      scalars = call.scalars;
+      fits = omega (arith, call.fits, part.room);
+      flag = call.flag;
+      none_replaced = λ is_fatal. call.none_replaced (part.fatal is_fatal);
+    })
+
     -- The outer one does what was done, and then what the inner one does.
     pub call_outside : (e : DecoderCall units_of old new stage.src inner.last stage.mode stage.room
         (shifted_result inner.result left) read (stage.wrote ++ inner.wrote)
@@ -297,12 +304,11 @@ module _ {units_of : ℕ → List ℕ} {old mid : Remainder} {stage : Stage} {in
             (then.sequences (drop inner.read inner.src ++ z)))
             ∙ ap (λ x. (stage.done ++ call.done) ++ x) (state.after z ends);
         set = state.set;
-        text = text_on written call.put call.text;
-        scalars = scalars_on written call.put call.scalars;
-        fits = fits_on written inner.wrote (omega (arith, call.fits, part.room));
-        flag = flag_on written call.put call.flag;
-        none_replaced = none_replaced_on written
-            (λ is_fatal. call.none_replaced (part.fatal is_fatal));
+        text = both.text;
+        scalars = both.scalars;
+        fits = both.fits;
+        flag = both.flag;
+        none_replaced = both.none_replaced;
         stops = stops_outside inner.result refl call.stops state.escape;
       },
       refl,

@@ -1,5 +1,6 @@
 -- A call over bytes that were held back, and one over those that follow them, are a call over all
 -- of them.
+pub use Rattle.std.proofs.lemmas.List.{nil_from_length as no_bytes}
 use Rattle.std.proofs.Common.{◌≡◌, ℕ, ◌+◌, ◌-◌, ◌<◌, ◌≤◌, Bool, true, false, List, [], ◌∷◌, ◌++◌, length, take, drop}
 use Rattle.std.proofs.Common.{refl, ap, ◌∙◌, sym, arith, append_assoc, ◌||◌, inl, inr, subst, ◌⊎◌}
 use Rattle.std.proofs.lemmas.Bool.{false≢true}
@@ -8,10 +9,10 @@ use Rattle.std.proofs.Math.Seq.{take-append_seam}
 use Rattle.enc_units.specs.declared.decoder_result.DecoderResult.{DecoderResult}
 use Rattle.enc_units.specs.declared.decoder_result.DecoderResult.TheVariants.{InputEmpty, OutputFull, Malformed}
 use Rattle.enc_units.specs.Output.{Output, with_appended}
-use Rattle.enc_decoder.specs.Sequence.{Sequence, sequence_bytes, is_repeated_escape}
+use Rattle.enc_decoder.specs.Sequence.{Sequence, is_repeated_escape}
 use Rattle.enc_decoder.specs.Remainder.{Remainder, AreBytes, Determines, AreDetermined}
 use Rattle.enc_decoder.specs.Call.{DecoderCallInto, DecoderStops, ReadsToReported}
-use Rattle.enc_decoder.specs.CallRecord.{Call, CallInto, IsCall, IsCallInto, call_writing}
+use Rattle.enc_decoder.specs.CallRecord.{Call, CallInto, IsCallInto, call_writing}
 use Rattle.enc_decoder.specs.Converting.{PrefixedCallInto}
 use Rattle.enc_decoder.proofs.ByteLemmas.{bytes-append, determines_by_more}
 use Rattle.enc_decoder.proofs.StageLemmas.{reports_in}
@@ -25,11 +26,6 @@ abbrev pub IsPrefixedInto : (ℕ → List ℕ) → Remainder → Remainder → C
 IsPrefixedInto units_of old new c =
     PrefixedCallInto units_of old new c.src c.last c.mode c.before c.after c.result c.read
     c.replaced
-
--- a list of no length is empty
-pub no_bytes : (x : List ℕ) → length x ≡ 0 → x ≡ []
-no_bytes [] e = refl
-no_bytes (b ∷ x) e = absurd (omega arith)
 
 module _ {units_of : ℕ → List ℕ} {old new : Remainder} {c : CallInto} where
   -- the same call over the same bytes, and the number of bytes read
@@ -77,52 +73,50 @@ module _ (remaining : List ℕ → List Sequence) (held src : List ℕ) (bytes :
       let first = determines (src ++ z) (bytes-append src z also are_bytes) in
       (first.0, ap remaining (append_assoc held src z) ∙ first.1)
 
-  module _ {read : ℕ} (within : read ≤ length held) where
-    same_taken : take read (held ++ src) ≡ take read held
-    same_taken = take-append-le read held src within
+  -- what holds of the first n of them
+  still : (n : ℕ) → n ≤ length held → (P : List ℕ → Type 0) → P (take n held)
+      → P (take n (held ++ src))
+  still n within P = subst P (sym (take-append-le n held src within))
 
-    hidden_still : (ss : List Sequence)
-        → (read ≡ 0) ⊎ (Determines remaining (take read held) ss → ⊥)
-        → (read ≡ 0) ⊎ (Determines remaining (take read (held ++ src)) ss → ⊥)
-    hidden_still ss = subst (λ x. (read ≡ 0) ⊎ (Determines remaining x ss → ⊥)) (sym same_taken)
+  hidden_still : (n : ℕ) → n ≤ length held → (read : ℕ) (ss : List Sequence)
+      → (read ≡ 0) ⊎ (Determines remaining (take n held) ss → ⊥)
+      → (read ≡ 0) ⊎ (Determines remaining (take n (held ++ src)) ss → ⊥)
+  hidden_still n within read ss =
+      still n within (λ x. (read ≡ 0) ⊎ (Determines remaining x ss → ⊥))
 
-    next_known : (ss : List Sequence) → Determines remaining held ss
-        → (read < length held → Determines remaining (take (read + 1) held) ss)
+  module _ {read : ℕ} (within : read ≤ length held) (ss : List Sequence)
+      (determines : Determines remaining held ss) where
+    next_known : (read < length held → Determines remaining (take (read + 1) held) ss)
         → Determines remaining (take (read + 1) (held ++ src)) ss
-    next_known ss determines next = elim (most_or_more (length held) read) [
+    next_known next = elim (most_or_more (length held) read) [
       | inl all_read ↦ known ss determines (read + 1) (omega arith)
-      | inr unread ↦ subst (λ x. Determines remaining x ss)
-          (sym (take-append-le (read + 1) held src (omega arith))) (next unread)
+      | inr unread ↦ still (read + 1) (omega arith) (λ x. Determines remaining x ss) (next unread)
     ]
 
-    reads_still : (late : Bool) (ss : List Sequence) (pending : List ℕ)
-        → Determines remaining held ss
+    reads_still : (late : Bool) (pending : List ℕ)
         → ReadsToReported late remaining held ss read pending
         → ReadsToReported late remaining (held ++ src) ss read pending
-    reads_still true ss pending determines reported = record {
-      not_shown = subst (λ x. (read ≡ 0) ⊎ (Determines remaining x ss → ⊥))
-          (sym (take-append-le (read - 1) held src (omega (arith, within)))) reported.not_shown;
-      shown = subst (λ x. Determines remaining x ss) (sym same_taken) reported.shown;
+    reads_still true pending reported = record {
+      not_shown = hidden_still (read - 1) (omega (arith, within)) read ss reported.not_shown;
+      shown = still read within (λ x. Determines remaining x ss) reported.shown;
     }
-    reads_still false ss pending determines reported = record {
+    reads_still false pending reported = record {
       not_shown = elim reported.not_shown [
         | inl none_pending ↦ inl none_pending
-        | inr hidden ↦ inr (hidden_still ss hidden)
+        | inr hidden ↦ inr (hidden_still read within read ss hidden)
       ];
-      shown_next = λ _. next_known ss determines reported.shown_next;
+      shown_next = λ _. next_known reported.shown_next;
     }
 
--- a call that stops within the bytes held
-module _ {units_of : ℕ → List ℕ} {old new : Remainder} (c : Call) (src : List ℕ) (last : Bool)
-    (bytes : AreBytes c.src) (also : AreBytes src)
-    (call : IsCall units_of old new (record c { last = false })) where
-  stops_still : (result : DecoderResult) → (result ≡ InputEmpty → ⊥)
-      → DecoderStops units_of old new c.src false c.mode c.room call.put call.done c.read result
-      → DecoderStops units_of old new (c.src ++ src) last c.mode c.room call.put call.done c.read
-      result
-  stops_still InputEmpty stopped stops = absurd (stopped refl)
-  stops_still OutputFull stopped stops =
-      let ss = call.done ++ stops.next ∷ [] in
+-- a call that stops within the bytes held stops so whatever follows
+module _ (units_of : ℕ → List ℕ) (old new : Remainder) (c : Call) (src : List ℕ) (last : Bool)
+    (put done : List Sequence) (bytes : AreBytes c.src) (also : AreBytes src) where
+  stops_still : c.read ≤ length c.src → (result : DecoderResult) → (result ≡ InputEmpty → ⊥)
+      → DecoderStops units_of old new c.src false c.mode c.room put done c.read result
+      → DecoderStops units_of old new (c.src ++ src) last c.mode c.room put done c.read result
+  stops_still within InputEmpty stopped stops = absurd (stopped refl)
+  stops_still within OutputFull stopped stops =
+      let ss = done ++ stops.next ∷ [] in
       record {
         only_put = stops.only_put;
         next = stops.next;
@@ -130,13 +124,13 @@ module _ {units_of : ℕ → List ℕ} {old new : Remainder} (c : Call) (src : L
         not_reported = stops.not_reported;
         full = stops.full;
         reads = record {
-          not_shown = hidden_still old.sequences c.src src bytes also call.within ss
+          not_shown = hidden_still old.sequences c.src src bytes also c.read within c.read ss
               stops.reads.not_shown;
-          shown_next = λ _. next_known old.sequences c.src src bytes also call.within ss
+          shown_next = λ _. next_known old.sequences c.src src bytes also within ss
               stops.determined stops.reads.shown_next;
         };
       }
-  stops_still (Malformed l a) stopped stops = record {
+  stops_still within (Malformed l a) stopped stops = record {
     next = stops.next;
     then_next = stops.then_next;
     malformed = stops.malformed;
@@ -147,38 +141,12 @@ module _ {units_of : ℕ → List ℕ} {old new : Remainder} (c : Call) (src : L
     pending = stops.pending;
     bounds = stops.bounds;
     room_kept = stops.room_kept;
-    determined = known_at old.sequences c.src src bytes also last call.done stops.determined;
-    none_after = elim stops.none_after [
-      | inl none_read ↦ inl none_read
-      | inr hidden ↦ inr (λ s. subst (λ x. Determines old.sequences x (call.done ++ s ∷ []) → ⊥)
-          (sym (take-append-le c.read c.src src call.within)) (hidden s))
-    ];
-    reads = reads_still old.sequences c.src src bytes also call.within
-        (is_repeated_escape stops.next.kind) call.done new.pending stops.determined stops.reads;
+    determined = known_at old.sequences c.src src bytes also last done stops.determined;
+    none_after = still old.sequences c.src src bytes also c.read within (λ x. (c.read ≡ 0)
+        ⊎ ((s : Sequence) → Determines old.sequences x (done ++ s ∷ []) → ⊥)) stops.none_after;
+    reads = reads_still old.sequences c.src src bytes also within done stops.determined
+        (is_repeated_escape stops.next.kind) new.pending stops.reads;
   }
-
-  stops_within : (c.result ≡ InputEmpty → ⊥)
-      → (e : IsCall units_of old new (record c { src = c.src ++ src; last = last }))
-      × (e.done ≡ call.done)
-  stops_within stopped = (
-    record {
-      put = call.put;
-      done = call.done;
-      within = omega (arith, call.within, length-append c.src src);
-      residual = λ z _. ap old.sequences (append_assoc c.src src z)
-          ∙ call.residual (src ++ z) (λ e. absurd (false≢true e))
-          ∙ ap (λ x. call.done ++ new.sequences x) (sym (append_assoc (drop c.read c.src) src z)
-          ∙ ap (λ x. x ++ z) (sym (drop-append-le c.read c.src src call.within)));
-      set = call.set;
-      text = call.text;
-      scalars = call.scalars;
-      fits = call.fits;
-      flag = call.flag;
-      none_replaced = call.none_replaced;
-      stops = stops_still c.result stopped call.stops;
-    },
-    refl,
-  )
 
 pub stops_in_held : {units_of : ℕ → List ℕ} {old new : Remainder} {c : CallInto} (src : List ℕ)
     {last : Bool} → AreBytes c.src → AreBytes src → (c.result ≡ InputEmpty → ⊥)
@@ -189,19 +157,34 @@ pub stops_in_held : {units_of : ℕ → List ℕ} {old new : Remainder} {c : Cal
       read = length c.src - (length c.src - c.read) + 0;
     })
 stops_in_held {units_of} {old} {new} {c} src {last} bytes also stopped not_last given =
-    let call = subst (λ l. IsCallInto units_of old new (record c { last = l })) not_last given in
-    let held_call : Call = call_writing c call.wrote in
-    let still = stops_within held_call src last bytes also call.call.call stopped in
+    let into = subst (λ l. IsCallInto units_of old new (record c { last = l })) not_last given in
+    let call = into.call.call in
     let all_read : c.read ≡ length c.src - (length c.src - c.read) + 0 =
-    omega (arith, call.call.call.within) in
+    omega (arith, call.within) in
     subst (λ n. IsPrefixedInto units_of old new
     (record c { src = c.src ++ src; last = last; read = n })) all_read (record {
-      wrote = call.wrote;
-      onto = call.onto;
-      call = still.0;
-      accounted = ap (λ x. old.pending ++ x)
-          (take-append-le c.read c.src src call.call.call.within)
-          ∙ call.call.accounted ∙ ap (λ x. sequence_bytes x ++ new.pending) (sym still.1);
+      wrote = into.wrote;
+      onto = into.onto;
+      call = record {
+        put = call.put;
+        done = call.done;
+        within = omega (arith, call.within, length-append c.src src);
+        residual = λ z _. ap old.sequences (append_assoc c.src src z)
+            ∙ call.residual (src ++ z) (λ e. absurd (false≢true e))
+            ∙ ap (λ x. call.done ++ new.sequences x)
+            (sym (append_assoc (drop c.read c.src) src z)
+            ∙ ap (λ x. x ++ z) (sym (drop-append-le c.read c.src src call.within)));
+        set = call.set;
+        text = call.text;
+        scalars = call.scalars;
+        fits = call.fits;
+        flag = call.flag;
+        none_replaced = call.none_replaced;
+        stops = stops_still units_of old new (call_writing c into.wrote) src last call.put call.done
+            bytes also call.within c.result stopped call.stops;
+      };
+      accounted = ap (λ x. old.pending ++ x) (take-append-le c.read c.src src call.within)
+          ∙ into.call.accounted;
     })
 
 -- a call that reads them all, and the next one
@@ -216,16 +199,14 @@ pub joins : {units_of : ℕ → List ℕ} {old mid new : Remainder} {held : List
       replaced = had || c.replaced;
     })
 joins {held = held} {before} {given} {had} {c} bytes also first second =
-    let held_call : Call = record {
+    let held_call : Call = call_writing (record c {
       src = held;
       last = false;
-      mode = c.mode;
-      room = before.room;
+      before = before;
       result = InputEmpty;
       read = given;
-      wrote = first.wrote;
       replaced = had;
-    } in
+    }) first.wrote in
     let next_call : Call = call_writing c second.wrote in
     let all_read = first.call.call.stops.all_read in
     let both = two_calls {first = held_call} {second = next_call} bytes also (record {

@@ -1,6 +1,7 @@
 -- How far bytes are the characters of their own numbers, for every codec.
-use Rattle.std.proofs.Common.{◌≡◌, ℕ, ◌+◌, ◌<◌, ◌≤◌, true, List, [], ◌∷◌, ◌++◌, length, get_or, take, refl, ap, ◌∙◌}
-use Rattle.std.proofs.Common.{sym, subst, arith, append_assoc, inl, inr}
+use Rattle.enc_units.proofs.OverwrittenTextLemmas.{is_text}
+use Rattle.std.proofs.Common.{◌≡◌, ℕ, ◌+◌, ◌<◌, ◌≤◌, Bool, true, false, List, [], ◌∷◌, ◌++◌, length, get_or, take, refl, ap, ◌∙◌}
+use Rattle.std.proofs.Common.{sym, subst, arith, append_assoc}
 use Rattle.std.proofs.lemmas.List.{take_more}
 use Rattle.enc_decoder.specs.declared.byte_codec.Kind.TheVariants.{Valid}
 use Rattle.enc_decoder.specs.declared.byte_codec.Emission.{Emission}
@@ -9,12 +10,11 @@ use Rattle.enc_decoder.specs.Sequence.{Sequence}
 use Rattle.enc_decoder.specs.Segmentation.{Rule}
 use Rattle.enc_decoder.specs.Remainder.{AreFirstSequences, Determines}
 use Rattle.enc_decoder.specs.CodecState.{CodecState, remainder_of}
-use Rattle.enc_decoder.specs.CodecLaw.{text_chars, taken_bytes, IsNextSequence, HandlesByte, BeginsWithByte}
+use Rattle.enc_decoder.specs.CodecLaw.{text_chars, taken_bytes, HandlesByte}
 use Rattle.enc_decoder.specs.Latin1.{IsLatin1Sequence, AreLatin1Sequences, IsLatin1Prefix, HasNoByteSequences}
 use Rattle.enc_decoder.specs.Latin1.{CodecMayBeLatin1}
 use Rattle.enc_decoder.proofs.DeterminedLemmas.{begins_after, none_determined}
-use Rattle.enc_decoder.proofs.FirstSequenceLemmas.{true_or_false}
-use Rattle.enc_decoder.proofs.NextEventLemmas.{holds_sequences}
+use Rattle.enc_decoder.proofs.NextEventLemmas.{holds_sequences, sequence}
 
 -- a byte that is a valid sequence by itself
 pub has_bytes_by : (rule : Rule) (b : ℕ) (z : List ℕ) → (rule 0 b z).kind ≡ Valid
@@ -39,11 +39,13 @@ themselves_then (t ∷ ss) [] s b are_latin1 is_latin1 = absurd are_latin1
 themselves_then (t ∷ ss) (c ∷ z) s b are_latin1 is_latin1 =
     (are_latin1.0, themselves_then ss z s b are_latin1.1 is_latin1)
 
--- a byte that has some of the bytes in front is one of them, and nothing follows it
-one_byte : (b : ℕ) (x y : List ℕ) → b ∷ [] ≡ x ++ y → 0 < length x → (x ≡ b ∷ []) × (y ≡ [])
-one_byte b [] y e h = absurd (omega arith)
-one_byte b (c ∷ []) y e h = (cc, cc)
-one_byte b (c ∷ d ∷ x) y e h = absurd (cc)
+-- Where no byte is pending, a sequence that is shown with the next byte is that byte.
+alone : (takes : Bool) (b : ℕ) (x y : List ℕ) → taken_bytes takes b ≡ x ++ y → 0 < length x
+    → (takes ≡ true) × (x ≡ b ∷ []) × (y ≡ [])
+alone takes b [] y parts some = absurd (omega arith)
+alone true b (c ∷ []) y parts some = (refl, (cc), (cc))
+alone true b (c ∷ d ∷ x) y parts some = absurd (cc)
+alone false b (c ∷ x) y parts some = absurd (cc)
 
 -- The first k bytes are so, and after them a state goes on that has nothing pending.
 pub record Latin1Front {C : Type 0} (state : C → CodecState) (v : CodecState) (bytes : List ℕ)
@@ -118,87 +120,51 @@ module _ {C : Type 0} {state : C → CodecState} {v : CodecState} {bytes : List 
       ((remainder_of v).sequences (take (k + 1) bytes ++ []))
       (further h []) (d [] tt)
 
-  module _ (has_next : k < length bytes) (s : Emission C) where
+  module _ (has_next : k < length bytes) (s : Emission C)
+      (shows : HandlesByte state now (get_or bytes k 0) (Emit s)) where
     abbrev byte : ℕ
     byte = get_or bytes k 0
 
-    abbrev sequence : List ℕ → Sequence
-    sequence x = record {
-      bytes = x;
-      text = text_chars s.text;
-      kind = s.kind;
-      set = (state s.next).set;
-    }
+    abbrev itself : Sequence
+    itself = record (sequence shows.0) { bytes = byte ∷ [] }
 
-    -- the parts of a sequence that is shown with the byte, and before it
-    with_byte : (took : List ℕ) → took ≡ byte ∷ []
-        → (next : IsNextSequence state now (BeginsWithByte byte) took s)
-        → (next.bytes ≡ byte ∷ []) × ((state s.next).pending ≡ [])
-    with_byte took e next =
-        one_byte byte next.bytes (state s.next).pending
-        (sym e ∙ ap (λ x. x ++ took) (sym latin1_front.none_pending) ∙ next.parts) next.some
+    is_itself : (s.takes_byte ≡ true) × (shows.0.bytes ≡ byte ∷ [])
+        × ((state s.next).pending ≡ [])
+    is_itself = alone s.takes_byte byte shows.0.bytes (state s.next).pending
+        (ap (λ x. x ++ taken_bytes s.takes_byte byte) (sym latin1_front.none_pending)
+        ∙ shows.0.parts) shows.0.some
 
-    first_with : (took : List ℕ) → took ≡ byte ∷ []
-        → IsNextSequence state now (BeginsWithByte byte) took s
-        → (y : List ℕ) → (remainder_of (state now)).sequences (byte ∷ y) ≡ sequence (byte ∷ []) ∷
-        (remainder_of (state s.next)).sequences y
-    first_with took took_byte next y =
+    first_itself : (y : List ℕ) → (remainder_of (state now)).sequences (byte ∷ y)
+        ≡ itself ∷ (remainder_of (state s.next)).sequences y
+    first_itself y =
+        let took_byte = ap (λ t. taken_bytes t byte) is_itself.0 in
         ap (λ x. (remainder_of (state now)).sequences (x ++ y)) (sym took_byte)
-        ∙ next.first y (y, ap (λ x. x ++ y) took_byte)
-        ∙ ap (λ x. sequence x ∷ (remainder_of (state s.next)).sequences y)
-        (with_byte took took_byte next).0
-
-    not_before : (took : List ℕ) → took ≡ [] → IsNextSequence state now (BeginsWithByte byte) took s
-        → ⊥
-    not_before took e next =
-        let no_parts : [] ≡ next.bytes ++ (state s.next).pending =
-        ap (λ x. x ++ []) (sym latin1_front.none_pending)
-        ∙ ap (λ x. (state now).pending ++ x) (sym e) ∙ next.parts in
-        none_in next.bytes no_parts next.some
-      where
-        none_in : (x : List ℕ) → [] ≡ x ++ (state s.next).pending → 0 < length x → ⊥
-        none_in [] e l = omega arith
-        none_in (a ∷ x) e l = cc
+        ∙ shows.0.first y (y, ap (λ x. x ++ y) took_byte)
+        ∙ ap (λ x. record itself { bytes = x } ∷ (remainder_of (state s.next)).sequences y)
+        is_itself.1
 
     -- the byte is a character of its own number
-    pub latin1_goes_on : HandlesByte state now byte (Emit s) → s.takes_byte ≡ true → s.kind ≡ Valid
-        → text_chars s.text ≡ byte ∷ []
+    pub latin1_goes_on : s.kind ≡ Valid → text_chars s.text ≡ byte ∷ []
         → Latin1Front state v bytes (k + 1) s.next
-    latin1_goes_on shows t valid i =
-        let took_byte : taken_bytes s.takes_byte byte ≡ byte ∷ [] =
-        ap (λ b. taken_bytes b byte) t in
-        record {
-          within = omega arith;
-          front = latin1_front.front ++ sequence (byte ∷ []) ∷ [];
-          themselves =
-              subst (AreLatin1Sequences (latin1_front.front ++ sequence (byte ∷ []) ∷ []))
-              (sym (take_more bytes k 0 has_next))
-              (themselves_then latin1_front.front (take k bytes) (sequence (byte ∷ [])) byte
-              latin1_front.themselves
-              (record { bytes = refl; text = i; kind = valid }));
-          rest = λ y. further has_next y
-              ∙ ap (λ ss. latin1_front.front ++ ss) (first_with _ took_byte shows.0 y)
-              ∙ sym (append_assoc latin1_front.front (sequence (byte ∷ []) ∷ [])
-              ((remainder_of (state s.next)).sequences y));
-          none_pending = (with_byte _ took_byte shows.0).1;
-        }
+    latin1_goes_on valid is_text = record {
+      within = omega arith;
+      front = latin1_front.front ++ itself ∷ [];
+      themselves = subst (AreLatin1Sequences (latin1_front.front ++ itself ∷ []))
+          (sym (take_more bytes k 0 has_next))
+          (themselves_then latin1_front.front (take k bytes) itself byte latin1_front.themselves
+          (record { bytes = refl; text = is_text; kind = valid }));
+      rest = λ y. further has_next y ∙ ap (λ ss. latin1_front.front ++ ss) (first_itself y)
+          ∙ sym (append_assoc latin1_front.front (itself ∷ [])
+          ((remainder_of (state s.next)).sequences y));
+      none_pending = is_itself.2;
+    }
 
     -- the byte is none
-    pub latin1_ends_showing : HandlesByte state now byte (Emit s)
-        → (s.takes_byte ≡ true → s.kind ≡ Valid
-        → text_chars s.text ≡ byte ∷ [] → ⊥)
-        → IsLatin1Prefix (remainder_of v).sequences bytes k
-    latin1_ends_showing shows n = prefix_if (λ l q is_latin1 d.
-        let first = comes_first has_next q d in
-        elim (true_or_false s.takes_byte) [
-          | inl takes ↦
-              let is_byte : q ≡ sequence (byte ∷ []) =
-              same q (sequence (byte ∷ [])) first.0 ((remainder_of (state s.next)).sequences [])
-              (sym first.1 ∙ first_with _ (ap (λ b. taken_bytes b byte) takes) shows.0 []) in
-              n takes (sym (ap (λ (r : Sequence). r.kind) is_byte) ∙ is_latin1.kind)
-              (sym (ap (λ (r : Sequence). r.text) is_byte) ∙ is_latin1.text)
-          | inr t ↦ not_before _ (ap (λ b. taken_bytes b byte) t) shows.0
-        ])
-      where
-        same : (q r : Sequence) (ss ts : List Sequence) → q ∷ ss ≡ r ∷ ts → q ≡ r
-        same q r ss ts e = cc
+    pub latin1_ends_showing : (s.takes_byte ≡ true → s.kind ≡ Valid → text_chars s.text ≡ byte ∷ []
+        → ⊥) → IsLatin1Prefix (remainder_of v).sequences bytes k
+    latin1_ends_showing none = prefix_if (λ _ q is_latin1 determines.
+        let first = comes_first has_next q determines in
+        let begins = sym first.1 ∙ first_itself [] in
+        let is_byte : itself ≡ q = cc in
+        none is_itself.0 (ap (λ (r : Sequence). r.kind) is_byte ∙ is_latin1.kind)
+        (ap (λ (r : Sequence). r.text) is_byte ∙ is_latin1.text))

@@ -13,8 +13,7 @@ use Rattle.enc_decoder.specs.Converting.{shifted_result}
 use Rattle.enc_decoder.proofs.SequenceLemmas.{sequence_bytes-append, set_after-append}
 use Rattle.enc_decoder.proofs.DeterminedLemmas.{begins_after, determines_fewer}
 use Rattle.enc_decoder.proofs.ByteLemmas.{bytes-drop, determines_by_more}
-use Rattle.enc_decoder.proofs.StageLemmas.{Stage, HasWritten, IsPartAt, text_on, scalars_on, fits_on, flag_on}
-use Rattle.enc_decoder.proofs.StageLemmas.{none_replaced_on}
+use Rattle.enc_decoder.proofs.StageLemmas.{Stage, HasWritten, IsPartAt, stage_at, stage_after}
 use Rattle.enc_decoder.proofs.InnerInputLemmas.{ShiftsInput, MatchesRead, sequence_at_end, most_or_more, none_shown}
 use Rattle.enc_decoder.proofs.InnerInputLemmas.{determines_outside}
 use Rattle.enc_decoder.proofs.InnerCallLemmas.{call_outside, reports_escape}
@@ -55,28 +54,6 @@ call_at stage mode room result read wrote replaced = record {
   read = read;
   wrote = wrote;
   replaced = replaced;
-}
-
--- a stage of calls over the unread bytes of a stage
-abbrev pub stage_at : Stage → ℕ → List Sequence → List ℕ → Bool → Stage
-stage_at stage read done wrote replaced = record {
-  src = drop stage.read stage.src;
-  last = stage.last;
-  mode = stage.mode;
-  room = stage.room - length stage.wrote;
-  read = read;
-  done = done;
-  wrote = wrote;
-  replaced = replaced;
-}
-
--- both stages as one
-abbrev pub stage_after : Stage → ℕ → List Sequence → List ℕ → Bool → Stage
-stage_after stage read done wrote replaced = record stage {
-  read = stage.read + read;
-  done = stage.done ++ done;
-  wrote = stage.wrote ++ wrote;
-  replaced = stage.replaced || replaced;
 }
 
 unshifted : (result : DecoderResult) → shifted_result result 0 ≡ result
@@ -278,16 +255,3 @@ module _ {old mid : Remainder} {stage : Stage} (bytes : AreBytes stage.src)
               ])
         ];
       }
-
--- the text of both is written
-pub written_on : {units_of : ℕ → List ℕ} {stage : Stage} {n : ℕ} {ss : List Sequence}
-    {more : List ℕ} {replaced : Bool} → HasWritten units_of stage
-    → HasWritten units_of (stage_at stage n ss more replaced)
-    → HasWritten units_of (stage_after stage n ss more replaced)
-written_on {ss = ss} {more} written next = record {
-  text = text_on written ss next.text;
-  scalars = scalars_on written ss next.scalars;
-  fits = fits_on written more next.fits;
-  flag = flag_on written ss next.flag;
-  none_replaced = none_replaced_on written next.none_replaced;
-}

@@ -1,9 +1,9 @@
 -- A prefix determines the first sequences exactly if it contains them and their lookahead.
-use Rattle.std.proofs.Common.{◌≡◌, ℕ, ◌+◌, ◌-◌, ◌≤◌, ◌↔◌, zero, suc, List, [], ◌∷◌, ◌++◌, length, take, drop, refl, ap}
+use Rattle.std.proofs.Common.{◌≡◌, ℕ, ◌+◌, ◌-◌, ◌≤◌, zero, suc, List, [], ◌∷◌, ◌++◌, length, take, drop, refl, ap}
 use Rattle.std.proofs.Common.{◌∙◌, sym, subst, arith, append_assoc, inl, inr}
 use Rattle.std.proofs.lemmas.Bool.Decides.{leb_tells}
 use Rattle.std.proofs.lemmas.List.{length-take-le, take-append-le, take-take, take-append-drop, drop-append-le}
-use Rattle.std.proofs.lemmas.List.{drop-take, length-drop}
+use Rattle.std.proofs.lemmas.List.{drop-take, length-drop, append-nil}
 use Rattle.enc_decoder.specs.Sequence.{Sequence}
 use Rattle.enc_decoder.specs.Segmentation.{Rule, Head, head_sequence, sequences_of}
 use Rattle.enc_decoder.specs.Remainder.{AreBytes, AreFirstSequences, Determines}
@@ -23,24 +23,20 @@ left_of n k z h =
     ap (λ i. drop n (take i z)) parted ∙ drop-take n (k - n) z
 
 module _ (rule : Rule) (law : HasLookahead rule) where
-  module _ (set b : ℕ) (z : List ℕ) (s : Sequence) (ss rest : List Sequence)
-      (whole : sequences_of rule set (b ∷ z) ≡ (s ∷ ss) ++ rest) where
+  module _ (set b : ℕ) (z : List ℕ) where
     abbrev more : ℕ
     more = (rule set b z).more
 
-    s_is : s ≡ head_sequence (rule set b z) b z
-    s_is = first_of _ _ _ _ (sym whole ∙ sequences_of-cons rule set b z)
-
-    following : sequences_of rule (rule set b z).set (drop more z) ≡ ss ++ rest
-    following = rest_of _ _ _ _ (sym (sequences_of-cons rule set b z) ∙ whole)
+    abbrev own : Sequence
+    own = head_sequence (rule set b z) b z
 
     -- other bytes with the same first sequence have the same head
-    same_head : (y : List ℕ) → AreFirstSequences (s ∷ ss) (sequences_of rule set (b ∷ y))
-        → rule set b y ≡ rule set b z
-    same_head y g =
+    same_head : (y : List ℕ) (ss : List Sequence)
+        → AreFirstSequences (own ∷ ss) (sequences_of rule set (b ∷ y)) → rule set b y ≡ rule set b z
+    same_head y ss first =
         same_by_sequence (rule set b y) (rule set b z) b y z (within_by rule law set b y)
         (within_by rule law set b z)
-        (first_of _ _ _ _ (sym (sequences_of-cons rule set b y) ∙ g.1) ∙ s_is)
+        (first_of _ _ _ _ (sym (sequences_of-cons rule set b y) ∙ first.1))
 
     -- any bytes may follow the lookahead
     still_determined : (n j : ℕ) → IsDeterminedWithin rule set b z n → more + n ≤ j → (y : List ℕ)
@@ -55,54 +51,45 @@ module _ (rule : Rule) (law : HasLookahead rule) where
     -- then this sequence comes first, and the others are those of the rest
     shown : (n j : ℕ) → IsDeterminedWithin rule set b z n → more + n ≤ j → j ≤ length z
         → (y : List ℕ)
-        → sequences_of rule set (b ∷ (take j z ++ y)) ≡ s ∷ sequences_of rule (rule set b z).set
+        → sequences_of rule set (b ∷ (take j z ++ y)) ≡ own ∷ sequences_of rule (rule set b z).set
         (take (j - more) (drop more z) ++ y)
     shown n j determined contains within y =
         let as_long : length (take j z) ≡ j = length-take-le j z within in
-        let same_front = still_determined n j determined contains y in
         sequences_of-cons rule set b (take j z ++ y)
         ∙ ap (λ (h : Head). head_sequence h b (take j z ++ y)
-        ∷ sequences_of rule h.set (drop h.more (take j z ++ y))) same_front
-        ∙ ap (λ x. record {
-          bytes = b ∷ x;
-          text = (rule set b z).text;
-          kind = (rule set b z).kind;
-          set = (rule set b z).set;
-        } ∷ sequences_of rule (rule set b z).set (drop more (take j z ++ y)))
+        ∷ sequences_of rule h.set (drop h.more (take j z ++ y)))
+        (still_determined n j determined contains y)
+        ∙ ap (λ x. record own { bytes = b ∷ x }
+        ∷ sequences_of rule (rule set b z).set (drop more (take j z ++ y)))
         (take-append-le more (take j z) y (omega (arith, as_long, contains))
         ∙ take-take more j z (omega (arith, contains)))
-        ∙ ap (λ (x : Sequence). x
-        ∷ sequences_of rule (rule set b z).set (drop more (take j z ++ y))) (sym s_is)
-        ∙ ap (λ x. s ∷ sequences_of rule (rule set b z).set x)
+        ∙ ap (λ x. own ∷ sequences_of rule (rule set b z).set x)
         (drop-append-le more (take j z) y (omega (arith, as_long, contains))
         ∙ ap (λ x. x ++ y) (left_of more j z (omega (arith, contains))))
 
-    module _ (are_bytes : AreBytes z) (j : ℕ) (enough_bytes : j ≤ length z)
-        (determines : Determines (sequences_of rule set) (b ∷ take j z) (s ∷ ss)) where
+    module _ (ss : List Sequence) (are_bytes : AreBytes z) (j : ℕ) (enough_bytes : j ≤ length z)
+        (determines : Determines (sequences_of rule set) (b ∷ take j z) (own ∷ ss)) where
+      -- any bytes after those lead to the same head
+      same_after : (y : List ℕ) → AreBytes y → rule set b (take j z ++ y) ≡ rule set b z
+      same_after y bytes = same_head (take j z ++ y) ss (determines y bytes)
+
       not_by_end : IsDeterminedByEnd rule set b z → ⊥
       not_by_end by_end =
-          let s_first = determines (drop j z ++ by_end.more)
-          (bytes-append (drop j z) by_end.more (bytes-drop j z are_bytes) by_end.bytes) in
           let rejoined : take j z ++ (drop j z ++ by_end.more) ≡ z ++ by_end.more =
           sym (append_assoc (take j z) (drop j z) by_end.more)
           ∙ ap (λ y. y ++ by_end.more) (take-append-drop j z) in
-          by_end.other (sym (ap (rule set b) rejoined)
-          ∙ same_head (take j z ++ (drop j z ++ by_end.more)) s_first)
+          by_end.other (sym (ap (rule set b) rejoined) ∙ same_after (drop j z ++ by_end.more)
+          (bytes-append (drop j z) by_end.more (bytes-drop j z are_bytes) by_end.bytes))
 
       -- they contain the sequence
       own_bytes : more ≤ j
-      own_bytes =
-          let same_front = same_head (take j z ++ []) (determines [] tt) in
-          let fits_in = within_by rule law set b (take j z ++ []) in
-          let same_more : (rule set b (take j z ++ [])).more ≡ more =
-          ap (λ (t : Head). t.more) same_front in
-          let as_long : length (take j z ++ []) ≡ j =
-          ap length (nil_after (take j z)) ∙ length-take-le j z enough_bytes in
-          omega (arith, fits_in, same_more, as_long)
-        where
-          nil_after : (x : List ℕ) → x ++ [] ≡ x
-          nil_after [] = refl
-          nil_after (c ∷ x) = ap (λ y. c ∷ y) (nil_after x)
+      own_bytes = omega (
+        arith,
+        within_by rule law set b (take j z ++ []),
+        ap (λ (t : Head). t.more) (same_after [] tt),
+        ap length (append-nil (take j z)),
+        length-take-le j z enough_bytes,
+      )
 
       enough : (n : ℕ) → IsLookahead rule set b z n → more + n ≤ j
       enough n lookahead = elim (leb_tells (more + n) j) [
@@ -111,8 +98,7 @@ module _ (rule : Rule) (law : HasLookahead rule) where
             let contains = own_bytes in
             let parted : more + (j - more) ≡ j = omega (arith, contains) in
             lookahead.least are_bytes (j - more) (omega (arith, contains, too_few.1))
-            (λ y are_bytes. ap (λ k. rule set b (take k z ++ y)) parted
-            ∙ same_head (take j z ++ y) (determines y are_bytes)))
+            (λ y bytes. ap (λ k. rule set b (take k z ++ y)) parted ∙ same_after y bytes))
       ]
 
       looked : (n : ℕ) × IsLookahead rule set b z n × (1 + more + n ≤ suc j)
@@ -140,17 +126,19 @@ module _ (rule : Rule) (law : HasLookahead rule) where
       absurd (none_begin s ss
       (subst (AreFirstSequences (s ∷ ss)) (sequences_of-nil rule set) (determines [] tt)))
   reach_after (s ∷ ss) rest set (suc j) (b ∷ z) are_bytes whole l determines =
+      let parts = sym (sequences_of-cons rule set b z) ∙ whole in
+      let own_first = subst (λ t. Determines (sequences_of rule set) (b ∷ take j z) (t ∷ ss))
+      (sym (first_of _ _ _ _ parts)) determines in
       let enough_bytes : j ≤ length z = omega (arith, l) in
       let own_len = (rule set b z).more in
-      let contains = own_bytes set b z s ss rest whole are_bytes.1 j enough_bytes determines in
+      let contains = own_bytes set b z ss are_bytes.1 j enough_bytes own_first in
       let same_len : j - own_len ≡ suc j - (1 + own_len) = omega (arith, contains) in (
-        looked set b z s ss rest whole are_bytes.1 j enough_bytes determines,
+        looked set b z ss are_bytes.1 j enough_bytes own_first,
         subst (CoverLookahead rule (rule set b z).set (drop own_len z) ss) same_len
             (reach_after ss rest (rule set b z).set (j - own_len) (drop own_len z)
-            (bytes-drop own_len z are_bytes.1)
-            (following set b z s ss rest whole)
+            (bytes-drop own_len z are_bytes.1) (rest_of _ _ _ _ parts)
             (omega (arith, length-drop own_len z, enough_bytes, contains))
-            (rest_determined set b z s ss rest whole are_bytes.1 j enough_bytes determines)),
+            (rest_determined set b z ss are_bytes.1 j enough_bytes own_first)),
       )
 
   pub determine_if_after : (ss rest : List Sequence) (set k : ℕ) (z : List ℕ)
@@ -163,31 +151,20 @@ module _ (rule : Rule) (law : HasLookahead rule) where
   determine_if_after (s ∷ ss) rest set zero (b ∷ z) whole l covers =
       absurd (omega (arith, covers.0.2))
   determine_if_after (s ∷ ss) rest set (suc j) (b ∷ z) whole l covers =
+      let parts = sym (sequences_of-cons rule set b z) ∙ whole in
       let enough_bytes : j ≤ length z = omega (arith, l) in
       let own_len = (rule set b z).more in
       let contains = covers.0.2 in
       let same_len : suc j - (1 + own_len) ≡ j - own_len = omega (arith, contains) in
       let rest_known = determine_if_after ss rest (rule set b z).set (j - own_len) (drop own_len z)
-      (following set b z s ss rest whole)
-      (omega (arith, length-drop own_len z, enough_bytes, contains))
+      (rest_of _ _ _ _ parts) (omega (arith, length-drop own_len z, enough_bytes, contains))
       (subst (CoverLookahead rule (rule set b z).set (drop own_len z) ss) same_len covers.1) in
       λ y a. let first = rest_known y a in (
         first.0,
-        shown set b z s ss rest whole covers.0.0 j covers.0.1.determined (omega (arith, contains))
-            enough_bytes y
-            ∙ ap (λ ts. s ∷ ts) first.1,
+        shown set b z covers.0.0 j covers.0.1.determined (omega (arith, contains)) enough_bytes y
+            ∙ ap (λ ts. own set b z ∷ ts) first.1
+            ∙ ap (λ t. t ∷ (ss ++ first.0)) (first_of _ _ _ _ parts),
       )
-
-  -- The first k bytes of an input determine its first sequences exactly if they contain them and
-  -- their lookahead.
-  pub determined_by : (ss rest : List Sequence) (set k : ℕ) (z : List ℕ) → AreBytes z
-      → sequences_of rule set z ≡ ss ++ rest → k ≤ length z
-      → Determines (sequences_of rule set) (take k z) ss ↔ CoverLookahead rule set z ss k
-  determined_by ss rest set k z a whole enough_bytes = (
-    reach_after ss rest set k z a whole enough_bytes,
-    determine_if_after ss rest set k z whole
-        enough_bytes,
-  )
 
 -- bytes determine it or only the end does, not both
 pub determined_not_by_end : (rule : Rule) (set b : ℕ) (z : List ℕ) (n : ℕ)

@@ -1,8 +1,7 @@
 -- The steps of the loop over the bytes of one call.
-use Rattle.std.proofs.Common.{◌≡◌, ℕ, ◌+◌, ◌<◌, ◌≤◌, true, false, List, [], ◌∷◌, length, drop, refl}
-use Rattle.std.proofs.Common.{ap, ◌∙◌, sym, arith, subst, append-nil, nat_le, inl, inr, ◌||◌}
-use Rattle.std.proofs.lemmas.Bool.{false≢true}
-use Rattle.std.proofs.lemmas.Bool.Decides.{nat_tests}
+use Rattle.std.proofs.Common.{◌≡◌, ℕ, ◌+◌, ◌<◌, ◌≤◌, true, false, List, [], length, drop, refl}
+use Rattle.std.proofs.Common.{ap, ◌∙◌, sym, arith, subst, append-nil, nat_le, inl, inr, ◌||◌, get_or}
+use Rattle.std.proofs.lemmas.Bool.{false≢true, leb-true, leb-false}
 use Rattle.enc_decoder.specs.declared.byte_codec.Emission.{Emission}
 use Rattle.enc_decoder.specs.declared.machine.NextEvent.TheVariants.{NeedsInput, HoldsByte, Emits}
 use Rattle.enc_units.specs.declared.decoder_result.DecoderResult.{DecoderResult}
@@ -12,25 +11,19 @@ use Rattle.enc_units.proofs.OutputLemmas.{with_appended-nil}
 use Rattle.enc_decoder.specs.Sequence.{is_malformed}
 use Rattle.enc_decoder.specs.Remainder.{Remainder}
 use Rattle.enc_decoder.specs.CodecState.{CodecState, remainder_of}
-use Rattle.enc_decoder.specs.CodecLaw.{IsNextEvent, text_chars}
+use Rattle.enc_decoder.specs.CodecLaw.{IsNextEvent, text_chars, taken_bytes}
 use Rattle.enc_decoder.specs.Call.{RawDecoderCall, DecoderCallInto, is_replacement_mode, keeps_room}
 use Rattle.enc_decoder.proofs.SequenceLemmas.{or_false}
 use Rattle.enc_decoder.proofs.StageLemmas.{Stage, reports_in, nothing_written}
 use Rattle.enc_decoder.proofs.InnerCallLemmas.{reports_escape}
-use Rattle.enc_decoder.proofs.StateLeavesLemmas.{LeadsOn, unread}
+use Rattle.enc_decoder.proofs.StateLeavesLemmas.{unread}
 use Rattle.enc_decoder.specs.Taking.{TakesRun}
 use Rattle.enc_decoder.proofs.TakenRunLemmas.{past_run}
 use Rattle.enc_decoder.proofs.LeavesLemmas.{call_at}
 use Rattle.enc_decoder.proofs.OutputStageLemmas.{Reaches, Progress, progress_at, room_at, call_into, reaches_state}
 use Rattle.enc_decoder.proofs.FirstSequenceLemmas.{true_or_false}
-use Rattle.enc_decoder.proofs.NextEventLemmas.{not_late}
+use Rattle.enc_decoder.proofs.NextEventLemmas.{EndsAt, end_is}
 use Rattle.enc_decoder.proofs.EventLeavesLemmas as event
-
-within_room : (m n : ℕ) → nat_le m n ≡ true → m ≤ n
-within_room m n is_le = grind (arith, nat_tests)
-
-past_room : (m n : ℕ) → nat_le m n ≡ false → n < m
-past_room m n is_not_le = grind (arith, nat_tests)
 
 -- a call that writes nothing goes on at a stage
 module _ {units_of : ℕ → List ℕ} {old now : Remainder} {before at : Output} {stage : Stage}
@@ -95,7 +88,7 @@ module _ {C : Type 0} {units_of : ℕ → List ℕ} (state : C → CodecState) {
               ap (λ t. length (units_of_text units_of t)) (emits.0.replacement malformed),
               ap length (append-nil (units_of 0xFFFD)),
             )
-            | inr valid ↦ past_room (length (units_of_text units_of (text_chars s.text))) at.room
+            | inr valid ↦ leb-false (length (units_of_text units_of (text_chars s.text))) at.room
                 (none_for_text valid)
           ] in
           let not_reported : keeps_room stage.mode ≡ false → is_malformed s.kind ≡ false =
@@ -107,41 +100,35 @@ module _ {C : Type 0} {units_of : ℕ → List ℕ} (state : C → CodecState) {
           (λ e. cc) unchanged (omega arith)
 
       -- the sequence is put out
-      pub puts : {n read : ℕ} {then : Output}
-          → LeadsOn (state c) (state s.next) stage n (event.emitted state c stage emits ∷ [])
-          → stage.read + n ≡ read → is_malformed s.kind ≡ false → AreScalars (text_chars s.text)
+      pub puts : {end : ℕ} {then : Output} → EndsAt s.takes_byte stage.read end
+          → is_malformed s.kind ≡ false → AreScalars (text_chars s.text)
           → nat_le (length (units_of_text units_of (text_chars s.text))) at.room ≡ true
           → then ≡ with_appended at (units_of_text units_of (text_chars s.text))
           → Progress units_of old (remainder_of (state s.next)) stage.src stage.last stage.mode
-          before then read stage.replaced
-      puts leads same_read valid scalars fits onto =
+          before then end stage.replaced
+      puts ends valid scalars fits onto =
           let units = units_of_text units_of (text_chars s.text) in
           let same_text = sym (append-nil (text_chars s.text)) in
-          progress_at (reaches_state reaches leads (record {
+          progress_at (reaches_state reaches (event.leads state c stage emits) (record {
             text = ap (units_of_text units_of) same_text;
             scalars = subst AreScalars same_text scalars;
-            fits = omega (arith, within_room (length units) at.room fits, room_at reaches);
+            fits = omega (arith, leb-true (length units) at.room fits, room_at reaches);
             flag = sym (ap (λ b. b || false) valid);
             none_replaced = λ _. refl;
-          }) onto) same_read (or_false stage.replaced)
+          }) onto) (end_is _ ends) (or_false stage.replaced)
 
       -- the sequence is malformed, and is reported
-      module _ {a : ℕ} (fatal : is_replacement_mode stage.mode ≡ false)
-          (malformed : is_malformed s.kind ≡ true) (is_pending : a ≡ length (state s.next).pending)
-          (kept : keeps_room stage.mode ≡ true → length (units_of 0xFFFD) ≤ at.room) where
-        pub reports_with : s.takes_byte ≡ true
-            → DecoderCallInto units_of old (remainder_of (state s.next)) stage.src stage.last
-            stage.mode before at (Malformed s.len a) (stage.read + 1) stage.replaced
-        reports_with takes = goes_on reaches (event.reported state c stage emits reaches.bytes
-            (event.leads_with state c stage emits takes)
-            (event.reads_with state c stage emits takes reaches.bytes) fatal malformed is_pending
-            kept) (λ _. reaches.leaves.soon) refl refl
-
-        pub reports_before : s.takes_byte ≡ false
-            → DecoderCallInto units_of old (remainder_of (state s.next)) stage.src stage.last
-            stage.mode before at (Malformed s.len a) stage.read stage.replaced
-        reports_before keeps_off = goes_on reaches (event.reported state c stage emits
-            reaches.bytes (event.leads_before state c stage emits keeps_off)
-            (event.reads_before state c stage emits keeps_off) fatal malformed is_pending kept)
-            (λ escape. absurd (false≢true (sym (not_late emits.0 keeps_off) ∙ escape))) refl
-            (omega arith)
+      pub reports : {end a : ℕ} → EndsAt s.takes_byte stage.read end
+          → is_replacement_mode stage.mode ≡ false → is_malformed s.kind ≡ true
+          → a ≡ length (state s.next).pending
+          → (keeps_room stage.mode ≡ true → length (units_of 0xFFFD) ≤ at.room)
+          → DecoderCallInto units_of old (remainder_of (state s.next)) stage.src stage.last
+          stage.mode before at (Malformed s.len a) end stage.replaced
+      reports ends fatal malformed is_pending kept = goes_on reaches
+          (event.reported state c stage emits reaches.bytes fatal malformed is_pending kept)
+          (λ escape. omega (
+            arith,
+            reaches.leaves.soon,
+            ap (λ t. length (taken_bytes t (get_or stage.src stage.read 0))) (emits.0.late escape),
+          ))
+          refl (end_is _ ends)

@@ -1,4 +1,5 @@
 -- What a call needs, by what it does.
+use Rattle.enc_units.proofs.OverwrittenTextLemmas.{is_text}
 use Rattle.std.proofs.Common.{◌↔◌}
 use Rattle.std.proofs.Common.{◌≡◌, ◌⊎◌, ℕ, ◌+◌, ◌<◌, ◌≤◌, Bool, true, false, cond, ◌||◌, List, [], ◌∷◌, ◌++◌}
 use Rattle.std.proofs.Common.{length, drop, refl, ap, ◌∙◌, sym, arith, subst, append_assoc, inl, inr}
@@ -6,7 +7,7 @@ use Rattle.std.proofs.lemmas.List.{append-nil, length-append}
 use Rattle.std.proofs.Math.ListN.{drop_of_length-le}
 use Rattle.std.proofs.lemmas.Bool.{false≢true, cond-true, cond-false}
 use Rattle.enc_units.specs.declared.decoder_result.DecoderResult.{DecoderResult}
-use Rattle.enc_units.specs.declared.decoder_result.DecoderResult.TheVariants.{InputEmpty, OutputFull}
+use Rattle.enc_units.specs.declared.decoder_result.DecoderResult.TheVariants.{InputEmpty, OutputFull, Malformed}
 use Rattle.enc_units.specs.declared.decoder_result.DecoderResult.TheVariants as stop
 use Rattle.enc_units.specs.Output.{Output, units_of_text}
 use Rattle.enc_decoder.specs.Sequence.{Sequence, is_malformed, any_malformed, sequence_text}
@@ -28,20 +29,12 @@ begin_alike [] b all first also_first = inl (b, refl)
 begin_alike (s ∷ a) [] all first also_first = inr (s, a, refl)
 begin_alike (s ∷ a) (t ∷ b) [] first also_first = absurd (let begins_with_s = first.1 in cc)
 begin_alike (s ∷ a) (t ∷ b) (u ∷ all) first also_first =
-    let begins_with_s : u ≡ s = let all_from_s = first.1 in cc in
-    let begins_with_t : u ≡ t = let all_from_t = also_first.1 in cc in
-    let same : s ≡ t = sym begins_with_s ∙ begins_with_t in
-    elim (begin_alike a b all (first.0, tail first.1) (also_first.0, tail also_first.1)) [
-      | inl begins ↦ inl (begins.0, ap (λ q. q ∷ b) (sym same) ∙ ap (λ ss. s ∷ ss) begins.1)
-      | inr remain ↦ inr (
-        remain.0,
-        remain.1,
-        ap (λ ss. s ∷ ss) remain.2 ∙ ap (λ q. q ∷ (b ++ remain.0 ∷ remain.1)) same,
-      )
+    let all_from_s = first.1 in
+    let all_from_t = also_first.1 in
+    elim (begin_alike a b all (first.0, (cc)) (also_first.0, (cc))) [
+      | inl begins ↦ inl (begins.0, (let rest_is = begins.1 in cc))
+      | inr remain ↦ inr (remain.0, remain.1, (let rest_is = remain.2 in cc))
     ]
-  where
-    tail : {p q : Sequence} {ps qs : List Sequence} → p ∷ ps ≡ q ∷ qs → ps ≡ qs
-    tail e = cc
 
 -- the units that sequences need which follow one another
 
@@ -170,64 +163,68 @@ module _ {units_of : ℕ → List ℕ} {old new : Remainder} (c : Call)
   done_determined = determined_at c.last old.sequences c.src call.done
       (λ z ends. (_, call.residual z ends))
 
-  -- the determined sequences are some of those done, or go on after them
-  compared : (ss : List Sequence) → AreDetermined c.last old.sequences c.src ss
-      → (need ss ≤ need call.done)
-      ⊎ ((s : Sequence) × (ts : List Sequence) × (ss ≡ call.done ++ s ∷ ts))
-  compared ss determined = elim (begin_alike ss call.done (old.sequences c.src)
-      (at_end c.last old.sequences c.src ss determined)
-      (at_end c.last old.sequences c.src call.done done_determined)) [
-        | inl fewer ↦ inl (subst (λ ts. need ss ≤ need ts) (sym fewer.1)
-            (needed_more units_of c.mode ss fewer.0))
-        | inr more ↦ inr more
-      ]
+  -- `after` is what the sequences after those done need
+  module _ (after : List Sequence → ℕ)
+      (needed : (ts : List Sequence) → need (call.done ++ ts) ≡ put_units + after ts) where
+    passes : (n : ℕ) → n < put_units + after [] → Exceeds n
+    passes n fewer = record {
+      sequences = call.done;
+      determined = done_determined;
+      more = omega (arith, fewer, needed [], ap need (append-nil call.done));
+    }
+
+    reaches : (n : ℕ) → n < put_units → Exceeds n
+    reaches n fewer = passes n (omega (arith, fewer))
+
+    -- determined sequences are some of those done, or go on after them
+    compared : (n : ℕ) → Exceeds n → (n < put_units + after [])
+        ⊎ ((s : Sequence) × (ts : List Sequence)
+        × AreDetermined c.last old.sequences c.src (call.done ++ s ∷ ts)
+        × (n < put_units + after (s ∷ ts)))
+    compared n exceeds = elim (begin_alike exceeds.sequences call.done (old.sequences c.src)
+        (at_end c.last old.sequences c.src exceeds.sequences exceeds.determined)
+        (at_end c.last old.sequences c.src call.done done_determined)) [
+          | inl fewer ↦ inl (omega (
+            arith,
+            exceeds.more,
+            needed_more units_of c.mode exceeds.sequences fewer.0,
+            ap need fewer.1,
+            needed [],
+            ap need (append-nil call.done),
+          ))
+          | inr more ↦ inr (
+            more.0,
+            more.1,
+            subst (AreDetermined c.last old.sequences c.src) more.2 exceeds.determined,
+            omega (arith, exceeds.more, ap need more.2, needed (more.0 ∷ more.1)),
+          )
+        ]
 
   -- where all that is done was put out
   module _ (all_put : call.done ≡ call.put) where
-    needed_done : (ts : List Sequence) → need (call.done ++ ts) ≡ put_units + need ts
-    needed_done ts =
+    needed_put : (ts : List Sequence) → need (call.done ++ ts) ≡ put_units + need ts
+    needed_put ts =
         ap (units units_of) (needed_clean c.mode call.done ts
         (λ fatal. ap any_malformed all_put ∙ none_malformed fatal))
         ∙ units-both units_of call.done (needed_sequences c.mode ts)
         ∙ ap (λ ss. units units_of ss + need ts) all_put
 
-    all_done : need call.done ≡ put_units
-    all_done = omega (
-      arith,
-      ap need (append-nil call.done),
-      needed_done [],
-      none_needed units_of c.mode,
-    )
-
-    reaches : (n : ℕ) → n < put_units → Exceeds n
-    reaches n fewer = record {
-      sequences = call.done;
-      determined = done_determined;
-      more = omega (arith, fewer, all_done);
-    }
-
     left : (n : ℕ) → Exceeds (put_units + n) ↔ NeedExceeds units_of c.mode new rest c.last n
     left n = (
-      λ exceeds. elim (compared exceeds.sequences exceeds.determined) [
-        | inl fewer ↦ absurd (omega (arith, fewer, exceeds.more, all_done))
+      λ exceeds. elim (compared need needed_put (put_units + n) exceeds) [
+        | inl fewer ↦ absurd (omega (arith, fewer, none_needed units_of c.mode))
         | inr more ↦ record {
           sequences = more.0 ∷ more.1;
           determined = determined_past old.sequences new.sequences c.src rest call.done c.last
-              call.residual (more.0 ∷ more.1)
-              (subst (AreDetermined c.last old.sequences c.src) more.2 exceeds.determined);
-          more = omega (
-            arith,
-            exceeds.more,
-            ap need more.2,
-            needed_done (more.0 ∷ more.1),
-          );
+              call.residual (more.0 ∷ more.1) more.2;
+          more = omega (arith, more.3);
         }
       ],
       λ exceeds. record {
         sequences = call.done ++ exceeds.sequences;
         determined = determined_after old.sequences new.sequences c.src rest call.done c.last
             call.residual exceeds.sequences exceeds.determined;
-        more = omega (arith, exceeds.more, needed_done exceeds.sequences);
+        more = omega (arith, exceeds.more, needed_put exceeds.sequences);
       },
     )
 
@@ -269,13 +266,12 @@ module _ {units_of : ℕ → List ℕ} {old new : Remainder} (c : Call)
   meets_empty stops = record {
     full = (
       λ e. absurd (cc),
-      λ exceeds. absurd (elim (compared exceeds.sequences exceeds.determined) [
-        | inl fewer ↦ omega (arith, exceeds.more, fewer, all_done stops.only_put, fits)
-        | inr more ↦ none_further stops more.0 more.1
-            (subst (AreDetermined c.last old.sequences c.src) more.2 exceeds.determined)
+      λ exceeds. absurd (elim (compared need (needed_put stops.only_put) c.room exceeds) [
+        | inl fewer ↦ omega (arith, fewer, fits, none_needed units_of c.mode)
+        | inr more ↦ none_further stops more.0 more.1 more.2
       ]),
     );
-    reaches = reaches stops.only_put;
+    reaches = reaches need (needed_put stops.only_put);
     left = left stops.only_put;
   }
 
@@ -289,7 +285,7 @@ module _ {units_of : ℕ → List ℕ} {old new : Remainder} (c : Call)
         more = omega (
           arith,
           stops.full,
-          needed_done stops.only_put (stops.next ∷ []),
+          needed_put stops.only_put (stops.next ∷ []),
           ap (units units_of) (one_needed c.mode stops.next stops.not_reported),
           units-one units_of stops.next stops.next.text refl,
           ap (units units_of) stops.only_put,
@@ -297,36 +293,25 @@ module _ {units_of : ℕ → List ℕ} {old new : Remainder} (c : Call)
       },
       λ _. refl,
     );
-    reaches = reaches stops.only_put;
+    reaches = reaches need (needed_put stops.only_put);
     left = left stops.only_put;
   }
 
   -- one is reported
   module _ (l a : ℕ) (stops : Stops (stop.Malformed l a)) where
-    needed_all : (ts : List Sequence)
-        → need (call.done ++ ts) ≡ put_units + kept_room units_of c.mode
+    abbrev kept : ℕ
+    kept = kept_room units_of c.mode
+
+    needed_all : (ts : List Sequence) → need (call.done ++ ts) ≡ put_units + kept
     needed_all ts =
         ap (λ ss. need (ss ++ ts)) stops.then_next
         ∙ ap need (append_assoc call.put (stops.next ∷ []) ts)
         ∙ needed_cut units_of c.mode call.put stops.next ts (none_malformed stops.not_replaced)
         stops.malformed stops.replacement stops.not_replaced
 
-    needed_none : need call.done ≡ put_units + kept_room units_of c.mode
-    needed_none = ap need (sym (append-nil call.done)) ∙ needed_all []
-
-    bounded : (n : ℕ) → Exceeds n → n < put_units + kept_room units_of c.mode
-    bounded n exceeds = let needs_more = exceeds.more in
-        elim (compared exceeds.sequences exceeds.determined) [
-          | inl fewer ↦ omega (arith, needs_more, fewer, needed_none)
-          | inr more ↦ omega (arith, needs_more, ap need more.2, needed_all (more.0 ∷ more.1))
-        ]
-
-    passes : (n : ℕ) → n < put_units + kept_room units_of c.mode → Exceeds n
-    passes n fewer = record {
-      sequences = call.done;
-      determined = done_determined;
-      more = omega (arith, fewer, needed_none);
-    }
+    bounded : (n : ℕ) → Exceeds n → n < put_units + kept
+    bounded n exceeds =
+        elim (compared (λ _. kept) needed_all n exceeds) [ inl fewer ↦ fewer | inr more ↦ more.3 ]
 
     meets_malformed : Meets (stop.Malformed l a)
     meets_malformed = record {
@@ -338,10 +323,10 @@ module _ {units_of : ℕ → List ℕ} {old new : Remainder} (c : Call)
           kept_fits units_of c.mode put_units c.room stops.room_kept fits stops.not_replaced,
         )),
       );
-      reaches = λ n fewer. passes n (omega (arith, fewer));
+      reaches = reaches (λ _. kept) needed_all;
       left = λ n. (
         λ exceeds. omega (arith, bounded (put_units + n) exceeds),
-        λ fewer. passes (put_units + n) (omega (arith, fewer)),
+        λ fewer. passes (λ _. kept) needed_all (put_units + n) (omega (arith, fewer)),
       );
     }
 

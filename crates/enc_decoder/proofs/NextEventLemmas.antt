@@ -1,39 +1,22 @@
 -- What comes next, as the loop takes it.
-use Rattle.std.proofs.Common.{◌≡◌, ℕ, ◌<◌, Bool, true, false, List, [], ◌∷◌, ◌++◌, length, get_or, ap, ◌∙◌}
-use Rattle.std.proofs.Common.{sym, subst, append_assoc, inl, inr}
-use Rattle.std.proofs.lemmas.List.{append-nil}
-use Rattle.std.proofs.lemmas.Bool.{false≢true}
+use Rattle.std.proofs.Common.{◌*◌, ◌-◌}
+use Rattle.std.proofs.Common.{◌≡◌, ℕ, ◌<◌, Bool, true, false, List, [], ◌∷◌, ◌++◌, length, ap, ◌∙◌}
+use Rattle.std.proofs.Common.{sym, append_assoc, inl, inr, ◌+◌, length-append, ◌⊎◌, arith, ◌≤◌}
 use Rattle.enc_decoder.specs.declared.byte_codec.Emission.{Emission}
-use Rattle.enc_decoder.specs.Sequence.{Sequence, is_repeated_escape}
+use Rattle.enc_decoder.specs.Sequence.{Sequence}
 use Rattle.enc_decoder.specs.Segmentation.{sequences_of}
-use Rattle.enc_decoder.specs.Remainder.{AreFirstSequences}
-use Rattle.enc_decoder.proofs.FirstSequenceLemmas.{true_or_false}
 use Rattle.enc_decoder.specs.CodecState.{CodecState, remainder_of}
-use Rattle.enc_decoder.specs.CodecLaw.{MayFollowRead, taken_bytes, text_chars, IsNextSequence}
+use Rattle.enc_decoder.specs.CodecLaw.{taken_bytes, text_chars, IsNextSequence}
 
 -- a held byte is pending, and the state goes on with it
-pub holds_pending : (v n : CodecState) (b : ℕ) → n ≡ record v { pending = v.pending ++ b ∷ [] }
-    → n.pending ≡ v.pending ++ b ∷ []
-holds_pending v n b is_next = ap (λ (s : CodecState). s.pending) is_next
-
-pub holds_set : (v n : CodecState) (b : ℕ) → n ≡ record v { pending = v.pending ++ b ∷ [] }
-    → n.set ≡ v.set
-holds_set v n b is_next = ap (λ (s : CodecState). s.set) is_next
-
-pub holds_rule : (v n : CodecState) (b : ℕ) → n ≡ record v { pending = v.pending ++ b ∷ [] }
-    → n.rule ≡ v.rule
-holds_rule v n b is_next = ap (λ (s : CodecState). s.rule) is_next
-
 pub holds_sequences : (v n : CodecState) (b : ℕ) → n ≡ record v { pending = v.pending ++ b ∷ [] }
     → (y : List ℕ) → (remainder_of v).sequences (b ∷ y) ≡ (remainder_of n).sequences y
 holds_sequences v n b is_next y =
     ap (sequences_of v.rule v.set) (sym (append_assoc v.pending (b ∷ []) y))
     ∙ ap (λ (s : CodecState). (remainder_of s).sequences y) (sym is_next)
 
-module _ {C : Type 0} {state : C → CodecState} {c : C} {src : List ℕ} {read : ℕ} {last : Bool}
-    {s : Emission C}
-    (next : IsNextSequence state c (MayFollowRead src read last)
-    (taken_bytes s.takes_byte (get_or src read 0)) s) where
+module _ {C : Type 0} {state : C → CodecState} {c : C} {may_follow : List ℕ → Type 0}
+    {took : List ℕ} {s : Emission C} (next : IsNextSequence state c may_follow took s) where
   abbrev pub sequence : Sequence
   sequence = record {
     bytes = next.bytes;
@@ -42,54 +25,31 @@ module _ {C : Type 0} {state : C → CodecState} {c : C} {src : List ℕ} {read 
     set = (state s.next).set;
   }
 
-  pub parts_before : s.takes_byte ≡ false → (state c).pending ≡ next.bytes ++ (state s.next).pending
-  parts_before keeps_off =
-      sym (append-nil (state c).pending)
-      ∙ ap (λ b. (state c).pending ++ taken_bytes b (get_or src read 0)) (sym keeps_off)
-      ∙ next.parts
+-- Where reading stands after a sequence: past the next byte if that is read with it.
+abbrev pub EndsAt : Bool → ℕ → ℕ → Type 0
+EndsAt takes read end = ((takes ≡ true) × (end ≡ read + 1)) ⊎ ((takes ≡ false) × (end ≡ read))
 
-  pub first_before : s.takes_byte ≡ false → (y : List ℕ) → MayFollowRead src read last y
-      → (remainder_of (state c)).sequences y ≡ sequence ∷ (remainder_of (state s.next)).sequences y
-  first_before keeps_off y may_follow =
-      ap (λ b. (remainder_of (state c)).sequences (taken_bytes b (get_or src read 0) ++ y))
-      (sym keeps_off)
-      ∙ next.first y (subst (λ b.
-      MayFollowRead src read last (taken_bytes b (get_or src read 0) ++ y)) (sym keeps_off)
-      may_follow)
+pub end_is : {takes : Bool} {read end : ℕ} (b : ℕ) → EndsAt takes read end
+    → read + length (taken_bytes takes b) ≡ end
+end_is b ends = elim ends [
+  | inl takes ↦ omega (arith, takes.1, ap (λ t. length (taken_bytes t b)) takes.0)
+  | inr keeps_off ↦ omega (arith, keeps_off.1, ap (λ t. length (taken_bytes t b)) keeps_off.0)
+]
 
-  pub parts_with : s.takes_byte ≡ true
-      → (state c).pending ++ get_or src read 0 ∷ [] ≡ next.bytes ++ (state s.next).pending
-  parts_with takes = ap (λ b. (state c).pending ++ taken_bytes b (get_or src read 0)) (sym takes)
-      ∙ next.parts
-
-  pub first_with : s.takes_byte ≡ true → (y : List ℕ)
-      → MayFollowRead src read last (get_or src read 0 ∷ y)
-      → (remainder_of (state c)).sequences (get_or src read 0 ∷ y) ≡ sequence
-      ∷ (remainder_of (state s.next)).sequences y
-  first_with takes y may_follow =
-      ap (λ b. (remainder_of (state c)).sequences (taken_bytes b (get_or src read 0) ++ y))
-      (sym takes)
-      ∙ next.first y (subst (λ b.
-      MayFollowRead src read last (taken_bytes b (get_or src read 0) ++ y)) (sym takes) may_follow)
-
-  -- only a repeated escape is late, and it takes the byte that shows it
-  pub not_late : s.takes_byte ≡ false → is_repeated_escape s.kind ≡ false
-  not_late t =
-      elim (true_or_false (is_repeated_escape s.kind)) [
-        | inl l ↦
-            absurd (false≢true (sym t ∙ next.late l))
-        | inr f ↦ f
-      ]
-
-  -- it comes first
-  pub comes_first : (s.takes_byte ≡ true → read < length src) → (y : List ℕ)
-      → MayFollowRead src read last y
-      → AreFirstSequences (sequence ∷ []) ((remainder_of (state c)).sequences y)
-  comes_first h y follows = elim (true_or_false s.takes_byte) [
-    | inl takes ↦ (let followed = follows.more (h takes) in (
-      _,
-      ap (λ x. (remainder_of (state c)).sequences x) followed.1
-          ∙ first_with takes followed.0 (subst (MayFollowRead src read last) followed.1 follows),
-    ))
-    | inr t ↦ (_, first_before t y follows)
-  ]
+-- After a sequence fewer bytes are pending or unread, if an unread byte counts twice.
+pub fewer_left : {C : Type 0} {state : C → CodecState} {c : C} {may_follow : List ℕ → Type 0}
+    {len : ℕ} {s : Emission C} (b read end : ℕ)
+    → (next : IsNextSequence state c may_follow (taken_bytes s.takes_byte b) s)
+    → (s.takes_byte ≡ true → read < len) → read ≤ len → EndsAt s.takes_byte read end
+    → 2 * (len - end) + length (state s.next).pending < 2 * (len - read) + length (state c).pending
+fewer_left {state = state} {c} {s = s} b read end next has_next within ends =
+    let took : ℕ = length (taken_bytes s.takes_byte b) in
+    let pending : length (state c).pending + took
+    ≡ length next.bytes + length (state s.next).pending =
+    sym (length-append (state c).pending (taken_bytes s.takes_byte b)) ∙ ap length next.parts
+    ∙ length-append next.bytes (state s.next).pending in
+    let same_end = end_is b ends in
+    elim ends [
+      | inl takes ↦ omega (arith, next.some, pending, same_end, has_next takes.0, takes.1, within)
+      | inr keeps_off ↦ omega (arith, next.some, pending, same_end, keeps_off.1, within)
+    ]

@@ -8,12 +8,13 @@ use Rattle.enc_units.proofs.OutputLemmas.{with_appended-nil, with_appended-with_
 use Rattle.enc_decoder.specs.Sequence.{Sequence}
 use Rattle.enc_decoder.specs.Remainder.{Remainder, AreBytes}
 use Rattle.enc_decoder.specs.Call.{RawDecoderCall, DecoderCallInto, DecodeErrorMode, is_replacement_mode, keeps_room}
+use Rattle.enc_decoder.proofs.StageLemmas.{stage_after, stage_at, written_on}
 use Rattle.enc_decoder.proofs.StageLemmas.{Stage, HasWritten, nothing_written}
 use Rattle.enc_decoder.proofs.InnerCallLemmas.{reports_escape}
 use Rattle.enc_decoder.specs.CodecState.{CodecState, remainder_of}
 use Rattle.enc_decoder.proofs.StateLeavesLemmas.{LeadsOn, state_leaves}
-use Rattle.enc_decoder.proofs.LeavesLemmas.{Leaves, AreAccounted, call_at, stage_at, stage_after, raw_call, leaves_on}
-use Rattle.enc_decoder.proofs.LeavesLemmas.{written_on, accounted_on}
+use Rattle.enc_decoder.proofs.LeavesLemmas.{Leaves, AreAccounted, call_at, raw_call, leaves_on}
+use Rattle.enc_decoder.proofs.LeavesLemmas.{accounted_on}
 
 -- Calls have come to this stage: what they leave, and the output before and after them.
 pub record Reaches (units_of : ℕ → List ℕ) (old now : Remainder) (before after : Output)

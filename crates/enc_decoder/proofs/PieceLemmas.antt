@@ -1,8 +1,9 @@
 -- Pieces that a codec takes at once.
+use Rattle.enc_decoder.proofs.RuleLemmas.{has_bytes}
 use Rattle.std.proofs.Common.{◌≡◌, ℕ, suc, ◌+◌, ◌<◌, false, List, [], ◌∷◌, ◌++◌, length, take, drop, refl, ap, ◌∙◌, sym}
 use Rattle.std.proofs.Common.{subst, arith, append_assoc, drop-cons, get_or}
 use Rattle.enc_units.specs.Output.{Output, AreScalars, with_appended, units_of_text}
-use Rattle.enc_units.specs.Pieces.{Piece, piece_chars, EachMeansChar, PutsPieces}
+use Rattle.enc_units.specs.Pieces.{Piece, piece_chars, EachMeansChar, PutsPieces, piece_bytes}
 use Rattle.enc_units.specs.Pieces as piece
 use Rattle.enc_decoder.specs.declared.byte_codec.Kind.TheVariants.{Valid}
 use Rattle.enc_decoder.specs.Sequence.{Sequence, sequence_bytes, sequence_text, any_malformed, set_after}
@@ -10,34 +11,34 @@ use Rattle.enc_decoder.specs.Segmentation.{Rule, sequences_of}
 use Rattle.enc_decoder.specs.CodecState.{CodecState}
 use Rattle.enc_decoder.specs.Taking.{TakesSequences, TakesRun, IsWholeChar, IsReplacedChar}
 
--- the sequences of pieces, each of its kind
-abbrev whole : (rule : Rule) (set : ℕ) (ps : List Piece)
-    → EachMeansChar (IsReplacedChar rule set) ps
-    → List Sequence
-whole rule set [] mean = []
-whole rule set (p ∷ ps) mean =
-    record { bytes = p.bytes; text = p.char ∷ []; kind = mean.0.0; set = set }
-    ∷ whole rule set ps mean.1
-
 module _ (rule : Rule) (set : ℕ) where
-  whole_bytes : (ps : List Piece) (mean : EachMeansChar (IsReplacedChar rule set) ps)
-      → sequence_bytes (whole rule set ps mean) ≡ piece.piece_bytes ps
+  -- each piece is a character, or malformed
+  abbrev AreReplaced : List Piece → Type 0
+  AreReplaced = EachMeansChar (IsReplacedChar rule set)
+
+  -- the sequences of pieces, each of its kind
+  abbrev whole : (ps : List Piece) → AreReplaced ps → List Sequence
+  whole [] mean = []
+  whole (p ∷ ps) mean =
+      record { bytes = p.bytes; text = p.char ∷ []; kind = mean.0.0; set = set } ∷ whole ps mean.1
+
+  whole_bytes : (ps : List Piece) (mean : AreReplaced ps)
+      → sequence_bytes (whole ps mean) ≡ piece.piece_bytes ps
   whole_bytes [] mean = refl
   whole_bytes (p ∷ ps) mean = ap (λ x. p.bytes ++ x) (whole_bytes ps mean.1)
 
-  whole_text : (ps : List Piece) (mean : EachMeansChar (IsReplacedChar rule set) ps)
-      → sequence_text (whole rule set ps mean) ≡ piece_chars ps
+  whole_text : (ps : List Piece) (mean : AreReplaced ps)
+      → sequence_text (whole ps mean) ≡ piece_chars ps
   whole_text [] mean = refl
   whole_text (p ∷ ps) mean = ap (λ x. p.char ∷ x) (whole_text ps mean.1)
 
-  whole_set : (ps : List Piece) (mean : EachMeansChar (IsReplacedChar rule set) ps)
-      → set_after set (whole rule set ps mean) ≡ set
+  whole_set : (ps : List Piece) (mean : AreReplaced ps) → set_after set (whole ps mean) ≡ set
   whole_set [] mean = refl
   whole_set (p ∷ ps) mean = whole_set ps mean.1
 
-  whole_first : (ps : List Piece) (mean : EachMeansChar (IsReplacedChar rule set) ps) (y : List ℕ)
+  whole_first : (ps : List Piece) (mean : AreReplaced ps) (y : List ℕ)
       → sequences_of rule set (piece.piece_bytes ps ++ y)
-      ≡ whole rule set ps mean ++ sequences_of rule set y
+      ≡ whole ps mean ++ sequences_of rule set y
   whole_first [] mean y = refl
   whole_first (p ∷ ps) mean y =
       ap (sequences_of rule set) (append_assoc p.bytes (piece.piece_bytes ps) y)
@@ -45,19 +46,17 @@ module _ (rule : Rule) (set : ℕ) where
       ∙ ap (λ ss. record { bytes = p.bytes; text = p.char ∷ []; kind = mean.0.0; set = set } ∷ ss)
       (whole_first ps mean.1 y)
 
-  whole_none : (ps : List Piece) (mean : EachMeansChar (IsReplacedChar rule set) ps) → ps ≡ []
-      → whole rule set ps mean ≡ []
+  whole_none : (ps : List Piece) (mean : AreReplaced ps) → ps ≡ [] → whole ps mean ≡ []
   whole_none [] mean e = refl
   whole_none (p ∷ ps) mean e = cc
 
   -- characters are none of them malformed
-  abbrev as_replaced : (ps : List Piece) → EachMeansChar (IsWholeChar rule set) ps
-      → EachMeansChar (IsReplacedChar rule set) ps
+  abbrev as_replaced : (ps : List Piece) → EachMeansChar (IsWholeChar rule set) ps → AreReplaced ps
   as_replaced [] mean = tt
   as_replaced (p ∷ ps) mean = ((Valid, mean.0), as_replaced ps mean.1)
 
   whole_valid : (ps : List Piece) (mean : EachMeansChar (IsWholeChar rule set) ps)
-      → any_malformed (whole rule set ps (as_replaced ps mean)) ≡ false
+      → any_malformed (whole ps (as_replaced ps mean)) ≡ false
   whole_valid [] mean = refl
   whole_valid (p ∷ ps) mean = whole_valid ps mean.1
 
@@ -117,34 +116,33 @@ same_piece rule set bytes bytes' c e p = subst (λ z. IsWholeChar rule set z c) 
 
 -- the bytes that a piece of one byte has, or of more
 
-next_of : (src : List ℕ) (at n next : ℕ) → next ≡ suc at → at < length src
+next_of : (src : List ℕ) (n : ℕ) {at next : ℕ} → next ≡ suc at → at < length src
     → take (suc n) (drop at src) ≡ get_or src at 0 ∷ take n (drop next src)
-next_of src at n next is_next has_byte =
+next_of src n {at} is_next has_byte =
     ap (take (suc n)) (drop-cons src at 0 has_byte)
     ∙ ap (λ k. get_or src at 0 ∷ take n (drop k src)) (sym is_next)
 
 pub one_of : (src : List ℕ) (at : ℕ) → at < length src → take 1 (drop at src) ≡ get_or src at 0 ∷ []
-one_of src at has_byte = next_of src at 0 (suc at) refl has_byte
+one_of src at has_byte = next_of src 0 refl has_byte
 
 pub two_of : (src : List ℕ) (at : ℕ) → at + 1 < length src
     → take 2 (drop at src) ≡ get_or src at 0 ∷ get_or src (at + 1) 0 ∷ []
 two_of src at has_bytes =
-    next_of src at 1 (at + 1) (omega arith) (omega arith)
-    ∙ ap (λ x. get_or src at 0 ∷ x) (one_of src (at + 1) has_bytes)
+    let next = one_of src (at + 1) has_bytes in
+    next_of src 1 (omega arith) (omega arith) ∙ ap (λ x. get_or src at 0 ∷ x) next
 
 pub three_of : (src : List ℕ) (at : ℕ) → at + 2 < length src
     → take 3 (drop at src) ≡ get_or src at 0 ∷ get_or src (at + 1) 0 ∷ get_or src (at + 2) 0 ∷ []
 three_of src at has_bytes =
-    next_of src at 2 (at + 1) (omega arith) (omega arith)
-    ∙ ap (λ x. get_or src at 0 ∷ x) (next_of src (at + 1) 1 (at + 2) (omega arith) (omega arith)
-    ∙ ap (λ x. get_or src (at + 1) 0 ∷ x) (one_of src (at + 2) has_bytes))
+    let next : at + 1 + 1 ≡ at + 2 = omega arith in
+    next_of src 2 (omega arith) (omega arith)
+    ∙ ap (λ x. get_or src at 0 ∷ x) (rw next at (two_of src (at + 1) (omega arith)))
 
 pub four_of : (src : List ℕ) (at : ℕ) → at + 3 < length src
     → take 4 (drop at src) ≡ get_or src at 0 ∷ get_or src (at + 1) 0 ∷ get_or src (at + 2) 0
     ∷ get_or src (at + 3) 0 ∷ []
 four_of src at has_bytes =
-    next_of src at 3 (at + 1) (omega arith) (omega arith) ∙ ap (λ x. get_or src at 0 ∷ x)
-    (next_of src (at + 1) 2 (at + 2) (omega arith) (omega arith)
-    ∙ ap (λ x. get_or src (at + 1) 0 ∷ x)
-    (next_of src (at + 2) 1 (at + 3) (omega arith) (omega arith)
-    ∙ ap (λ x. get_or src (at + 2) 0 ∷ x) (one_of src (at + 3) has_bytes)))
+    let next : at + 1 + 1 ≡ at + 2 = omega arith in
+    let last : at + 1 + 2 ≡ at + 3 = omega arith in
+    next_of src 3 (omega arith) (omega arith)
+    ∙ ap (λ x. get_or src at 0 ∷ x) (rw (next, last) at (three_of src (at + 1) (omega arith)))

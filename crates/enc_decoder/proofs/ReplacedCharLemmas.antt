@@ -2,7 +2,7 @@
 use Rattle.std.proofs.Common.{◌≡◌, ℕ, ◌+◌, ◌<◌, ◌≤◌, true, List, [], ◌∷◌, ◌++◌, length, get_or, take, drop, ap}
 use Rattle.std.proofs.Common.{◌∙◌, sym, subst, arith, append-nil, length-drop}
 use Rattle.std.proofs.Common.{nat_le}
-use Rattle.std.proofs.lemmas.Bool.Decides.{nat_tests}
+use Rattle.std.proofs.lemmas.Bool.{leb-true}
 use Rattle.enc_units.specs.Output.{Output, AreScalars, with_appended}
 use Rattle.enc_decoder.specs.declared.byte_codec.Kind.{Kind}
 use Rattle.enc_decoder.specs.Sequence.{Sequence}
@@ -35,9 +35,6 @@ before_byte {rule} {set} {c = c} kind bytes bytes_are more before = record {
       (subst (λ x. IsSequenceBefore x kind rule set bytes c) (sym begins.1) (before begins.0));
 }
 
-within_room : (m n : ℕ) → nat_le m n ≡ true → m ≤ n
-within_room m n is_le = grind (arith, nat_tests)
-
 -- One more is put out.
 module _ {units_of : ℕ → List ℕ} (v : CodecState) {src : List ℕ} {at n c : ℕ}
     {before mid after : Output} where
@@ -66,7 +63,7 @@ module _ {units_of : ℕ → List ℕ} (v : CodecState) {src : List ℕ} {at n c
         fits = omega (
           arith,
           ap length same_units,
-          within_room (length (units_of c)) mid.room fits_room,
+          leb-true (length (units_of c)) mid.room fits_room,
         );
         written = onto ∙ ap (with_appended mid) same_units;
         none_pending = λ _. none_pending;

@@ -1,9 +1,8 @@
 -- Error mode "replacement" over an output: the loop that puts U+FFFD out for malformed sequences.
-use Rattle.std.proofs.Common.{◌≡◌, ℕ, ◌+◌, ◌-◌, ◌<◌, ◌≤◌, true, false, List, length, take, drop, refl}
+use Rattle.std.proofs.Common.{◌≡◌, ℕ, ◌+◌, ◌-◌, ◌<◌, true, false, List, length, take, drop, refl}
 use Rattle.std.proofs.Common.{ap, ◌∙◌, sym, arith, subst, nat_le, length-append, length-drop, ◌||◌}
 use Rattle.std.proofs.Math.ListN.{length-take}
-use Rattle.std.proofs.lemmas.Bool.{false≢true}
-use Rattle.std.proofs.lemmas.Bool.Decides.{nat_tests}
+use Rattle.std.proofs.lemmas.Bool.{false≢true, le-leb}
 use Rattle.enc_units.specs.declared.decoder_result.DecoderResult.{DecoderResult}
 use Rattle.enc_units.specs.declared.decoder_result.DecoderResult.TheVariants.{Malformed}
 use Rattle.enc_units.specs.Output.{Output, with_appended}
@@ -22,9 +21,6 @@ use Rattle.enc_decoder.proofs.LeavesLemmas.{call_at}
 use Rattle.enc_decoder.proofs.SettledCallLemmas.{IsSettledIn, malformed_leaves, settled_written}
 use Rattle.enc_decoder.proofs.OutputStageLemmas.{Reaches, Progress, progress_at, room_at, call_into, reaches_on}
 use Rattle.enc_decoder.proofs.TakenRunLemmas.{reaches_run}
-
-fits_then : (n room : ℕ) → n ≤ room → nat_le n room ≡ true
-fits_then n room within = grind (arith, nat_tests)
 
 module _ {units_of : ℕ → List ℕ} {old now : Remainder} {before at : Output} {stage : Stage}
     (reaches : Reaches units_of old now before at stage) (replaces : stage.mode ≡ Replacement) where
@@ -80,7 +76,7 @@ module _ {units_of : ℕ → List ℕ} {old now : Remainder} {before at : Output
       at then (Malformed l a) n false) where
     -- there is room for U+FFFD
     pub fits : nat_le (length (units_of 0xFFFD)) then.room ≡ true
-    fits = fits_then (length (units_of 0xFFFD)) then.room (omega (
+    fits = le-leb (length (units_of 0xFFFD)) then.room (omega (
       arith,
       room_left at then next.wrote next.onto,
       ap length next.call.call.text,

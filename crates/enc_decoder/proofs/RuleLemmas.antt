@@ -1,11 +1,10 @@
 -- What holds of each sequence of a rule.
 use Rattle.std.proofs.Common.{◌≡◌, ℕ, ◌<◌, ◌≤◌, zero, suc, Bool, true, false, cond, nat_lt, List, [], ◌∷◌, ◌++◌, length}
 use Rattle.std.proofs.Common.{refl, ap, sym, arith, subst}
-use Rattle.std.proofs.lemmas.List.{length-append}
+use Rattle.std.proofs.lemmas.List.{length-append, nil_from_length}
 use Rattle.std.proofs.lemmas.Str.{length-encode, len_utf8_bounds}
 use Rattle.std.specs.Char.{encode_utf8}
 use Rattle.std.specs.Char.Escape.{encode_utf16}
-use Rattle.enc_units.specs.Output.{units_of_text}
 use Rattle.enc_decoder.specs.Sequence.{Sequence, sequence_text}
 use Rattle.enc_decoder.specs.Segmentation.{Rule, head_sequence, sequences_after, sequences_of}
 use Rattle.enc_decoder.specs.RuleLaws.{HasTexts, IsSmallText, HasSmallTexts}
@@ -41,24 +40,23 @@ is_of_rule : (rule : Rule) (set : ℕ) (z : List ℕ) (done : List Sequence) (s 
 is_of_rule rule set z done s rest whole =
     one_of rule done s rest (subst (AreOfRule rule) whole (rest_of_rule rule set 0 z))
 
-some_bytes : (rule : Rule) (s : Sequence) → IsOfRule rule s → 0 < length s.bytes
-some_bytes rule s of_rule = omega (arith, ap (λ (t : Sequence). length t.bytes) of_rule.is_head)
-
 no_text : (rule : Rule) → HasTexts rule → (s : Sequence) (ss : List Sequence) → IsOfRule rule s
     → sequence_text (s ∷ ss) ≡ [] → ⊥
 no_text rule has s ss of_rule no_text_first =
     has of_rule.set of_rule.first of_rule.following
-    (front_nil (rule of_rule.set of_rule.first of_rule.following).text (sequence_text ss)
-    (subst (λ (t : Sequence). t.text ++ sequence_text ss ≡ []) of_rule.is_head no_text_first))
-  where
-    front_nil : (a b : List ℕ) → a ++ b ≡ [] → a ≡ []
-    front_nil [] b e = refl
-    front_nil (x ∷ a) b e = cc
+    (nil_from_length (rule of_rule.set of_rule.first of_rule.following).text (omega (
+      arith,
+      ap length no_text_first,
+      length-append s.text (sequence_text ss),
+      ap (λ (t : Sequence). length t.text) of_rule.is_head,
+    )))
 
 -- a sequence has a byte
 pub has_bytes : (rule : Rule) (set : ℕ) (z : List ℕ) (done : List Sequence) (s : Sequence)
     (rest : List Sequence) → sequences_of rule set z ≡ done ++ s ∷ rest → 0 < length s.bytes
-has_bytes rule set z done s rest whole = some_bytes rule s (is_of_rule rule set z done s rest whole)
+has_bytes rule set z done s rest whole =
+    let of_rule = is_of_rule rule set z done s rest whole in
+    omega (arith, ap (λ (t : Sequence). length t.bytes) of_rule.is_head)
 
 -- where each has a text, none is done without one
 pub none_without_text : (rule : Rule) → HasTexts rule
@@ -98,13 +96,3 @@ one_small c = record {
 
 pub none_small : IsSmallText []
 none_small = record { utf_8 = omega arith; utf_16 = omega arith }
-
--- a text without units is empty
-pub no_units : (text : List ℕ) → units_of_text encode_utf8 text ≡ [] → text ≡ []
-no_units [] e = refl
-no_units (c ∷ text) e = absurd (omega (
-  arith,
-  (units_bounds c).0,
-  length-append (encode_utf8 c) (units_of_text encode_utf8 text),
-  ap length e,
-))

@@ -41,12 +41,6 @@ first_of s t ss ts e = cc
 pub rest_of : (s t : Sequence) (ss ts : List Sequence) → s ∷ ss ≡ t ∷ ts → ss ≡ ts
 rest_of s t ss ts e = cc
 
-none_first : (s : Sequence) (ss : List Sequence) → [] ≡ s ∷ ss → ⊥
-none_first s ss e = cc
-
-tail_of : (a b : ℕ) (y z : List ℕ) → a ∷ y ≡ b ∷ z → y ≡ z
-tail_of a b y z e = cc
-
 -- the sequences after the first ones are the segmentation of the bytes after them
 pub sequences_after-first : (rule : Rule) (set : ℕ) (z w : List ℕ) (ss rest : List Sequence)
     → sequences_of rule set z ≡ ss ++ rest → z ≡ sequence_bytes ss ++ w
@@ -54,27 +48,17 @@ pub sequences_after-first : (rule : Rule) (set : ℕ) (z w : List ℕ) (ss rest 
 sequences_after-first rule set z w [] rest whole bytes_are = sym whole
     ∙ ap (sequences_of rule set) bytes_are
 sequences_after-first rule set [] w (s ∷ ss) rest whole bytes_are =
-    absurd (none_first s (ss ++ rest) (sym (sequences_of-nil rule set) ∙ whole))
+    absurd (let none_is_one = sym (sequences_of-nil rule set) ∙ whole in cc)
 sequences_after-first rule set (b ∷ z) w (s ∷ ss) rest whole bytes_are =
     let head : Head = rule set b z in
-    let sequences : head_sequence head b z ∷ sequences_of rule head.set (drop head.more z) ≡ s
-    ∷ (ss ++ rest) =
-    sym (sequences_of-cons rule set b z) ∙ whole in
-    let same : head_sequence head b z ≡ s =
-    first_of (head_sequence head b z) s (sequences_of rule head.set (drop head.more z)) (ss ++ rest)
-    sequences in
-    let bytes_joined : b ∷ (take head.more z ++ drop head.more z) ≡ b
-    ∷ (take head.more z ++ (sequence_bytes ss ++ w)) =
-    ap (λ x. b ∷ x) (take-append-drop head.more z) ∙ bytes_are
-    ∙ ap (λ (t : Sequence). (t.bytes ++ sequence_bytes ss) ++ w) (sym same)
-    ∙ append_assoc (b ∷ take head.more z) (sequence_bytes ss) w in
+    let parts = sym (sequences_of-cons rule set b z) ∙ whole in
+    let same : head_sequence head b z ≡ s = first_of _ _ _ _ parts in
     let following_bytes : drop head.more z ≡ sequence_bytes ss ++ w =
-    append_cancel_left (take head.more z) (drop head.more z) (sequence_bytes ss ++ w)
-    (tail_of b b (take head.more z ++ drop head.more z)
-    (take head.more z ++ (sequence_bytes ss ++ w)) bytes_joined) in
-    sequences_after-first rule head.set (drop head.more z) w ss rest
-    (rest_of (head_sequence head b z) s (sequences_of rule head.set (drop head.more z)) (ss ++ rest)
-    sequences)
+    append_cancel_left (b ∷ take head.more z) _ _
+    (ap (λ x. b ∷ x) (take-append-drop head.more z) ∙ bytes_are
+    ∙ ap (λ (t : Sequence). (t.bytes ++ sequence_bytes ss) ++ w) (sym same)
+    ∙ append_assoc (b ∷ take head.more z) (sequence_bytes ss) w) in
+    sequences_after-first rule head.set (drop head.more z) w ss rest (rest_of _ _ _ _ parts)
     following_bytes
     ∙ ap (λ (t : Sequence). sequences_of rule (set_after t.set ss) w) same
 

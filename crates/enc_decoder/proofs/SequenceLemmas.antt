@@ -1,7 +1,8 @@
 -- Lists of sequences that follow one another.
-use Rattle.std.proofs.Common.{◌≡◌, ℕ, Bool, true, false, List, [], ◌∷◌, ◌++◌, refl, ap, ◌∙◌, sym, subst, append_assoc}
+use Rattle.std.proofs.Common.{◌≡◌, ℕ, List, [], ◌∷◌, ◌++◌, refl, ap, ◌∙◌, sym, subst, append_assoc}
 use Rattle.std.proofs.Common.{◌||◌}
 use Rattle.std.proofs.lemmas.List.{append-nil}
+pub use Rattle.std.proofs.Math.Bool.{or_assoc, or-false as or_false, or-true as or_true}
 use Rattle.enc_units.specs.Output.{AreScalars, units_of_text}
 use Rattle.enc_decoder.specs.Sequence.{Sequence, sequence_bytes, sequence_text, is_malformed, any_malformed, set_after}
 use Rattle.enc_units.proofs.ScalarLemmas.{scalars-append}
@@ -31,15 +32,6 @@ pub units-append : (units_of : ℕ → List ℕ) (ss ts : List Sequence)
     ++ units_of_text units_of (sequence_text ts)
 units-append units_of ss ts = ap (units_of_text units_of) (sequence_text-append ss ts)
     ∙ units_of_text-append units_of (sequence_text ss) (sequence_text ts)
-
-pub or_assoc : (a b c : Bool) → ((a || b) || c) ≡ (a || (b || c))
-or_assoc a b c = elim a as (λ a. ((a || b) || c) ≡ (a || (b || c))) [ true ↦ refl | false ↦ refl ]
-
-pub or_false : (a : Bool) → (a || false) ≡ a
-or_false a = elim a as (λ a. (a || false) ≡ a) [ true ↦ refl | false ↦ refl ]
-
-pub or_true : (a : Bool) → (a || true) ≡ true
-or_true a = elim a as (λ a. (a || true) ≡ true) [ true ↦ refl | false ↦ refl ]
 
 pub any_malformed-append : (ss ts : List Sequence)
     → any_malformed (ss ++ ts) ≡ (any_malformed ss || any_malformed ts)

@@ -62,31 +62,28 @@ reads_next false remaining src ss n pending bytes reads unread = reads.shown_nex
 
 module _ {units_of : ℕ → List ℕ} {old mid : Remainder} (c : Call) where
   -- a call that comes to the end of its chunk, but not of the input
-  abbrev pub empty_leaves : {mode : DecodeErrorMode} → c.last ≡ false
+  abbrev pub empty_leaves : {mode : DecodeErrorMode} → AreBytes c.src → c.last ≡ false
       → (call : IsRawCall units_of old mid (record c { result = InputEmpty }))
       → Leaves old mid
       (settled_stage units_of mode (record c { result = InputEmpty }) call.call.done)
-  empty_leaves not_last call =
-      let going : c.last ≡ true → ⊥ = λ is_last. false≢true (sym not_last ∙ is_last) in
-      let whole : (n : ℕ) → n ≡ length c.src → take n c.src ≡ c.src =
-      λ n is_length. ap (λ k. take k c.src) is_length ∙ take-length c.src in
-      let first_done : (z : List ℕ)
-      → AreFirstSequences call.call.done (old.sequences (c.src ++ z)) =
-      λ z. (_, call.call.residual z (λ is_last. absurd (going is_last))) in
+  empty_leaves bytes not_last call =
+      let going : (z : List ℕ) → c.last ≡ true → z ≡ [] =
+      λ z is_last. absurd (false≢true (sym not_last ∙ is_last)) in
+      let whole : take c.read c.src ≡ c.src =
+      ap (λ k. take k c.src) call.call.stops.all_read ∙ take-length c.src in
       record {
         sure = c.read;
         surely = omega arith;
         soon = omega arith;
         within = call.call.within;
         residual = call.call.residual;
-        goes_on = λ y first. call.goes_on y (λ is_last. absurd (going is_last)) first;
+        goes_on = λ y first. call.goes_on y (going y) first;
         set = call.call.set;
-        shown = λ n is_sure within_src z _.
-            subst (λ x. AreFirstSequences call.call.done (old.sequences (x ++ z)))
-            (sym (whole n (omega (arith, call.call.stops.all_read)))) (first_done z);
+        shown = λ n is_sure _. determines_by_more old.sequences c.src c.read n call.call.done bytes
+            is_sure (subst (λ x. Determines old.sequences x call.call.done) (sym whole)
+            (λ z _. (_, call.call.residual z (going z))));
         none_after = inr (λ s determines. call.call.stops.none_determined not_last s
-            (subst (λ x. Determines old.sequences x (call.call.done ++ s ∷ []))
-            (whole c.read call.call.stops.all_read) determines));
+            (subst (λ x. Determines old.sequences x (call.call.done ++ s ∷ [])) whole determines));
       }
 
   -- a call that reports a malformed sequence

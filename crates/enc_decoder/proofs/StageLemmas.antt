@@ -1,11 +1,11 @@
 -- How far calls have come in a chunk, and the text that they write with the next call.
 use Rattle.std.proofs.Common.{◌≡◌, ℕ, ◌+◌, ◌-◌, ◌≤◌, Bool, false, List, [], ◌++◌, length, refl, ap, ◌∙◌, sym}
-use Rattle.std.proofs.Common.{arith, ◌||◌}
+use Rattle.std.proofs.Common.{arith, ◌||◌, drop}
 use Rattle.std.proofs.lemmas.List.{length-append}
 use Rattle.enc_units.specs.declared.decoder_result.DecoderResult.{DecoderResult}
 use Rattle.enc_units.specs.declared.decoder_result.DecoderResult.TheVariants.{InputEmpty, OutputFull, Malformed}
 use Rattle.enc_units.specs.Output.{AreScalars, units_of_text}
-use Rattle.enc_decoder.specs.Sequence.{Sequence, sequence_text, any_malformed}
+use Rattle.enc_decoder.specs.Sequence.{Sequence, sequence_text, any_malformed, is_malformed}
 use Rattle.enc_decoder.specs.Call.{DecodeErrorMode, is_replacement_mode, keeps_room}
 use Rattle.enc_decoder.specs.CallRecord.{Call, IsCall}
 use Rattle.enc_decoder.specs.Remainder.{Remainder}
@@ -59,39 +59,54 @@ same_mode stage c result is_room call = record {
   reported = reports_in (record c { mode = stage.mode }) result call;
 }
 
-module _ {units_of : ℕ → List ℕ} {stage : Stage} (written : HasWritten units_of stage) where
-  pub text_on : {more : List ℕ} (ts : List Sequence)
-      → more ≡ units_of_text units_of (sequence_text ts)
-      → stage.wrote ++ more ≡ units_of_text units_of (sequence_text (stage.done ++ ts))
-  text_on {more} ts is_text =
-      ap (λ x. x ++ more) written.text
-      ∙ ap (λ x. units_of_text units_of (sequence_text stage.done) ++ x) is_text
-      ∙ sym (units-append units_of stage.done ts)
+-- a stage of calls over the unread bytes of a stage
+abbrev pub stage_at : Stage → ℕ → List Sequence → List ℕ → Bool → Stage
+stage_at stage read done wrote replaced = record {
+  src = drop stage.read stage.src;
+  last = stage.last;
+  mode = stage.mode;
+  room = stage.room - length stage.wrote;
+  read = read;
+  done = done;
+  wrote = wrote;
+  replaced = replaced;
+}
 
-  pub scalars_on : (ts : List Sequence) → AreScalars (sequence_text ts)
-      → AreScalars (sequence_text (stage.done ++ ts))
-  scalars_on ts are_scalars = scalars_of-append stage.done ts written.scalars are_scalars
+-- both stages as one
+abbrev pub stage_after : Stage → ℕ → List Sequence → List ℕ → Bool → Stage
+stage_after stage read done wrote replaced = record stage {
+  read = stage.read + read;
+  done = stage.done ++ done;
+  wrote = stage.wrote ++ wrote;
+  replaced = stage.replaced || replaced;
+}
 
-  pub fits_on : (more : List ℕ) → length more ≤ stage.room - length stage.wrote
-      → length (stage.wrote ++ more) ≤ stage.room
-  fits_on more fits = omega (arith, written.fits, length-append stage.wrote more)
+-- the text of both is written
+pub written_on : {units_of : ℕ → List ℕ} {stage : Stage} {n : ℕ} {ss : List Sequence}
+    {more : List ℕ} {replaced : Bool} → HasWritten units_of stage
+    → HasWritten units_of (stage_at stage n ss more replaced)
+    → HasWritten units_of (stage_after stage n ss more replaced)
+written_on {units_of} {stage} {ss = ss} {more} {replaced} written next = record {
+  text = ap (λ x. x ++ more) written.text
+      ∙ ap (λ x. units_of_text units_of (sequence_text stage.done) ++ x) next.text
+      ∙ sym (units-append units_of stage.done ss);
+  scalars = scalars_of-append stage.done ss written.scalars next.scalars;
+  fits = omega (arith, written.fits, next.fits, length-append stage.wrote more);
+  flag = ap (λ b. b || replaced) written.flag
+      ∙ ap (λ b. any_malformed stage.done || b) next.flag
+      ∙ sym (any_malformed-append stage.done ss);
+  none_replaced = λ is_fatal.
+      rw (written.none_replaced is_fatal, next.none_replaced is_fatal) refl;
+}
 
-  pub flag_on : {replaced : Bool} (ts : List Sequence) → replaced ≡ any_malformed ts
-      → (stage.replaced || replaced) ≡ any_malformed (stage.done ++ ts)
-  flag_on {replaced} ts is_flag =
-      ap (λ b. b || replaced) written.flag ∙ ap (λ b. any_malformed stage.done || b) is_flag
-      ∙ sym (any_malformed-append stage.done ts)
-
-  pub none_replaced_on : {replaced : Bool}
-      → (is_replacement_mode stage.mode ≡ false → replaced ≡ false)
-      → is_replacement_mode stage.mode ≡ false → (stage.replaced || replaced) ≡ false
-  none_replaced_on none is_fatal = rw (written.none_replaced is_fatal, none is_fatal) refl
-
-  pub length_on : (ts : List Sequence)
-      → length (units_of_text units_of (sequence_text (stage.done ++ ts)))
-      ≡ length stage.wrote + length (units_of_text units_of (sequence_text ts))
-  length_on ts = ap length (sym (text_on ts refl)) ∙ length-append stage.wrote
-      (units_of_text units_of (sequence_text ts))
+pub length_on : {units_of : ℕ → List ℕ} {stage : Stage} → HasWritten units_of stage
+    → (ts : List Sequence)
+    → length (units_of_text units_of (sequence_text (stage.done ++ ts)))
+    ≡ length stage.wrote + length (units_of_text units_of (sequence_text ts))
+length_on {units_of} {stage} written ts =
+    let more = units_of_text units_of (sequence_text ts) in
+    ap length (units-append units_of stage.done ts ∙ ap (λ x. x ++ more) (sym written.text))
+    ∙ length-append stage.wrote more
 
 -- nothing is read or done yet
 abbrev pub start_stage : List ℕ → Bool → DecodeErrorMode → ℕ → Stage

@@ -8,10 +8,11 @@ use Rattle.enc_decoder.specs.Sequence.{Sequence, sequence_bytes, set_after}
 use Rattle.enc_decoder.specs.Remainder.{AreBytes, IsUndetermined}
 use Rattle.enc_decoder.specs.CodecState.{CodecState, remainder_of}
 use Rattle.enc_decoder.specs.CodecLaw.{MayFollowRead}
+use Rattle.enc_decoder.proofs.StageLemmas.{stage_at}
 use Rattle.enc_decoder.proofs.SegmentationLemmas as segmentation
 use Rattle.enc_decoder.proofs.ByteLemmas.{bytes-drop, determines_by_more}
 use Rattle.enc_decoder.proofs.StageLemmas.{Stage}
-use Rattle.enc_decoder.proofs.LeavesLemmas.{Leaves, stage_at}
+use Rattle.enc_decoder.proofs.LeavesLemmas.{Leaves}
 
 -- the unread bytes at a stage
 abbrev pub unread : Stage → List ℕ

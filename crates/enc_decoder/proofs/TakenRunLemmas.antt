@@ -8,11 +8,11 @@ use Rattle.enc_decoder.specs.Remainder.{Remainder}
 use Rattle.enc_decoder.specs.Call.{is_replacement_mode}
 use Rattle.enc_decoder.specs.CodecState.{CodecState, remainder_of}
 use Rattle.enc_decoder.specs.Taking.{TakesSequences}
+use Rattle.enc_decoder.proofs.StageLemmas.{stage_after}
 use Rattle.enc_decoder.proofs.SequenceLemmas.{or_false}
 use Rattle.enc_decoder.proofs.EmissionLemmas.{nothing_pending}
 use Rattle.enc_decoder.proofs.StateLeavesLemmas.{LeadsOn, unread}
 use Rattle.enc_decoder.proofs.StageLemmas.{Stage}
-use Rattle.enc_decoder.proofs.LeavesLemmas.{stage_after}
 use Rattle.enc_decoder.proofs.OutputStageLemmas.{Reaches, Progress, progress_at, room_at, reaches_state}
 
 -- At a stage, a codec takes whole sequences: the next n bytes lead it from the state v to w, and

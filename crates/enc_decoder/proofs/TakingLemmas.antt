@@ -1,5 +1,5 @@
 -- Runs of whole sequences, taken one after another, and how far an event brings the loop.
-use Rattle.std.proofs.Common.{◌≡◌, ℕ, zero, suc, ◌+◌, ◌<◌, ◌≤◌, true, false, List, [], ◌∷◌, ◌++◌, length, take}
+use Rattle.std.proofs.Common.{◌≡◌, ℕ, zero, suc, ◌+◌, ◌<◌, List, [], ◌∷◌, ◌++◌, length, take}
 use Rattle.std.proofs.Common.{drop, refl, ap, ◌∙◌, sym, subst, arith, append_assoc, length-append}
 use Rattle.std.proofs.Common.{length-drop, take-add, drop-cons, get_or-drop, inl, inr}
 use Rattle.std.proofs.lemmas.Bool.{cases_lt}
@@ -7,8 +7,7 @@ use Rattle.enc_units.specs.Output.{Output, with_appended, units_of_text}
 use Rattle.enc_units.proofs.OutputLemmas.{with_appended-nil, with_appended-with_appended, room_left}
 use Rattle.enc_decoder.specs.Sequence.{sequence_bytes, sequence_text, set_after}
 use Rattle.enc_decoder.specs.CodecState.{CodecState, remainder_of}
-use Rattle.enc_decoder.specs.CodecLaw.{MayFollow, IsNextSequence, taken_bytes}
-use Rattle.enc_decoder.specs.declared.byte_codec.Emission.{Emission}
+use Rattle.enc_decoder.specs.CodecLaw.{MayFollow}
 use Rattle.enc_decoder.specs.Taking.{TakesSequences, TakesRun}
 use Rattle.enc_decoder.proofs.SequenceLemmas.{sequence_bytes-append, units-append, any_malformed-append}
 use Rattle.enc_decoder.proofs.SequenceLemmas.{set_after-append, scalars_of-append}
@@ -36,31 +35,6 @@ follows_first src read (suc more) y may_follow = λ there. (
   take more (drop (suc read) src) ++ y,
   ap (λ x. take (suc more) x ++ y) (drop-cons src read 0 there),
 )
-
--- what comes next reads a byte or leaves fewer pending
-
-lengths : {C : Type 0} {state : C → CodecState} {c : C} {may_follow : List ℕ → Type 0}
-    {took : List ℕ} {s : Emission C}
-    (next : IsNextSequence state c may_follow took s)
-    → length (state c).pending + length took ≡ length next.bytes + length (state s.next).pending
-lengths {state = state} {c} {took = took} {s} next =
-    sym (length-append (state c).pending took) ∙ ap length next.parts
-    ∙ length-append next.bytes (state s.next).pending
-
-pub fewer_with : {C : Type 0} {state : C → CodecState} {c : C} {may_follow : List ℕ → Type 0}
-    (b : ℕ) {s : Emission C}
-    → IsNextSequence state c may_follow (taken_bytes s.takes_byte b) s → s.takes_byte ≡ true
-    → length (state s.next).pending ≤ length (state c).pending
-fewer_with b next t =
-    omega (arith, next.some, lengths next, ap (λ x. length (taken_bytes x b)) t)
-
-pub fewer_before : {C : Type 0} {state : C → CodecState} {c : C} {may_follow : List ℕ → Type 0}
-    (b : ℕ)
-    {s : Emission C} → IsNextSequence state c may_follow (taken_bytes s.takes_byte b) s
-    → s.takes_byte ≡ false
-    → length (state s.next).pending < length (state c).pending
-fewer_before b next t =
-    omega (arith, next.some, lengths next, ap (λ x. length (taken_bytes x b)) t)
 
 -- Nothing is taken.
 abbrev pub takes_nothing : (units_of : ℕ → List ℕ) (v : CodecState) (src : List ℕ) (o : Output)

@@ -46,7 +46,7 @@ settled_leaves : {units_of : ℕ → List ℕ} {old mid : Remainder} {mode : Dec
     (settled_stage units_of mode (record c { result = result }) call.call.done))
     × ((leaves.sure ≡ c.read) ⊎ (is_replacement_mode mode ≡ true))
 settled_leaves c InputEmpty bytes is_settled call =
-    (empty_leaves c is_settled.not_ended call, inl refl)
+    (empty_leaves c bytes is_settled.not_ended call, inl refl)
 settled_leaves c OutputFull bytes is_settled call = absurd (is_settled.not_full refl)
 settled_leaves c (Malformed l a) bytes is_settled call =
     (malformed_leaves c bytes call, inr (ap is_replacement_mode (is_settled.replaces l a refl)))

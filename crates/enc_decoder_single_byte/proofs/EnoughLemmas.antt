@@ -5,15 +5,13 @@ use Rattle.std.proofs.lemmas.Bool.Decides.{nat_tests}
 use Rattle.std.specs.Char.{encode_utf8}
 use Rattle.std.specs.Char.Escape.{encode_utf16}
 use Rattle.enc_units.specs.Output.{units_of_text}
-use Rattle.enc_units.specs.Checked.{checked_mul}
 use Rattle.enc_decoder.specs.Segmentation.{Rule, one_byte_head, head_sequence, sequences_after, sequences_of}
 use Rattle.enc_decoder.specs.Remainder.{AreBytes}
-use Rattle.enc_decoder.specs.CodecState.{CodecState, remainder_of}
-use Rattle.enc_decoder.specs.Call.{DecodeErrorMode, Replacement, Fatal}
 use Rattle.enc_decoder.specs.declared.text_lengths.TextLengths.TheVariants as lengths
-use Rattle.enc_decoder.specs.Need.{NeedExceeds, AreEnoughForCodec, IsBmpText}
+use Rattle.enc_decoder.specs.Lengths.{utf_8_length}
+use Rattle.enc_decoder.specs.Need.{AreEnoughForCodec, IsBmpText}
 use Rattle.enc_decoder.proofs.NeedLemmas.{units, units-both, units-one}
-use Rattle.enc_decoder.proofs.EnoughLemmas.{thrice_is, same_some, needed_less, needs_all, basic_by, bounded}
+use Rattle.enc_decoder.proofs.EnoughLemmas.{thrice_is, same_some, basic_by, bounded, enough_by, HasUnitsWithin}
 use Rattle.enc_index.specs.Index.{Run, index_at, entry_character, is_entry_code_point}
 use Rattle.enc_index.specs.declared.table.Planes.TheVariants.{Basic}
 use Rattle.enc_decoder_single_byte.specs.OneByte.{one_byte_rule, single_byte_char, x_user_defined_char}
@@ -67,65 +65,45 @@ module _ (character : ℕ → Option ℕ) (is_basic : AreBasic character) where
 
   head_is_basic : (set b : ℕ) (c : Option ℕ) → b < 256 → character b ≡ c
       → IsBmpText (one_byte_head set c).text
-  head_is_basic set b None l e = basic_by 0xFFFD (omega arith)
-  head_is_basic set b (Some c) l e = basic_by c (is_basic b c l e)
+  head_is_basic set b None is_byte is_char = basic_by 0xFFFD (omega arith)
+  head_is_basic set b (Some c) is_byte is_char = basic_by c (is_basic b c is_byte is_char)
 
-  -- at most n code units for each byte
-  module _ (units_of : ℕ → List ℕ) (each : ℕ)
-      (most : (text : List ℕ) → IsBmpText text → length (units_of_text units_of text) ≤ each) where
-    bounded_bytes : (set : ℕ) (z : List ℕ) → AreBytes z
-        → units units_of (sequences_of rule set z) ≤ each * length z
-    unfolding one_byte_rule sequences_after
-    bounded_bytes set [] are_bytes = omega arith
-    bounded_bytes set (b ∷ z) are_bytes =
-        let head = rule set b z in
-        let none_more =
-        ap (λ k. units units_of (sequences_after rule head.set k z))
-        (no_more character set (character b)) in
-        grind (
-          arith,
-          most _ (head_is_basic set b (character b) are_bytes.0 refl),
-          bounded_bytes head.set z are_bytes.1,
-          none_more,
-          units-both units_of (head_sequence head b z ∷ [])
-              (sequences_after rule head.set head.more z),
-          units-one units_of (head_sequence head b z) head.text refl,
-        )
-
-  abbrev state : CodecState
-  state = record { rule = rule; set = 0; pending = [] }
-
-  never : (units_of : ℕ → List ℕ) (each : ℕ)
+  -- at most `each` code units for each byte
+  bounded_bytes : (units_of : ℕ → List ℕ) (each : ℕ)
       → ((text : List ℕ) → IsBmpText text → length (units_of_text units_of text) ≤ each)
-      → (mode : DecodeErrorMode) (src : List ℕ) (last : Bool) (n : ℕ) → AreBytes src
-      → each * length src ≤ n → NeedExceeds units_of mode (remainder_of state) src last n → ⊥
-  never units_of each most mode src last n a l p =
-      omega (
+      → (set : ℕ) (z : List ℕ) → AreBytes z
+      → units units_of (sequences_of rule set z) ≤ each * length z
+  unfolding one_byte_rule sequences_after
+  bounded_bytes units_of each most set [] are_bytes = omega arith
+  bounded_bytes units_of each most set (b ∷ z) are_bytes =
+      let head = rule set b z in
+      let none_more =
+      ap (λ k. units units_of (sequences_after rule head.set k z))
+      (no_more character set (character b)) in
+      grind (
         arith,
-        l,
-        bounded_bytes units_of each most 0 src a,
-        needed_less units_of mode
-            (sequences_of rule 0 src),
-        needs_all units_of mode state src last n p,
+        most _ (head_is_basic set b (character b) are_bytes.0 refl),
+        bounded_bytes units_of each most head.set z are_bytes.1,
+        none_more,
+        units-both units_of (head_sequence head b z ∷ []) (sequences_after rule head.set head.more z),
+        units-one units_of (head_sequence head b z) head.text refl,
       )
 
-  one_byte_enough : AreEnoughForCodec lengths.OneByte state
-  one_byte_enough = record {
-    utf_8 = λ src last n a e.
-        never encode_utf8 3 (λ t b. b.utf_8) Replacement src last n a (thrice src n e);
-    reporting = λ keeps src last n a e.
-        never encode_utf8 3 (λ t b. b.utf_8) (Fatal keeps) src last n a (thrice src n e);
-    utf_16 = λ mode src last n a e.
-        never encode_utf16 1 (λ t b. b.utf_16) mode src last n a
-        (omega (arith, same_some (length src) n e));
-  }
+  one_byte_enough : AreEnoughForCodec lengths.OneByte
+      (record { rule = rule; set = 0; pending = [] })
+  one_byte_enough = enough_by lengths.OneByte _ thrice thrice (λ src n bytes is_length. omega (
+    arith,
+    bounded_bytes encode_utf16 1 (λ _ basic. basic.utf_16) 0 src bytes,
+    same_some (length src) n is_length,
+  ))
     where
-      thrice : (src : List ℕ) (n : ℕ) → checked_mul (Some (length src)) 3 ≡ Some n
-          → 3 * length src ≤ n
-      thrice src n e = omega (
+      thrice : HasUnitsWithin encode_utf8 (utf_8_length lengths.OneByte)
+          (record { rule = rule; set = 0; pending = [] })
+      thrice src n bytes is_length = omega (
         arith,
+        bounded_bytes encode_utf8 3 (λ _ basic. basic.utf_8) 0 src bytes,
         thrice_is (Some (length src)) (length src) n
-            (λ k f. sym (same_some (length src) k f)) e,
+            (λ k is_some. sym (same_some (length src) k is_some)) is_length,
       )
 
 pub single_byte_enough : (runs : List Run)
@@ -150,35 +128,33 @@ module _ (units_of : ℕ → List ℕ) where
   step zero b z = omega arith
   step (suc set) b z = omega arith
 
-  replacement_never : (reported : Bool) (mode : DecodeErrorMode) (src : List ℕ) (last : Bool)
-      (n : ℕ) → length (units_of_text units_of (0xFFFD ∷ [])) ≤ n
-      → NeedExceeds units_of mode (remainder_of (replacement_state reported)) src last n → ⊥
-  replacement_never reported mode src last n l p =
-      omega (
-        arith,
-        l,
-        by_state reported,
-        needed_less units_of mode
-            (sequences_of replacement_rule (replacement_state reported).set src),
-        needs_all units_of mode (replacement_state reported) src last n p,
-      )
-    where
-      by_state : (r : Bool) →
-          units units_of (sequences_of replacement_rule (replacement_state r).set src)
-          ≤ length (units_of_text units_of (0xFFFD ∷ []))
-      by_state false = bounded units_of replacement_rule most_of step 0 src
-      by_state true =
-          let units_bounded = bounded units_of replacement_rule most_of step 1 src in
-          omega (arith, units_bounded)
+  replacement_within : (reported : Bool) (src : List ℕ)
+      → units units_of (sequences_of replacement_rule (replacement_state reported).set src)
+      ≤ length (units_of_text units_of (0xFFFD ∷ []))
+  replacement_within false src = bounded units_of replacement_rule most_of step 0 src
+  replacement_within true src =
+      let none_more = bounded units_of replacement_rule most_of step 1 src in
+      omega (arith, none_more)
 
 pub replacement_enough : (reported : Bool)
     → AreEnoughForCodec lengths.Replacement (replacement_state reported)
-replacement_enough reported = let is_basic = basic_by 0xFFFD (omega arith) in record {
-  utf_8 = λ src last n _ e. replacement_never encode_utf8 reported Replacement src last n
-      (omega (arith, is_basic.utf_8, same_some 3 n e));
-  reporting = λ keeps src last n _ e.
-      replacement_never encode_utf8 reported (Fatal keeps) src last n
-      (omega (arith, is_basic.utf_8, same_some 3 n e));
-  utf_16 = λ mode src last n _ e. replacement_never encode_utf16 reported mode src last n
-      (omega (arith, is_basic.utf_16, same_some 1 n e));
-}
+replacement_enough reported =
+    let is_basic = basic_by 0xFFFD (omega arith) in
+    enough_by lengths.Replacement (replacement_state reported) thrice thrice
+    (λ src n _ is_length. omega (
+      arith,
+      replacement_within encode_utf16 reported src,
+      is_basic.utf_16,
+      same_some 1 n is_length,
+    ))
+  where
+    thrice : HasUnitsWithin encode_utf8 (utf_8_length lengths.Replacement)
+        (replacement_state reported)
+    thrice src n _ is_length =
+        let is_basic = basic_by 0xFFFD (omega arith) in
+        omega (
+          arith,
+          replacement_within encode_utf8 reported src,
+          is_basic.utf_8,
+          same_some 3 n is_length,
+        )

@@ -6,7 +6,7 @@ use Rattle.enc_decoder.specs.declared.byte_codec.Text.TheVariants.{One}
 use Rattle.enc_decoder.specs.Segmentation.{Head, head_sequence, sequences_of, one_byte_head}
 use Rattle.enc_decoder.specs.CodecState.{CodecState}
 use Rattle.enc_decoder.specs.CodecLaw.{HandlesByte}
-use Rattle.enc_decoder.specs.RuleLaws.{HasTexts, HasLookahead, IsSmallText, HasSmallTexts, IsDeterminedWithin}
+use Rattle.enc_decoder.specs.RuleLaws.{HasTexts, IsSmallText, HasSmallTexts, IsDeterminedWithin}
 use Rattle.enc_decoder.specs.RuleLaws.{IsLawfulRule}
 use Rattle.enc_decoder_single_byte.specs.OneByte.{one_byte_rule, one_byte_step, single_byte_char, x_user_defined_char}
 use Rattle.enc_decoder_single_byte.specs.OneByteState.{one_byte_state}
@@ -14,7 +14,7 @@ use Rattle.enc_decoder.proofs.SegmentationLemmas.{sequences_of-head}
 use Rattle.enc_decoder.proofs.EmissionLemmas.{shows_with}
 use Rattle.enc_decoder.specs.Taking.{IsWholeChar}
 use Rattle.enc_decoder.specs.Latin1.{HasNoByteSequences}
-use Rattle.enc_decoder.proofs.FirstSequenceLemmas.{looks_at_none}
+use Rattle.enc_decoder.proofs.FirstSequenceLemmas.{lookahead_by}
 use Rattle.enc_decoder.proofs.RuleLemmas.{one_small}
 use Rattle.enc_decoder.proofs.Latin1Lemmas.{has_bytes_by}
 
@@ -75,22 +75,16 @@ module _ (character : ℕ → Option ℕ) where
       let none_more = no_more set (character b) in
       record { there = omega arith; same = λ y. refl }
 
-  has_lookahead : HasLookahead (one_byte_rule character)
-  has_lookahead = record {
-    valid = λ set b z _. determined_by_itself set b z;
-    others = λ set b z. inl (
-      0,
-      omega arith,
-      looks_at_none (one_byte_rule character) set b z (determined_by_itself set b z),
-    );
-  }
-
   has_small_texts : HasSmallTexts (one_byte_rule character)
   unfolding one_byte_rule
   has_small_texts set b z = small set (character b)
 
   pub one_byte_is_lawful : IsLawfulRule (one_byte_rule character)
-  one_byte_is_lawful = record { lookahead = has_lookahead; small_texts = has_small_texts }
+  one_byte_is_lawful = record {
+    lookahead = lookahead_by (one_byte_rule character)
+        (λ set b z. inl (determined_by_itself set b z));
+    small_texts = has_small_texts;
+  }
 
 has_text : (set : ℕ) (character : Option ℕ) → (one_byte_head set character).text ≡ [] → ⊥
 has_text set None e = cc

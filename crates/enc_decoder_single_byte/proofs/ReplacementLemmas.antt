@@ -3,25 +3,17 @@ use Rattle.std.proofs.Common.{ℕ, zero, suc, true, false, List, refl, arith, in
 use Rattle.enc_decoder.specs.declared.byte_codec.Kind.TheVariants.{Skipped, Malformed}
 use Rattle.enc_decoder.specs.declared.byte_codec.Text.TheVariants.{Nothing, One}
 use Rattle.enc_decoder.specs.declared.byte_codec.HandlerResult.TheVariants.{Emit}
-use Rattle.enc_decoder.specs.CodecLaw.{HandlesByte}
+use Rattle.enc_decoder.specs.CodecLaw.{HandlesByte, lone_fault}
 use Rattle.enc_decoder.specs.Latin1.{HasNoByteSequences}
-use Rattle.enc_decoder.specs.RuleLaws.{HasLookahead, HasSmallTexts, IsDeterminedWithin, IsLawfulRule}
+use Rattle.enc_decoder.specs.RuleLaws.{HasSmallTexts, IsDeterminedWithin, IsLawfulRule}
 use Rattle.enc_decoder_single_byte.specs.Replacement.{replacement_rule, replacement_state}
 use Rattle.enc_decoder.proofs.SegmentationLemmas.{sequences_of-cons}
 use Rattle.enc_decoder.proofs.EmissionLemmas.{shows_with}
-use Rattle.enc_decoder.proofs.FirstSequenceLemmas.{looks_at_none}
+use Rattle.enc_decoder.proofs.FirstSequenceLemmas.{lookahead_by}
 use Rattle.enc_decoder.proofs.RuleLemmas.{one_small, none_small}
 
 -- the first byte
-pub first_acts : (b : ℕ)
-    → HandlesByte replacement_state false b
-    (Emit (record {
-      text = One 0xFFFD;
-      kind = Malformed;
-      len = 1;
-      takes_byte = true;
-      next = true;
-    }))
+pub first_acts : (b : ℕ) → HandlesByte replacement_state false b (Emit (lone_fault true))
 unfolding replacement_rule
 first_acts b =
     shows_with replacement_state false true (One 0xFFFD) Malformed 1 b refl refl refl refl
@@ -43,20 +35,16 @@ unfolding replacement_rule
 determined_alone zero b z = record { there = omega arith; same = λ y. refl }
 determined_alone (suc set) b z = record { there = omega arith; same = λ y. refl }
 
-has_lookahead : HasLookahead replacement_rule
-has_lookahead = record {
-  valid = λ set b z _. determined_alone set b z;
-  others = λ set b z. inl
-      (0, omega arith, looks_at_none replacement_rule set b z (determined_alone set b z));
-}
-
 has_small_texts : HasSmallTexts replacement_rule
 unfolding replacement_rule
 has_small_texts zero b z = one_small 0xFFFD
 has_small_texts (suc set) b z = none_small
 
 pub replacement_is_lawful : IsLawfulRule replacement_rule
-replacement_is_lawful = record { lookahead = has_lookahead; small_texts = has_small_texts }
+replacement_is_lawful = record {
+  lookahead = lookahead_by replacement_rule (λ set b z. inl (determined_alone set b z));
+  small_texts = has_small_texts;
+}
 
 -- no byte is valid
 pub replacement_has_no_bytes : HasNoByteSequences replacement_rule

@@ -18,8 +18,8 @@ pub loop-at-preserved : goal.loop-at-preserved
 loop-at-preserved g c =
     let itself = c.shows_itself.ensures in
     let shows = c.if-not-shows_itself.false in
-    latin1_goes_on c.loop-at.invariant c.loop-at-test.true _ c.in-Emit.ensures (itself.takes shows)
-    (itself.kind shows) (itself.text shows)
+    latin1_goes_on c.loop-at.invariant c.loop-at-test.true _ c.in-Emit.ensures (itself.kind shows)
+    (itself.text shows)
 
 pub returns : goal.returns
 returns g c = latin1_all c.loop-at.invariant c.loop-at-test.false

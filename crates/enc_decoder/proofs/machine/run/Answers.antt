@@ -1,12 +1,9 @@
-use Rattle.std.proofs.Common.{refl, ap, ◌∙◌, arith, length}
+use Rattle.std.proofs.Common.{refl, ap, ◌∙◌, arith, length, inl, inr}
 use Rattle.enc_decoder.specs.CodecState.{CodecState}
 use Rattle.enc_decoder.proofs.ByteLemmas.{bytes_of_slice}
-use Rattle.enc_decoder.proofs.NextEventLemmas.{holds_rule}
+use Rattle.enc_decoder.proofs.NextEventLemmas.{fewer_left}
 use Rattle.enc_decoder.proofs.OutputStageLemmas.{start}
-use Rattle.enc_decoder.proofs.EventLeavesLemmas.{leads_with, leads_before}
-use Rattle.enc_decoder.proofs.MachineLemmas.{after_run, stays, holds, stops_full, puts, reports_with}
-use Rattle.enc_decoder.proofs.MachineLemmas.{reports_before}
-use Rattle.enc_decoder.proofs.TakingLemmas.{fewer_with, fewer_before}
+use Rattle.enc_decoder.proofs.MachineLemmas.{after_run, stays, holds, stops_full, puts, reports}
 use Rattle.enc_decoder.proofs.NeedLemmas.{meets_into}
 use Rattle.enc_decoder.proofs.machine.run.Goals as goal
 use Rattle.enc_decoder.proofs.machine.run.Goals.{then-shown, else-shown}
@@ -28,7 +25,7 @@ loop-state-preserved-in-HoldsByte g c =
     record {
       progress = holds g.C.ByteCodec.state c.take_run-taken.result.0 progress.reaches
           c.in-HoldsByte.ensures;
-      rule = holds_rule _ _ _ c.in-HoldsByte.ensures.1.0
+      rule = ap (λ (s : CodecState). s.rule) c.in-HoldsByte.ensures.1.0
           ∙ ap (λ (s : CodecState). s.rule) c.take_run-taken.ensures.run.next_state
           ∙ c.loop-state.invariant.rule;
     }
@@ -39,14 +36,11 @@ returns-then-is_reported-clause-call g c =
     c.split_at.ensures.back c.take_run-taken.ensures in
     let malformed = c.is_reported.ensures.malformed c.if-is_reported.true in
     let room = c.is_reported.ensures.room c.if-is_reported.true in
-    elim c.if-shown.branch [
-      | then-shown shown ↦ rw shown.end-is
-          (reports_with g.C.ByteCodec.state c.take_run-taken.result.0 progress.reaches
-          c.in-Emits.ensures refl malformed c.held.ensures room shown.if-shown.true)
-      | else-shown shown ↦ rw shown.end-is
-          (reports_before g.C.ByteCodec.state c.take_run-taken.result.0 progress.reaches
-          c.in-Emits.ensures refl malformed c.held.ensures room shown.if-shown.false)
-    ]
+    reports g.C.ByteCodec.state c.take_run-taken.result.0 progress.reaches c.in-Emits.ensures
+    (elim c.if-shown.branch [
+      | then-shown shown ↦ inl (shown.if-shown.true, shown.end-is)
+      | else-shown shown ↦ inr (shown.if-shown.false, shown.end-is)
+    ]) refl malformed c.held.ensures room
 
 pub returns-then-not-put_out-clause-call : goal.returns-then-not-put_out-clause-call
 returns-then-not-put_out-clause-call g c =
@@ -67,16 +61,12 @@ loop-state-preserved g c =
     let scalars = c.put_out.ensures.scalars c.if-not-put_out.false in
     let written = c.put_out.ensures.written c.if-not-put_out.false in
     record {
-      progress = elim c.if-shown.branch [
-        | then-shown shown ↦ rw shown.end-is
-            (puts g.C.ByteCodec.state c.take_run-taken.result.0 progress.reaches c.in-Emits.ensures
-            (leads_with _ _ _ c.in-Emits.ensures shown.if-shown.true) refl valid scalars fits
-            written)
-        | else-shown shown ↦ rw shown.end-is
-            (puts g.C.ByteCodec.state c.take_run-taken.result.0 progress.reaches c.in-Emits.ensures
-            (leads_before _ _ _ c.in-Emits.ensures shown.if-shown.false) (omega arith) valid scalars
-            fits written)
-      ];
+      progress = puts g.C.ByteCodec.state c.take_run-taken.result.0 progress.reaches
+          c.in-Emits.ensures
+          (elim c.if-shown.branch [
+            | then-shown shown ↦ inl (shown.if-shown.true, shown.end-is)
+            | else-shown shown ↦ inr (shown.if-shown.false, shown.end-is)
+          ]) valid scalars fits written;
       rule = c.in-Emits.ensures.0.same_rule
           ∙ ap (λ (s : CodecState). s.rule) c.take_run-taken.ensures.run.next_state
           ∙ c.loop-state.invariant.rule;
@@ -89,15 +79,12 @@ loop-state-smaller g c =
     let next_state = c.take_run-taken.ensures.run.next_state in
     let same_pending = ap (λ (s : CodecState). length s.pending) next_state in
     let within = progress.reaches.leaves.within in
-    elim c.if-shown.branch [
-      | then-shown shown ↦
-          let no_more_pending = fewer_with _ c.in-Emits.ensures.0 shown.if-shown.true in
-          let byte_follows = (c.in-Emits.ensures.1 shown.if-shown.true).0 in
-          omega (arith, no_more_pending, byte_follows, same_pending, within, shown.end-is)
-      | else-shown shown ↦
-          let fewer_pending = fewer_before _ c.in-Emits.ensures.0 shown.if-shown.false in
-          omega (arith, fewer_pending, same_pending, within, shown.end-is)
-    ]
+    let fewer = fewer_left _ _ c.if-shown.end c.in-Emits.ensures.0
+    (λ takes. (c.in-Emits.ensures.1 takes).0) within (elim c.if-shown.branch [
+      | then-shown shown ↦ inl (shown.if-shown.true, shown.end-is)
+      | else-shown shown ↦ inr (shown.if-shown.false, shown.end-is)
+    ]) in
+    omega (arith, fewer, same_pending)
 
 -- what a call needs, by what it does
 
