@@ -7,6 +7,7 @@ pub mod MachineLemmas
 pub mod RuleLemmas
 pub mod EmissionLemmas
 pub mod FirstSequenceLemmas
+pub mod EndLemmas
 pub mod TakingLemmas
 pub mod PieceLemmas
 pub mod ReplacedCharLemmas

@@ -35,36 +35,29 @@ other_second a b [] e f = refl
 other_second a b (c ∷ z) e f =
     elim (true_or_false (eqb a 0x1B)) [ inl t ↦ rw (t, e, f) refl | inr t ↦ rw t refl ]
 
-pub nothing_begins : MayBegin []
-nothing_begins = record {
-  short = omega arith;
-  none_yet = refl;
-  more = 0x1B ∷ 0x28 ∷ 0x42 ∷ [];
-  bytes = (omega arith, (omega arith, (omega arith, tt)));
-  set = Ascii;
-  becomes = refl;
+begins_with : (w more : List ℕ) (s : CharacterSet) → AreBytes more → length w ≤ 2
+    → designated_set w ≡ None → designated_set (w ++ more) ≡ Some s → MayBegin w
+begins_with w more s bytes short none_yet becomes = record {
+  short = short;
+  none_yet = none_yet;
+  more = more;
+  bytes = bytes;
+  set = s;
+  becomes = becomes;
 }
 
+pub nothing_begins : MayBegin []
+nothing_begins = begins_with [] (0x1B ∷ 0x28 ∷ 0x42 ∷ []) Ascii
+    (omega arith, (omega arith, (omega arith, tt))) (omega arith) refl refl
+
 pub one_begins : MayBegin (0x1B ∷ [])
-one_begins = record {
-  short = omega arith;
-  none_yet = refl;
-  more = 0x28 ∷ 0x42 ∷ [];
-  bytes = (omega arith, (omega arith, tt));
-  set = Ascii;
-  becomes = refl;
-}
+one_begins = begins_with (0x1B ∷ []) (0x28 ∷ 0x42 ∷ []) Ascii (omega arith, (omega arith, tt))
+    (omega arith) refl refl
 
 pub two_begin : (b : ℕ) (s : CharacterSet) → set_of_escape_bytes b 0x42 ≡ Some s
     → MayBegin (0x1B ∷ b ∷ [])
-two_begin b s e = record {
-  short = omega arith;
-  none_yet = refl;
-  more = 0x42 ∷ [];
-  bytes = (omega arith, tt);
-  set = s;
-  becomes = e;
-}
+two_begin b s names_set =
+    begins_with (0x1B ∷ b ∷ []) (0x42 ∷ []) s (omega arith, tt) (omega arith) refl names_set
 
 -- (28 and 24 are the second bytes)
 shown_by_second : (b : ℕ) (z : List ℕ) → eqb b 0x28 ≡ false → eqb b 0x24 ≡ false

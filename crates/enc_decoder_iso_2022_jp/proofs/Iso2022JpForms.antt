@@ -1,5 +1,5 @@
 -- What holds of each form of the first sequence by ISO-2022-JP's rule holds of the first sequence.
--- It is within the bytes that are there, and has a small text.
+-- It has a small text.
 use Rattle.std.proofs.Common.{◌≡◌, ℕ, ◌<◌, ◌≤◌, Bool, true, false, eqb, Option, Some, None, List, [], ◌∷◌, length, take}
 use Rattle.std.proofs.Common.{refl, ◌∙◌, sym, subst, arith, ◌⊎◌, inl, inr}
 use Rattle.std.proofs.lemmas.Bool.Decides.{nat_tests}
@@ -39,99 +39,82 @@ found_or_not None = inl refl
 found_or_not (Some s) = inr (s, refl)
 
 module _ {set : ℕ} {Holds : ℕ → List ℕ → Head → Type 0} (each : HoldsOfEachForm set Holds) where
-  holds_by : (b : ℕ) (z : List ℕ) {h : Head} → jp_rule set b z ≡ h → Holds b z h
-      → Holds b z (jp_rule set b z)
-  holds_by b z is_head holds = subst (Holds b z) (sym is_head) holds
-
   none_holds : (z : List ℕ) → designated_set (0x1B ∷ z) ≡ None → Holds 0x1B z (jp_rule set 0x1B z)
-  none_holds z none = holds_by 0x1B z (no_escape_first set z none) (each.no_escape z none)
+  none_holds z none = rw (no_escape_first set z none) (each.no_escape z none)
 
   escape_holds : (z : List ℕ) → Holds 0x1B z (jp_rule set 0x1B z)
   escape_holds [] = none_holds [] refl
   escape_holds (b ∷ []) = none_holds (b ∷ []) refl
   escape_holds (b ∷ c ∷ z) = elim (found_or_not (set_of_escape_bytes b c)) [
     | inl none ↦ none_holds (b ∷ c ∷ z) none
-    | inr found ↦ holds_by 0x1B (b ∷ c ∷ z)
-        (escape_first set (b ∷ c ∷ z) (Some found.0) _ found.1 refl)
+    | inr found ↦ rw (escape_first set (b ∷ c ∷ z) (Some found.0) _ found.1 refl)
         (each.escape b c found.0 z found.1)
   ]
 
   cut_holds : (b : ℕ) (z : List ℕ) → is_lead_byte (set_of set) b ≡ true → cuts_off_lead z ≡ true
       → Holds b z (jp_rule set b z)
   cut_holds b z leads cut =
-      holds_by b z (lead_first set b z leads ∙ lead_alone set b z cut) (each.lead b z leads cut)
+      rw (lead_first set b z leads ∙ lead_alone set b z cut) (each.lead b z leads cut)
 
   lead_holds : (b : ℕ) (z : List ℕ) → is_lead_byte (set_of set) b ≡ true
       → Holds b z (jp_rule set b z)
   lead_holds b [] leads = cut_holds b [] leads refl
   lead_holds b (c ∷ z) leads = elim (true_or_false (eqb c 0x1B)) [
     | inl cut ↦ cut_holds b (c ∷ z) leads cut
-    | inr trails ↦ holds_by b (c ∷ z)
-        (lead_first set b (c ∷ z) leads ∙ lead_and_trail set b c z trails)
+    | inr trails ↦ rw (lead_first set b (c ∷ z) leads ∙ lead_and_trail set b c z trails)
         (each.pair b c z leads trails)
   ]
 
   pub holds_of_first : (b : ℕ) (z : List ℕ) → Holds b z (jp_rule set b z)
   holds_of_first b z = elim (true_or_false (eqb b 0x1B)) [
-    | inl escape ↦ subst (λ (e : ℕ). Holds e z (jp_rule set e z)) (sym (is_escape_byte b escape))
-        (escape_holds z)
+    | inl escape ↦ rw (is_escape_byte b escape) (escape_holds z)
     | inr other ↦ elim (true_or_false (is_lead_byte (set_of set) b)) [
       | inl leads ↦ lead_holds b z leads
-      | inr alone ↦ holds_by b z (alone_first set b z alone other) (each.alone b z alone other)
+      | inr alone ↦ rw (alone_first set b z alone other) (each.alone b z alone other)
     ]
   ]
 
--- The first sequence is within the bytes that are there, and has a small text. The text of one byte
--- is of the Basic Multilingual Plane.
+-- The first sequence has a small text. The text of one byte is of the Basic Multilingual Plane.
 
 pub record HasForm (z : List ℕ) (h : Head) : Type 0 where
-  pub within : h.more ≤ length z
   pub small : IsSmallText h.text
   pub basic : length (take h.more z) ≡ 0 → IsBmpText h.text
 
-malformed_form : (set more : ℕ) (z : List ℕ) → more ≤ length z → HasForm z (malformed_head set more)
-malformed_form set more z within = record {
-  within = within;
-  small = one_small 0xFFFD;
-  basic = λ _. basic_by 0xFFFD (omega arith);
-}
+malformed_form : (set more : ℕ) (z : List ℕ) → HasForm z (malformed_head set more)
+malformed_form set more z =
+    record { small = one_small 0xFFFD; basic = λ _. basic_by 0xFFFD (omega arith) }
 
-escape_form : (set : ℕ) (s : CharacterSet) (another : Bool) (b c : ℕ) (z : List ℕ)
-    → HasForm (b ∷ c ∷ z) (escape_head set (Some s) another)
-escape_form set s true b c z = record {
-  within = omega arith;
-  small = one_small 0xFFFD;
-  basic = λ _. basic_by 0xFFFD (omega arith);
-}
-escape_form set s false b c z =
-    record { within = omega arith; small = none_small; basic = λ _. none_basic }
+escape_form : (set : ℕ) (s : CharacterSet) (another : Bool) (z : List ℕ)
+    → HasForm z (escape_head set (Some s) another)
+escape_form set s true z =
+    record { small = one_small 0xFFFD; basic = λ _. basic_by 0xFFFD (omega arith) }
+escape_form set s false z = record { small = none_small; basic = λ _. none_basic }
 
 pair_form : (set c : ℕ) (z : List ℕ) (found : Option ℕ) → HasForm (c ∷ z) (two_byte_head set found)
-pair_form set c z None = malformed_form set 1 (c ∷ z) (omega arith)
+pair_form set c z None = malformed_form set 1 (c ∷ z)
 pair_form set c z (Some d) =
-    record { within = omega arith; small = one_small d; basic = λ none. absurd (omega arith) }
+    record { small = one_small d; basic = λ none. absurd (omega arith) }
 
 alone_is_basic : (s : CharacterSet) (b c : ℕ) → one_byte_char s b ≡ Some c → c < 0x1_0000
 unfolding one_byte_char
-alone_is_basic Ascii b c e = grind (arith, nat_tests)
-alone_is_basic Roman b c e = grind (arith, nat_tests)
-alone_is_basic Katakana b c e = grind (arith, nat_tests)
-alone_is_basic Jis0208 b c e = absurd (cc)
+alone_is_basic Ascii b c is_char = grind (arith, nat_tests)
+alone_is_basic Roman b c is_char = grind (arith, nat_tests)
+alone_is_basic Katakana b c is_char = grind (arith, nat_tests)
+alone_is_basic Jis0208 b c is_char = absurd (cc)
 
 alone_form : (set b : ℕ) (z : List ℕ) (found : Option ℕ) → one_byte_char (set_of set) b ≡ found
     → HasForm z (one_byte_head set found)
-alone_form set b z None is_char = malformed_form set 0 z (omega arith)
+alone_form set b z None is_char = malformed_form set 0 z
 alone_form set b z (Some c) is_char = record {
-  within = omega arith;
   small = one_small c;
   basic = λ _. basic_by c (alone_is_basic (set_of set) b c is_char);
 }
 
 pub has_form : (set b : ℕ) (z : List ℕ) → HasForm z (jp_rule set b z)
 has_form set = holds_of_first {Holds = λ _ z h. HasForm z h} (record {
-  no_escape = λ z _. malformed_form set 0 z (omega arith);
-  escape = λ b c s z _. escape_form set s (is_some (designated_set z)) b c z;
-  lead = λ b z _ _. malformed_form set 0 z (omega arith);
+  no_escape = λ z _. malformed_form set 0 z;
+  escape = λ b c s z _. escape_form set s (is_some (designated_set z)) (b ∷ c ∷ z);
+  lead = λ b z _ _. malformed_form set 0 z;
   pair = λ b c z _ _. pair_form set c z (two_byte_char b c);
   alone = λ b z _ _. alone_form set b z (one_byte_char (set_of set) b) refl;
 })

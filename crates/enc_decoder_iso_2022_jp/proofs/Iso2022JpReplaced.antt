@@ -6,6 +6,7 @@ use Rattle.std.proofs.lemmas.Bool.{cond-true, cond-false}
 use Rattle.std.specs.Char.{IsScalar}
 use Rattle.enc_index.specs.Grid.{HasWord}
 use Rattle.enc_index.proofs.ByteEntries.{fits, bytes_fit, word_at, unit_at}
+use Rattle.enc_index.proofs.PlaceLemmas.{same_some, some_none}
 use Rattle.enc_index.proofs.GridEntries.{grid_tests, is_word, is_unit}
 use Rattle.enc_units.specs.Pairs.{MeansWord, MeansUnit}
 use Rattle.enc_decoder.specs.declared.byte_codec.Kind.TheVariants.{Valid, Malformed}
@@ -42,17 +43,11 @@ byte_alone b (Some c) is_char no_escape = (
       (alone Ascii b (Some c) is_char (no_lead b) no_escape y),
 )
 
-none_is_some : (c : ℕ) → None ≡ Some c → ⊥
-none_is_some c e = cc
-
-some_is : (a c : ℕ) → Some a ≡ Some c → a ≡ c
-some_is a c e = cc
-
 replaced_piece : (b c : ℕ) → replaced_ascii_char b ≡ Some c → IsReplacedChar jp_rule 0 (b ∷ []) c
 replaced_piece b c is_char = elim (true_or_false (eqb b 0x1B)) [
-  | inl escape ↦ absurd (none_is_some c (sym (cond-true _ _ _ escape) ∙ is_char))
+  | inl escape ↦ absurd (some_none _ c (cond-true _ _ _ escape) is_char)
   | inr other ↦ subst (λ k. IsReplacedChar jp_rule 0 (b ∷ []) k)
-      (some_is _ c (sym (cond-false _ _ _ other) ∙ is_char))
+      (same_some _ c (sym (cond-false _ _ _ other) ∙ is_char))
       (byte_alone b (ascii_char b) (ascii_alone b) other)
 ]
 

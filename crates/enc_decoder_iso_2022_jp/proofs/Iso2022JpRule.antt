@@ -15,6 +15,7 @@ use Rattle.enc_decoder_iso_2022_jp.specs.Iso2022Jp.{is_lead_byte, one_byte_char,
 use Rattle.enc_decoder_iso_2022_jp.specs.Iso2022Jp.{iso_2022_jp_rule as jp_rule}
 use Rattle.enc_decoder_iso_2022_jp.specs.Iso2022JpState.{cuts_off_lead}
 use Rattle.enc_decoder.proofs.Latin1Lemmas.{has_bytes_by}
+use Rattle.enc_decoder.proofs.EndLemmas.{by_end_of}
 use Rattle.enc_decoder.proofs.FirstSequenceLemmas.{determined_by_head, looks_at_none, looks_by, lookahead_by}
 use Rattle.enc_decoder_iso_2022_jp.proofs.EscapeLookahead.{MayBegin, IsShownBy, shown_or_begun}
 use Rattle.enc_decoder_iso_2022_jp.proofs.Iso2022JpForms.{holds_of_first, has_form}
@@ -25,9 +26,6 @@ use Rattle.enc_decoder_iso_2022_jp.proofs.Iso2022JpLemmas.{lead_alone, lead_and_
 
 pub kind_differs : {h k x y : Head} → x ≡ h → y ≡ k → (h.kind ≡ k.kind → ⊥) → x ≡ y → ⊥
 kind_differs x_is y_is differ same = differ (ap (λ (t : Head). t.kind) (sym x_is ∙ same ∙ y_is))
-
-more_differs : {h k x y : Head} → x ≡ h → y ≡ k → (h.more ≡ k.more → ⊥) → x ≡ y → ⊥
-more_differs x_is y_is differ same = differ (ap (λ (t : Head). t.more) (sym x_is ∙ same ∙ y_is))
 
 -- the same head whatever follows k bytes
 determined_at : (set b : ℕ) (z : List ℕ) (n k : ℕ) {h : Head} → k ≡ h.more + n → k ≤ length z
@@ -52,18 +50,14 @@ escape_not_valid set s false valid = cc
 pub begun_by_end : (set : ℕ) (z : List ℕ) → MayBegin (0x1B ∷ z)
     → IsDeterminedByEnd jp_rule set 0x1B z
 begun_by_end set z may_begin =
-    let another = is_some (designated_set (drop 2 (z ++ may_begin.more))) in
-    let becomes = escape_first set (z ++ may_begin.more) (Some may_begin.set) another
-    may_begin.becomes refl in
-    let malformed_first = no_escape_first set z may_begin.none_yet in record {
-      within = (let more_is = ap (λ (h : Head). h.more) malformed_first in omega (arith, more_is));
-      more = may_begin.more;
-      bytes = may_begin.bytes;
-      other = more_differs becomes malformed_first
-          (λ same. let two_more = escape_is_two_more set may_begin.set another in
-          omega (arith, two_more, same));
-      near = let is_short = may_begin.short in omega arith;
-    }
+    let followed = z ++ may_begin.more in
+    let another = is_some (designated_set (drop 2 followed)) in
+    let two_more = escape_is_two_more set may_begin.set another in
+    let is_short = may_begin.short in
+    by_end_of jp_rule set 0x1B z may_begin.more (no_escape_first set z may_begin.none_yet)
+    (escape_first set followed (Some may_begin.set) another may_begin.becomes refl)
+    (λ same. let more_is = ap (λ (h : Head). h.more) same in omega arith) may_begin.bytes
+    (omega arith) (omega arith)
 
 none_looks : (set : ℕ) (z : List ℕ) (n : ℕ) → IsShownBy (0x1B ∷ z) n
     → designated_set (0x1B ∷ z) ≡ None
@@ -103,17 +97,12 @@ pub escape_by_end : (set b c : ℕ) (s : CharacterSet) (z : List ℕ) → set_of
     → MayBegin z
     → IsDeterminedByEnd jp_rule set 0x1B (b ∷ c ∷ z)
 escape_by_end set b c s z names_set may_begin =
-    let first = named_first set s b c z false names_set (ap is_some may_begin.none_yet) in
-    let followed_first = named_first set s b c (z ++ may_begin.more) true names_set
-    (ap is_some may_begin.becomes) in
-    let two_more : (jp_rule set 0x1B (b ∷ c ∷ z)).more ≡ 2 = ap (λ (h : Head). h.more) first in
-    let is_short = may_begin.short in record {
-      within = omega (arith, two_more);
-      more = may_begin.more;
-      bytes = may_begin.bytes;
-      other = kind_differs followed_first first (λ same. cc);
-      near = omega arith;
-    }
+    let is_short = may_begin.short in
+    by_end_of jp_rule set 0x1B (b ∷ c ∷ z) may_begin.more
+    (named_first set s b c z false names_set (ap is_some may_begin.none_yet))
+    (named_first set s b c (z ++ may_begin.more) true names_set (ap is_some may_begin.becomes))
+    (λ same. let kinds_agree = ap (λ (h : Head). h.kind) same in cc) may_begin.bytes
+    (omega arith) (omega arith)
 
 escape_is_bounded : (set b c : ℕ) (s : CharacterSet) (z : List ℕ) → set_of_escape_bytes b c ≡ Some s
     → HasBoundedLookahead jp_rule set 0x1B (b ∷ c ∷ z)
@@ -150,15 +139,11 @@ not_a_trail b = refl
 pub lead_by_end : (set b : ℕ) → is_lead_byte (set_of set) b ≡ true
     → IsDeterminedByEnd jp_rule set b []
 lead_by_end set b leads =
-    let first = lead_first set b [] leads in
-    let followed_first = lead_first set b (0x20 ∷ []) leads ∙ lead_and_trail set b 0x20 [] refl
-    ∙ ap (two_byte_head set) (not_a_trail b) in record {
-      within = (let more_is = ap (λ (h : Head). h.more) first in omega (arith, more_is));
-      more = 0x20 ∷ [];
-      bytes = (omega arith, tt);
-      other = more_differs followed_first first (λ same. omega arith);
-      near = omega arith;
-    }
+    by_end_of jp_rule set b [] (0x20 ∷ []) (lead_first set b [] leads)
+    (lead_first set b (0x20 ∷ []) leads ∙ lead_and_trail set b 0x20 [] refl
+    ∙ ap (two_byte_head set) (not_a_trail b))
+    (λ same. let more_is = ap (λ (h : Head). h.more) same in omega arith) (omega arith, tt)
+    (omega arith) (omega arith)
 
 lead_is_bounded : (set b : ℕ) (z : List ℕ) → is_lead_byte (set_of set) b ≡ true
     → cuts_off_lead z ≡ true

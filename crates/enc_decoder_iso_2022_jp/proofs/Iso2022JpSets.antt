@@ -11,7 +11,7 @@ use Rattle.enc_decoder_iso_2022_jp.specs.Iso2022Jp.{escape_head, one_byte_char, 
 use Rattle.enc_decoder_iso_2022_jp.specs.Iso2022Jp.{two_byte_head, iso_2022_jp_rule as jp_rule}
 use Rattle.enc_decoder_iso_2022_jp.specs.Iso2022JpLaws.{later_set_or, last_designated_set, set_number_or}
 use Rattle.enc_decoder_iso_2022_jp.specs.Iso2022JpLaws.{SetsAreOfLastEscapes}
-use Rattle.enc_decoder.proofs.SegmentationLemmas.{sequences_of-cons, sequences_of-nil}
+use Rattle.enc_decoder.proofs.SegmentationLemmas.{sequences_of-cons, sequences_of-nil, first_of, rest_of}
 use Rattle.enc_decoder.proofs.FirstSequenceLemmas.{true_or_false}
 use Rattle.enc_decoder_iso_2022_jp.proofs.Iso2022JpLemmas.{found_for_other, lead_is_no_escape}
 use Rattle.enc_decoder_iso_2022_jp.proofs.EscapeLookahead.{other_front}
@@ -80,17 +80,15 @@ lead_malformed set b z other w v parts = ap (set_number_or set) (sym (other_byte
 
 one_byte : (set b : ℕ) (z : List ℕ) (found : Option ℕ) → eqb b 0x1B ≡ false
     → HasSetAfter set b z (one_byte_head set found)
-one_byte set b z None other w v parts = ap (set_number_or set) (sym (other_byte b w other))
-one_byte set b z (Some c) other w v parts = ap (set_number_or set) (sym (other_byte b w other))
+one_byte set b z None other = lead_malformed set b z other
+one_byte set b z (Some c) other = lead_malformed set b z other
 
 two_bytes : (set b c : ℕ) (z : List ℕ) (found : Option ℕ) → eqb b 0x1B ≡ false → eqb c 0x1B ≡ false
     → HasSetAfter set b (c ∷ z) (two_byte_head set found)
 two_bytes set b c z None first_other second_other w v parts =
-    ap (set_number_or set)
-    (sym (other_byte b (c ∷ w) first_other ∙ other_byte c w second_other))
+    ap (set_number_or set) (sym (other_byte b (c ∷ w) first_other ∙ other_byte c w second_other))
 two_bytes set b c z (Some d) first_other second_other w v parts =
-    ap (set_number_or set)
-    (sym (other_byte b (c ∷ w) first_other ∙ other_byte c w second_other))
+    ap (set_number_or set) (sym (other_byte b (c ∷ w) first_other ∙ other_byte c w second_other))
 
 escape_malformed : (set : ℕ) (z : List ℕ) → designated_set (0x1B ∷ z) ≡ None
     → HasSetAfter set 0x1B z (malformed_head set 0)
@@ -126,22 +124,13 @@ HasSet set z before =
     ((v : List ℕ) × (z ≡ sequence_bytes before ++ v)) × (set_after set before
     ≡ set_number_or set (last_designated_set (sequence_bytes before)))
 
-first_of : (s t : Sequence) (ss ts : List Sequence) → s ∷ ss ≡ t ∷ ts → s ≡ t
-first_of s t ss ts e = cc
-
-rest_of : (s t : Sequence) (ss ts : List Sequence) → s ∷ ss ≡ t ∷ ts → ss ≡ ts
-rest_of s t ss ts e = cc
-
-none_first : (s : Sequence) (ss : List Sequence) → [] ≡ s ∷ ss → ⊥
-none_first s ss e = cc
-
 sets : (set : ℕ) (z : List ℕ) (before rest : List Sequence)
     → sequences_of jp_rule set z ≡ before ++ rest
     → HasSet set z before
 unfolding last_designated_set
 sets set z [] rest whole = ((z, refl), refl)
 sets set [] (s ∷ before) rest whole =
-    absurd (none_first s (before ++ rest) (sym (sequences_of-nil jp_rule set) ∙ whole))
+    let none_is_some = sym (sequences_of-nil jp_rule set) ∙ whole in absurd (cc)
 sets set (b ∷ z) (s ∷ before) rest whole =
     let head : Head = jp_rule set b z in
     let sequences = sym (sequences_of-cons jp_rule set b z) ∙ whole in

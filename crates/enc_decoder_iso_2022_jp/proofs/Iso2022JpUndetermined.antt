@@ -16,17 +16,17 @@ use Rattle.enc_decoder_iso_2022_jp.specs.Iso2022Jp.{set_number, iso_2022_jp_rule
 use Rattle.enc_decoder_iso_2022_jp.specs.Iso2022JpState.{state_with_held, escape_bytes, escape_set}
 use Rattle.enc_decoder_iso_2022_jp.specs.Iso2022JpState.{intermediate_byte, CanHold}
 use Rattle.enc_decoder_iso_2022_jp.specs.Iso2022JpState.{iso_2022_jp_state as jp_state}
-use Rattle.enc_decoder.proofs.FirstSequenceLemmas.{undetermined_by_end}
+use Rattle.enc_decoder.proofs.FirstSequenceLemmas.{undetermined_by_end, within_by}
 use Rattle.enc_decoder_iso_2022_jp.proofs.Iso2022JpLemmas.{set_of_number, has_escape_bytes}
-use Rattle.enc_decoder_iso_2022_jp.proofs.Iso2022JpForms.{has_form}
 use Rattle.enc_decoder_iso_2022_jp.proofs.EscapeLookahead.{MayBegin, nothing_begins, one_begins, two_begin}
-use Rattle.enc_decoder_iso_2022_jp.proofs.Iso2022JpRule.{begun_by_end, escape_by_end, lead_by_end}
+use Rattle.enc_decoder_iso_2022_jp.proofs.Iso2022JpRule.{begun_by_end, escape_by_end, lead_by_end, iso_2022_jp_is_lawful}
 
 -- bytes that only the end makes a sequence
 by_end : (set b : ℕ) (z : List ℕ) → IsDeterminedByEnd jp_rule set b z
     → IsUndetermined (λ y. sequences_of jp_rule set (b ∷ (z ++ y)))
 by_end set b z is_by_end =
-    undetermined_by_end jp_rule set b z (λ y. (has_form set b y).within) is_by_end
+    undetermined_by_end jp_rule set b z (within_by jp_rule iso_2022_jp_is_lawful.lookahead set b)
+    is_by_end
 
 -- an escape sequence, and what may begin another
 after_escape : (set : ℕ) (e : Escape) (z : List ℕ) → MayBegin z

@@ -22,26 +22,18 @@ char_is_text None text e = cc
 char_is_text (Some c) text e =
     subst IsPairText (let text_is : One c ≡ text = cc in text_is) (one_is_text c)
 
+-- What the laws say of the kind of a prefix, by its length and that of the longest incomplete one.
+abbrev pub IsLawfulPrefix : ℕ → ℕ → Prefix → Type 0
+IsLawfulPrefix most len (Complete text) = IsPairText text
+IsLawfulPrefix most len (Malformed n) = (0 < n) × (n ≤ len)
+IsLawfulPrefix most len Incomplete = len ≤ most
+
 -- the first byte
-
-single_is_text : (c : Option ℕ) (text : Text) → single_prefix c ≡ Complete text → IsPairText text
-single_is_text None text e = cc
-single_is_text (Some c) text e =
-    subst IsPairText (let text_is : One c ≡ text = cc in text_is) (one_is_text c)
-
-single_malformed : (c : Option ℕ) (n : ℕ) → single_prefix c ≡ Malformed n → n ≡ 1
-single_malformed None n e = cc
-single_malformed (Some c) n e = cc
-
-pub first_is_text : (leads : Bool) (c : Option ℕ) (text : Text)
-    → first_prefix leads c ≡ Complete text → IsPairText text
-first_is_text true c text e = cc
-first_is_text false c text e = single_is_text c text e
-
-pub first_malformed : (leads : Bool) (c : Option ℕ) (n : ℕ) → first_prefix leads c ≡ Malformed n
-    → n ≡ 1
-first_malformed true c n e = cc
-first_malformed false c n e = single_malformed c n e
+pub first_lawful : (most : ℕ) (leads : Bool) (c : Option ℕ) → 1 ≤ most
+    → IsLawfulPrefix most 1 (first_prefix leads c)
+first_lawful most true c some = some
+first_lawful most false None some = (omega arith, omega arith)
+first_lawful most false (Some c) some = one_is_text c
 
 -- a byte that is no lead is the character that it has, and a lead needs another byte
 
@@ -69,20 +61,12 @@ ascii_is_basic b c e = grind (arith, nat_tests)
 
 -- a byte after n others
 
-pub trail_text : (n b : ℕ) (t : Option Text) (text : Text) → trail_prefix n b t ≡ Complete text
-    → t ≡ Some text
-trail_text n b None text e = cc
-trail_text n b (Some t) text e = cc
-
-pub trail_malformed : (n b : ℕ) (t : Option Text) (m : ℕ) → trail_prefix n b t ≡ Malformed m
-    → (n ≤ m) × (m ≤ n + 1)
-trail_malformed n b None m e =
-    either (nat_lt b 0x80) (let len_is : cond (nat_lt b 0x80) n (n + 1) ≡ m = cc in len_is)
-  where
-    either : (t : Bool) → cond t n (n + 1) ≡ m → (n ≤ m) × (m ≤ n + 1)
-    either true f = (omega arith, omega arith)
-    either false f = (omega arith, omega arith)
-trail_malformed n b (Some t) m e = cc
+pub trail_lawful : (most len n b : ℕ) (t : Option Text)
+    → ((text : Text) → t ≡ Some text → IsPairText text) → 0 < n → n < len
+    → IsLawfulPrefix most len (trail_prefix n b t)
+trail_lawful most len n b None is_text some within =
+    (grind (arith, nat_tests), grind (arith, nat_tests))
+trail_lawful most len n b (Some text) is_text some within = is_text text refl
 
 pub trail_finished : (n b : ℕ) (t : Option Text) → trail_prefix n b t ≢ Incomplete
 trail_finished n b None e = cc
@@ -102,15 +86,10 @@ malformed_with_ff prefix front len malformed other =
 
 -- a prefix that a test shows not to be incomplete
 
-pub unless_complete : (t : Bool) (r : Prefix) (text : Text) → cond t Incomplete r ≡ Complete text
-    → r ≡ Complete text
-unless_complete true r text e = cc
-unless_complete false r text e = e
-
-pub unless_malformed : (t : Bool) (r : Prefix) (n : ℕ) → cond t Incomplete r ≡ Malformed n
-    → r ≡ Malformed n
-unless_malformed true r n e = cc
-unless_malformed false r n e = e
+pub unless_lawful : (most len : ℕ) (t : Bool) (r : Prefix) → len ≤ most
+    → IsLawfulPrefix most len r → IsLawfulPrefix most len (cond t Incomplete r)
+unless_lawful most len true r short lawful = short
+unless_lawful most len false r short lawful = lawful
 
 -- encodings of one byte and two
 pub double_byte_laws : (is_lead : ℕ → Bool) (single : ℕ → Option ℕ) (pair : ℕ → ℕ → Option Text)
@@ -125,36 +104,21 @@ double_byte_laws is_lead single pair laws =
         is_byte = laws.is_byte;
         incomplete = first_leads (is_lead laws.lead) (single laws.lead) laws.leads;
       };
-      texts = texts;
+      texts = λ front text e. subst (IsLawfulPrefix 1 (length front)) e (lawful front);
       alone = λ b text e.
           first_is_basic (is_lead b) (single b) text (laws.basic b) e;
-      malformed = malformed;
-      short = short;
+      malformed = λ front n e. subst (IsLawfulPrefix 1 (length front)) e (lawful front);
+      short = λ front e.
+          let short = subst (IsLawfulPrefix 1 (length front)) e (lawful front) in omega arith;
       can_be_malformed = can_be_malformed;
     }
   where
-    texts : (front : List ℕ) (text : Text)
-        → double_byte_prefix is_lead single pair front ≡ Complete text
-        → IsPairText text
-    texts [] text complete = cc
-    texts (a ∷ []) text complete = first_is_text (is_lead a) (single a) text complete
-    texts (a ∷ b ∷ z) text complete = laws.texts a b text (trail_text 1 b (pair a b) text complete)
-
-    malformed : (front : List ℕ) (n : ℕ)
-        → double_byte_prefix is_lead single pair front ≡ Malformed n → (0 < n) × (n ≤ length front)
-    malformed [] n is_malformed = cc
-    malformed (a ∷ []) n is_malformed =
-        let len_is_one = first_malformed (is_lead a) (single a) n is_malformed in
-        (omega arith, omega arith)
-    malformed (a ∷ b ∷ z) n is_malformed =
-        let form = trail_malformed 1 b (pair a b) n is_malformed in
-        (omega (arith, form.0), omega (arith, form.1))
-
-    short : (front : List ℕ) → double_byte_prefix is_lead single pair front ≡ Incomplete
-        → length front ≤ 3
-    short [] e = omega arith
-    short (a ∷ []) e = omega arith
-    short (a ∷ b ∷ z) e = absurd (trail_finished 1 b (pair a b) e)
+    lawful : (front : List ℕ)
+        → IsLawfulPrefix 1 (length front) (double_byte_prefix is_lead single pair front)
+    lawful [] = omega arith
+    lawful (a ∷ []) = first_lawful 1 (is_lead a) (single a) (omega arith)
+    lawful (a ∷ b ∷ z) =
+        trail_lawful 1 _ 1 b (pair a b) (laws.texts a b) (omega arith) (omega arith)
 
     can_be_malformed : (front : List ℕ) → 0 < length front
         → double_byte_prefix is_lead single pair front ≡ Incomplete

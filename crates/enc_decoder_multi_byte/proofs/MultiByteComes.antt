@@ -18,33 +18,28 @@ use Rattle.enc_decoder.specs.declared.byte_codec.Emission.{Emission}
 use Rattle.enc_decoder.specs.declared.byte_codec.HandlerResult.TheVariants.{Continue, Emit}
 use Rattle.enc_decoder_multi_byte.specs.declared.multi_byte.Prefix.{Prefix}
 use Rattle.enc_decoder_multi_byte.specs.declared.multi_byte.Prefix.TheVariants.{Incomplete}
-use Rattle.enc_decoder.specs.Sequence.{Sequence}
+use Rattle.enc_decoder.specs.Sequence.{Sequence, is_malformed, is_repeated_escape}
 use Rattle.enc_decoder.specs.Segmentation.{sequences_of}
 use Rattle.enc_decoder.specs.CodecState.{CodecState}
-use Rattle.enc_decoder.specs.CodecLaw.{text_chars, IsNextSequence, HandlesByte, IsNextOfPending, IsNextAtEnd}
+use Rattle.enc_decoder.specs.CodecLaw.{BeginsWithByte, text_chars, IsNextSequence, HandlesByte, IsNextOfPending, IsNextAtEnd}
 use Rattle.enc_decoder_multi_byte.specs.MultiByte.{multi_byte_rule, multi_byte_state, AreIncomplete, ArePrefixes}
 use Rattle.enc_decoder.proofs.SegmentationLemmas.{sequences_of-head}
-use Rattle.enc_decoder.proofs.EmissionLemmas.{shows_with, shows_at, shows_before}
+use Rattle.enc_decoder.proofs.EmissionLemmas.{shows_with, shows_before}
 use Rattle.enc_decoder_multi_byte.proofs.MultiByteLemmas.{one_more, Settles, settled_first, all_malformed}
 use Rattle.enc_decoder_multi_byte.proofs.MultiByteRule.{undetermined}
 
--- three bytes at most are pending
-pub at_most_three : (p : Pending) → length (bytes_of_pending p) ≤ 3
-at_most_three Nothing = omega arith
-at_most_three (One a) = omega arith
-at_most_three (Two a b) = omega arith
-at_most_three (Three a b c) = omega arith
-
-pub some_pending : (p : Pending) → (p ≡ Nothing → ⊥) → 0 < length (bytes_of_pending p)
-some_pending Nothing n = absurd (n refl)
-some_pending (One a) n = omega arith
-some_pending (Two a b) n = omega arith
-some_pending (Three a b c) n = omega arith
+-- one to three bytes are pending
+pub pending_len : (p : Pending) → (length (bytes_of_pending p) ≤ 3)
+    × ((p ≡ Nothing → ⊥) → 0 < length (bytes_of_pending p))
+pending_len Nothing = (omega arith, λ some. absurd (some refl))
+pending_len (One a) = (omega arith, λ some. omega arith)
+pending_len (Two a b) = (omega arith, λ some. omega arith)
+pending_len (Three a b c) = (omega arith, λ some. omega arith)
 
 -- the first of some bytes, and the others
-pub first_and_rest : (z : List ℕ) (a : ℕ) → first_byte z ≡ Some a → z ≡ a ∷ drop 1 z
-first_and_rest [] a e = cc
-first_and_rest (b ∷ z) a e = cc
+first_and_rest : (z : List ℕ) (a : ℕ) → first_byte z ≡ Some a → z ≡ a ∷ drop 1 z
+first_and_rest [] a is_first = cc
+first_and_rest (b ∷ z) a is_first = cc
 
 module _ (prefix : List ℕ → Prefix) (laws : ArePrefixes prefix) {C : Type 0}
     (pending : C → Pending) (c next : C) where
@@ -64,6 +59,25 @@ module _ (prefix : List ℕ → Prefix) (laws : ArePrefixes prefix) {C : Type 0}
       record { bytes = bytes; text = text; kind = kind; set = 0 }
       ∷ sequences_of (multi_byte_rule prefix) 0 others
 
+  -- the first n pending bytes are a sequence, and what shows it isn't read
+  takes_pending : {may_follow : List ℕ → Type 0} {n len : ℕ} {text : Text} {kind : Kind}
+      → n ≤ length p → 0 < n → len ≡ n → left ≡ drop n p → is_repeated_escape kind ≡ false
+      → (is_malformed kind ≡ true → text_chars text ≡ 0xFFFD ∷ [])
+      → ((y : List ℕ) → may_follow y → sequences_of (multi_byte_rule prefix) 0 (p ++ y)
+      ≡ sequence_then (take n p) (text_chars text) kind (drop n p ++ y))
+      → IsNextSequence state c may_follow []
+      (record { text = text; kind = kind; len = len; takes_byte = false; next = next })
+  takes_pending {may_follow} {n} {len} {text} {kind} within some is_length left_is no_escape
+      replaced first =
+      let few = (pending_len (pending c)).0 in
+      let left_length = ap length left_is ∙ length-drop n p in
+      let taken_length = length-take-le n p within in
+      shows_before state c next text kind len may_follow (take n p) refl
+      (sym (take-append-drop n p) ∙ ap (λ y. take n p ++ y) (sym left_is))
+      (is_length ∙ sym taken_length) (omega arith) no_escape
+      (λ faulty. (replaced faulty, (omega arith, omega arith, omega arith)))
+      (λ y follows. rw left_is (first y follows))
+
   -- the pending bytes show what the first of them are
   pub shows_pending : {may_follow : List ℕ → Type 0} (w rest : List ℕ) {x n len : ℕ} {text : Text}
       {kind : Kind}
@@ -73,42 +87,24 @@ module _ (prefix : List ℕ → Prefix) (laws : ArePrefixes prefix) {C : Type 0}
       → left ≡ drop n p
       → IsNextSequence state c may_follow []
       (record { text = text; kind = kind; len = len; takes_byte = false; next = next })
-  shows_pending {may_follow} w rest {x} {n} {len} {text} {kind} parts begins are_incomplete settles
-      is_length left_is =
-      let few = at_most_three (pending c) in
-      let left_length = ap length left_is in
+  shows_pending w rest {x} {n} {text = text} {kind} parts begins are_incomplete settles is_length
+      left_is =
       let others = drop 1 rest in
-      let with_first : p ≡ w ++ x ∷ others =
-      parts ∙ ap (λ z. w ++ z) (first_and_rest rest x begins) in
-      let front_and_rest : p ≡ (w ++ x ∷ []) ++ others =
-      with_first ∙ sym (append_assoc w (x ∷ []) others) in
-      let lengths : length p ≡ length (w ++ x ∷ []) + length others =
-      ap length front_and_rest ∙ length-append (w ++ x ∷ []) others in
-      let taken_is : take n p ≡ take n (w ++ x ∷ []) = ap (take n) front_and_rest
-      ∙ take-append-le n (w ++ x ∷ []) others settles.own in
-      let dropped_is : drop n p ≡ drop n (w ++ x ∷ []) ++ others = ap (drop n) front_and_rest
-      ∙ drop-append-le n (w ++ x ∷ []) others settles.own in
-      let taken_length : length (take n p) ≡ n =
-      length-take-le n p (omega (arith, lengths, settles.own)) in
-      shows_before state c next text kind len may_follow (take n p) refl
-      (sym (take-append-drop n p) ∙ ap (λ y. take n p ++ y) (sym left_is))
-      (is_length ∙ sym taken_length) (omega (arith, settles.some)) settles.no_escape
-      (λ is_malformed. (
-        settles.replaced is_malformed,
-        (
-          omega (arith, few, lengths, settles.own),
-          omega (arith, few, left_length, length-drop n p),
-          omega (arith, few, lengths, settles.own, left_length, length-drop n p),
-        ),
-      ))
-      (λ y _. rw left_is
-      (ap (λ z. sequences_of (multi_byte_rule prefix) 0 (z ++ y)) with_first
-      ∙ ap (sequences_of (multi_byte_rule prefix) 0) (append_assoc w (x ∷ others) y)
-      ∙ settled_first prefix 0 w x (others ++ y) n text kind are_incomplete settles
-      ∙ ap (λ b. sequence_then b (text_chars text) kind (drop n (w ++ x ∷ []) ++ (others ++ y)))
-      (sym taken_is)
-      ∙ ap (λ z. sequence_then (take n p) (text_chars text) kind z)
-      (sym (append_assoc (drop n (w ++ x ∷ [])) others y) ∙ ap (λ z. z ++ y) (sym dropped_is))))
+      let front = w ++ x ∷ [] in
+      let all : p ≡ front ++ others =
+      parts ∙ ap (λ z. w ++ z) (first_and_rest rest x begins) ∙ sym (append_assoc w (x ∷ []) others)
+      in
+      let lengths = ap length all ∙ length-append front others in
+      takes_pending (omega (arith, settles.own)) settles.some is_length left_is settles.no_escape
+      settles.replaced
+      (λ y _. rw (
+        all,
+        append_assoc front others y,
+        append_assoc w (x ∷ []) (others ++ y),
+        take-append-le n front others settles.own,
+        drop-append-le n front others settles.own,
+        append_assoc (drop n front) others y,
+      ) (settled_first prefix 0 w x (others ++ y) n text kind are_incomplete settles))
 
   -- the byte after them is the last of a sequence
   pub shows_byte_with : (b : ℕ) {n len : ℕ} {text : Text} {kind : Kind} → AreIncomplete prefix [] p
@@ -116,50 +112,30 @@ module _ (prefix : List ℕ → Prefix) (laws : ArePrefixes prefix) {C : Type 0}
       → HandlesByte state c b
       (Emit (record { text = text; kind = kind; len = len; takes_byte = true; next = next }))
   shows_byte_with b {n} {len} {text} {kind} are_incomplete settles is_longer is_length none_left =
-      let few = at_most_three (pending c) in
-      let one_longer : length (p ++ b ∷ []) ≡ length p + 1 = length-append p (b ∷ []) in
-      let is_all : n ≡ length (p ++ b ∷ []) = omega (arith, settles.own, one_longer) in
-      let taken_is : take n (p ++ b ∷ []) ≡ p ++ b ∷ [] =
-      ap (λ i. take i (p ++ b ∷ [])) is_all ∙ take-length (p ++ b ∷ []) in
-      let none_dropped : drop n (p ++ b ∷ []) ≡ [] =
-      drop_of_length-le (p ++ b ∷ []) (omega arith) in
+      let few = (pending_len (pending c)).0 in
+      let all = p ++ b ∷ [] in
+      let one_longer : length all ≡ length p + 1 = length-append p (b ∷ []) in
+      let is_all : n ≡ length all = omega (arith, settles.own) in
       shows_with state c next text kind len b refl none_left (is_length ∙ is_all ∙ one_longer)
-      settles.no_escape
-      (λ is_malformed. (settles.replaced is_malformed, omega (arith, one_longer)))
-      (λ z. rw none_left
-      (settled_first prefix 0 p b z n text kind are_incomplete settles
-      ∙ ap (λ y. sequence_then y (text_chars text) kind (drop n (p ++ b ∷ []) ++ z)) taken_is
-      ∙ ap (λ y. sequence_then (p ++ b ∷ []) (text_chars text) kind (y ++ z)) none_dropped))
+      settles.no_escape (λ faulty. (settles.replaced faulty, omega arith))
+      (λ z. rw none_left (rw (is_all, take-length all, drop-length all)
+      at (settled_first prefix 0 p b z n text kind are_incomplete settles)))
 
   -- the byte after them shows that the first of them are malformed, and is not one of those
-  pub shows_byte_before : (b : ℕ) {n len : ℕ} {text : Text} {kind : Kind}
-      → AreIncomplete prefix [] p
+  shows_byte_before : (b : ℕ) {n len : ℕ} {text : Text} {kind : Kind} → AreIncomplete prefix [] p
       → Settles prefix (p ++ b ∷ []) n text kind → n ≤ length p → len ≡ n → left ≡ drop n p
       → HandlesByte state c b
       (Emit (record { text = text; kind = kind; len = len; takes_byte = false; next = next }))
-  shows_byte_before b {n} {len} {text} {kind} are_incomplete settles is_pending is_length left_is =
-      let few = at_most_three (pending c) in
-      let left_length = ap length left_is in
-      let taken_is : take n (p ++ b ∷ []) ≡ take n p = take-append-le n p (b ∷ []) is_pending in
-      let dropped_is : drop n (p ++ b ∷ []) ≡ drop n p ++ b ∷ [] =
-      drop-append-le n p (b ∷ []) is_pending in
-      let taken_length : length (take n p) ≡ n = length-take-le n p is_pending in
-      shows_at state c next text kind len b (take n p) refl
-      (sym (take-append-drop n p) ∙ ap (λ y. take n p ++ y) (sym left_is))
-      (is_length ∙ sym taken_length) (omega (arith, settles.some)) settles.no_escape
-      (λ is_malformed. (
-        settles.replaced is_malformed,
-        (
-          omega (arith, few),
-          omega (arith, few, left_length, length-drop n p),
-          omega (arith, few, left_length, length-drop n p),
-        ),
-      ))
-      (λ z. rw left_is
-      (settled_first prefix 0 p b z n text kind are_incomplete settles
-      ∙ ap (λ y. sequence_then y (text_chars text) kind (drop n (p ++ b ∷ []) ++ z)) taken_is
-      ∙ ap (λ y. sequence_then (take n p) (text_chars text) kind y)
-      (ap (λ y. y ++ z) dropped_is ∙ append_assoc (drop n p) (b ∷ []) z)))
+  shows_byte_before b {n} {text = text} {kind} are_incomplete settles within is_length left_is = (
+    takes_pending {may_follow = BeginsWithByte b} within settles.some is_length left_is
+        settles.no_escape settles.replaced
+        (λ y begins. rw begins.1 (rw (
+          take-append-le n p (b ∷ []) within,
+          drop-append-le n p (b ∷ []) within,
+          append_assoc (drop n p) (b ∷ []) begins.0,
+        ) at (settled_first prefix 0 p b begins.0 n text kind are_incomplete settles))),
+    λ takes. cc,
+  )
 
   -- it shows one or the other
   pub shows_byte : (b : ℕ) {n len : ℕ} {text : Text} {kind : Kind} (takes : Bool)
@@ -181,8 +157,8 @@ module _ (prefix : List ℕ → Prefix) (laws : ArePrefixes prefix) {C : Type 0}
       → HandlesByte state c b (Continue next)
   waits b are_incomplete is_incomplete left_is = (
     ap (multi_byte_state prefix) left_is,
-    undetermined prefix laws (state next) (p ++ b ∷ []) (ap (multi_byte_state prefix) left_is)
-        (one_more prefix [] p b are_incomplete is_incomplete),
+    rw left_is (undetermined prefix laws (p ++ b ∷ [])
+        (one_more prefix [] p b are_incomplete is_incomplete)),
   )
 
   -- what they show by themselves, unless all of them are incomplete
@@ -190,8 +166,7 @@ module _ (prefix : List ℕ → Prefix) (laws : ArePrefixes prefix) {C : Type 0}
       → IfSome shown (λ emission. IsNextOfPending state c (Some emission))
       → (IsNone shown → AreIncomplete prefix [] p)
       → IsNextOfPending state c shown
-  ready_by None is_next are_incomplete =
-      undetermined prefix laws (state c) p refl (are_incomplete refl)
+  ready_by None is_next are_incomplete = undetermined prefix laws p (are_incomplete refl)
   ready_by (Some emission) is_next are_incomplete = is_next
 
   -- the end of the input leaves all of them malformed
@@ -204,36 +179,19 @@ module _ (prefix : List ℕ → Prefix) (laws : ArePrefixes prefix) {C : Type 0}
         takes_byte = false;
         next = next;
       }))
-  left_over len are_incomplete some is_length none_left =
-      let few = at_most_three (pending c) in
-      let none_length = ap length none_left in (
-        shows_before state c next (Character 0xFFFD) Malformed len _ p refl
-            (sym (append-nil p) ∙ ap (λ y. p ++ y) (sym none_left))
-            is_length (omega arith) refl
-            (λ _. (
-              refl,
-              (
-                omega (arith, few),
-                omega (arith, none_length),
-                omega (arith, few, none_length),
-              ),
-            ))
-            (λ y ends. rw none_left
-            (ap (λ z. sequences_of (multi_byte_rule prefix) 0 (p ++ z)) ends
-            ∙ ap (sequences_of (multi_byte_rule prefix) 0) (append-nil p)
-            ∙ malformed_first p are_incomplete some
-            ∙ ap (λ z. sequence_then p (0xFFFD ∷ []) Malformed z) (sym ends))),
-        refl,
-      )
+  left_over len are_incomplete some is_length none_left = (
+    takes_pending {text = Character 0xFFFD} {kind = Malformed} (omega arith) some is_length
+        (none_left ∙ sym (drop-length p)) refl (λ _. refl)
+        (λ y ends. rw (ends, append-nil p, take-length p, drop-length p)
+        (malformed_first p are_incomplete some)),
+    refl,
+  )
     where
       malformed_first : (p : List ℕ) → AreIncomplete prefix [] p → 0 < length p
           → sequences_of (multi_byte_rule prefix) 0 p ≡ sequence_then p (0xFFFD ∷ []) Malformed []
       malformed_first [] are_incomplete some = absurd (omega arith)
       malformed_first (a ∷ w) are_incomplete some =
           let rest_length : length (a ∷ w) - 1 ≡ length w = omega arith in
-          sequences_of-head (multi_byte_rule prefix) 0 a w _
-          (all_malformed prefix 0 a w are_incomplete)
-          ∙ ap (λ i. sequence_then (a ∷ take i w) (0xFFFD ∷ []) Malformed (drop i w)) rest_length
-          ∙ ap (λ y. sequence_then (a ∷ y) (0xFFFD ∷ []) Malformed (drop (length w) w))
-          (take-length w)
-          ∙ ap (λ y. sequence_then (a ∷ w) (0xFFFD ∷ []) Malformed y) (drop-length w)
+          rw (rest_length, take-length w, drop-length w) at
+          (sequences_of-head (multi_byte_rule prefix) 0 a w _
+          (all_malformed prefix 0 a w are_incomplete))

@@ -93,19 +93,24 @@ module _ (prefix : List ℕ → Prefix) where
   }
 
   -- and so they come first
-  settled_sequences : (set : ℕ) (w : List ℕ) (c : ℕ) (z : List ℕ) (n : ℕ) (text : Text)
-      (kind : Kind) (b : ℕ) (x : List ℕ)
+
+  -- some bytes are a first one and others
+  cons_of : (w : List ℕ) (c : ℕ) (z : List ℕ) → (b : ℕ) × (x : List ℕ) × (b ∷ x ≡ w ++ c ∷ z)
+  cons_of [] c z = (c, z, refl)
+  cons_of (a ∷ w) c z = (a, w ++ c ∷ z, refl)
+
+  settled_sequences : (set : ℕ) (w : List ℕ) (c : ℕ) (z : List ℕ) (n : ℕ) {text : Text}
+      {kind : Kind} {b : ℕ} {x : List ℕ}
       → AreIncomplete prefix [] w → Settles (w ++ c ∷ []) n text kind → b ∷ x ≡ w ++ c ∷ z
       → sequences_of (multi_byte_rule prefix) set (b ∷ x)
       ≡ record { bytes = take n (b ∷ x); text = text_chars text; kind = kind; set = set }
       ∷ sequences_of (multi_byte_rule prefix) set (drop n (b ∷ x))
-  settled_sequences set w c z zero text kind b x u settles e = let some_bytes = settles.some in
-      absurd (omega arith)
-  settled_sequences set w c z (suc n) text kind b x u settles e =
+  settled_sequences set w c z zero are_incomplete settles parts =
+      let some_bytes = settles.some in absurd (omega arith)
+  settled_sequences set w c z (suc n) {b = b} {x} are_incomplete settles parts =
       let one_less : suc n - 1 ≡ n = omega arith in
       sequences_of-head (multi_byte_rule prefix) set b x _
-      (rule_at set w c z b x u e ∙ settles.head set z
-      ∙ ap (λ k. record { more = k; text = text_chars text; kind = kind; set = set }) one_less)
+      (rw one_less at (rule_at set w c z b x are_incomplete parts ∙ settles.head set z))
 
   pub settled_first : (set : ℕ) (w : List ℕ) (c : ℕ) (z : List ℕ) (n : ℕ) (text : Text)
       (kind : Kind)
@@ -113,27 +118,14 @@ module _ (prefix : List ℕ → Prefix) where
       → sequences_of (multi_byte_rule prefix) set (w ++ c ∷ z)
       ≡ record { bytes = take n (w ++ c ∷ []); text = text_chars text; kind = kind; set = set }
       ∷ sequences_of (multi_byte_rule prefix) set (drop n (w ++ c ∷ []) ++ z)
-  settled_first set w c z n text kind u settles =
-      first_case w u settles
-      ∙ ap (λ x. record { bytes = x; text = text_chars text; kind = kind; set = set }
-      ∷ sequences_of (multi_byte_rule prefix) set (drop n (w ++ c ∷ z)))
-      (ap (take n) (sym (append_assoc w (c ∷ []) z)) ∙ take-append-le n (w ++ c ∷ []) z settles.own)
-      ∙ ap (λ x. record {
-        bytes = take n (w ++ c ∷ []);
-        text = text_chars text;
-        kind = kind;
-        set = set;
-      } ∷ sequences_of (multi_byte_rule prefix) set x)
-      (ap (drop n) (sym (append_assoc w (c ∷ []) z)) ∙ drop-append-le n (w ++ c ∷ []) z settles.own)
-    where
-      first_case : (w : List ℕ) → AreIncomplete prefix [] w → Settles (w ++ c ∷ []) n text kind
-          → sequences_of (multi_byte_rule prefix) set (w ++ c ∷ z)
-          ≡ record { bytes = take n (w ++ c ∷ z); text = text_chars text; kind = kind; set = set }
-          ∷ sequences_of (multi_byte_rule prefix) set (drop n (w ++ c ∷ z))
-      first_case [] are_incomplete settles =
-          settled_sequences set [] c z n text kind c z are_incomplete settles refl
-      first_case (a ∷ w) are_incomplete settles =
-          settled_sequences set (a ∷ w) c z n text kind a (w ++ c ∷ z) are_incomplete settles refl
+  settled_first set w c z n text kind are_incomplete settles =
+      let parts = (cons_of w c z).2 in
+      rw (
+        ← take-append-le n (w ++ c ∷ []) z settles.own,
+        ← drop-append-le n (w ++ c ∷ []) z settles.own,
+        append_assoc w (c ∷ []) z,
+        ← parts,
+      ) (settled_sequences set w c z n are_incomplete settles parts)
 
   -- where the input ends before, all of them are malformed
   pub all_malformed : (set a : ℕ) (w : List ℕ) → AreIncomplete prefix [] (a ∷ w)

@@ -4,7 +4,6 @@ pub mod Utf8Undetermined
 pub mod Utf8Comes
 pub mod Utf8Rule
 pub mod Utf8Pieces
-pub mod Utf8Replaced
 pub mod Utf16Lemmas
 pub mod Utf16Rule
 pub mod Utf16Undetermined

@@ -1,19 +1,19 @@
 -- The decoder of whole inputs, by the first sequence and the bytes after it.
-use Rattle.std.proofs.Common.{◌≡◌, ℕ, ◌+◌, ◌-◌, ◌<◌, ◌≤◌, suc, Bool, true, false, List, [], ◌∷◌, ◌++◌, length}
-use Rattle.std.proofs.Common.{get_or, take, drop, refl, ap, ◌∙◌, sym, eqb, cond, arith, append_assoc, append-nil, ◌||◌}
-use Rattle.std.proofs.Common.{drop-drop}
+use Rattle.std.proofs.Common.{◌≡◌, ℕ, ◌+◌, ◌-◌, ◌<◌, ◌≤◌, suc, Bool, true, List, [], ◌∷◌, ◌++◌, length}
+use Rattle.std.proofs.Common.{get_or, take, drop, refl, ap, ◌∙◌, sym, arith, append_assoc, append-nil, ◌||◌}
+use Rattle.std.proofs.Common.{drop-drop, subst, length-drop}
 use Rattle.std.proofs.Math.ListN.{drop_of_length-le}
 use Rattle.std.proofs.lemmas.Bool.Decides.{nat_tests}
 use Rattle.std.specs.Char.{encode_utf8}
-use Rattle.enc_decoder.specs.declared.byte_codec.Kind.TheVariants.{Valid, Malformed}
 use Rattle.enc_units.specs.Output.{units_of_text}
 use Rattle.enc_decoder.specs.Sequence.{Sequence, sequence_text, is_malformed, any_malformed}
-use Rattle.enc_decoder.specs.Segmentation.{Head, head_sequence, sequences_of}
-use Rattle.enc_decoder_utf.specs.Utf8.{sequence_len, is_second_byte, is_continuation, continuing_len}
+use Rattle.enc_decoder.specs.Segmentation.{Head, character_head, malformed_head, head_sequence, sequences_of}
+use Rattle.enc_decoder_utf.specs.Utf8.{sequence_len, is_second_byte, is_continuation}
 use Rattle.enc_decoder_utf.specs.Utf8.{well_formed_tail_len, scalar_of, utf_8_rule}
 use Rattle.enc_decoder.proofs.SequenceLemmas.{or_assoc, or_false}
 use Rattle.enc_decoder.proofs.SegmentationLemmas.{sequences_of-cons, sequences_of-nil}
-use Rattle.enc_decoder_utf.proofs.Utf8Lemmas.{valid_head, malformed_head}
+use Rattle.enc_decoder_utf.proofs.Utf8Lemmas.{holds_of_first, whole_head, short_head, well_formed_tail_len-within}
+use Rattle.enc_decoder_utf.proofs.Utf8Lemmas.{AreFollowing, reached_follow, continues_as_second}
 
 -- what a sequence that is reached as a whole is made of
 
@@ -24,69 +24,50 @@ pub record Whole4 (a : ℕ) (z : List ℕ) : Type 0 where
   pub fourth : is_continuation (get_or z 2 0) ≡ true
   pub bytes : take (well_formed_tail_len a z) z ≡ get_or z 0 0 ∷ get_or z 1 0 ∷ get_or z 2 0 ∷ []
 
--- a byte that passes is counted with those after it
-counted : (passes : Bool) (n m : ℕ) → cond passes (suc n) 0 ≡ suc m → (passes ≡ true) × (n ≡ m)
-counted true n m count_is = (refl, omega arith)
-counted false n m count_is = absurd (omega arith)
-
 pub whole_four : (a : ℕ) (z : List ℕ) → sequence_len a ≡ 4
     → well_formed_tail_len a z + 1 ≡ sequence_len a → Whole4 a z
 whole_four a z four whole =
     let reaches_all : well_formed_tail_len a z ≡ 3 = omega arith in
-    let three_more : sequence_len a - 1 ≡ 3 = omega arith in
-    of_bytes z (ap (λ n. continuing_len a n z) (sym three_more) ∙ reaches_all) reaches_all
+    let within = well_formed_tail_len-within a z in
+    of_bytes z (omega arith) reaches_all
+    (subst (λ k. AreFollowing a (take k z)) reaches_all (reached_follow a (sequence_len a - 1) z))
   where
-    of_bytes : (z : List ℕ) → continuing_len a 3 z ≡ 3 → well_formed_tail_len a z ≡ 3 → Whole4 a z
-    of_bytes [] three reach = absurd (omega arith)
-    of_bytes (b ∷ []) three reach =
-        let second = counted (is_second_byte a b) _ 2 three in absurd (omega (arith, second.1))
-    of_bytes (b ∷ c ∷ []) three reach =
-        let second = counted (is_second_byte a b) _ 2 three in
-        let third = counted (is_continuation c) _ 1 second.1 in absurd (omega (arith, third.1))
-    of_bytes (b ∷ c ∷ d ∷ z) three reach =
-        let second = counted (is_second_byte a b) _ 2 three in
-        let third = counted (is_continuation c) _ 1 second.1 in
-        record {
-          some = omega arith;
-          second = second.0;
-          third = third.0;
-          fourth = (counted (is_continuation d) _ 0 third.1).0;
-          bytes = rw reach refl;
-        }
+    of_bytes : (z : List ℕ) → 3 ≤ length z → well_formed_tail_len a z ≡ 3
+        → AreFollowing a (take 3 z) → Whole4 a z
+    of_bytes [] some reach follow = absurd (omega arith)
+    of_bytes (b ∷ []) some reach follow = absurd (omega arith)
+    of_bytes (b ∷ c ∷ []) some reach follow = absurd (omega arith)
+    of_bytes (b ∷ c ∷ d ∷ z) some reach follow = record {
+      some = omega arith;
+      second = follow.0;
+      third = sym (continues_as_second c) ∙ follow.1.0;
+      fourth = sym (continues_as_second d) ∙ follow.1.1.0;
+      bytes = rw reach refl;
+    }
 
 -- the head of the rule, by whether the sequence is whole
 
 module _ (lead : ℕ) (rest : List ℕ) {more len : ℕ} {after : List ℕ} (next : after ≡ drop 1 rest)
     (reach : more ≡ well_formed_tail_len lead after) (by_lead : len ≡ sequence_len lead) where
   pub whole_front : more + 1 ≡ len
-      → utf_8_rule 0 lead (drop 1 rest) ≡ record {
-        more = more;
-        text = scalar_of (lead ∷ take (well_formed_tail_len lead after) after) ∷ [];
-        kind = Valid;
-        set = 0;
-      }
-  whole_front e =
-      rw (sym next, sym reach) (valid_head lead after more (sym reach) (grind (arith, nat_tests)))
+      → utf_8_rule 0 lead (drop 1 rest)
+      ≡ character_head 0 more (scalar_of (lead ∷ take (well_formed_tail_len lead after) after))
+  whole_front whole =
+      rw (sym next, sym reach) (whole_head 0 lead after (sym reach) (grind (arith, nat_tests)))
 
   pub malformed_front : (more + 1 ≡ len → ⊥)
-      → utf_8_rule 0 lead (drop 1 rest) ≡ record {
-        more = more;
-        text = 0xFFFD ∷ [];
-        kind = Malformed;
-        set = 0;
-      }
-  malformed_front e =
-      rw (sym next) (malformed_head lead after more (sym reach) (grind (arith, nat_tests)))
+      → utf_8_rule 0 lead (drop 1 rest) ≡ malformed_head 0 more
+  malformed_front short =
+      rw (sym next) (short_head 0 lead after (sym reach) (grind (arith, nat_tests)))
+
+  pub front_within : 0 < length rest → more + 1 ≤ length rest
+  front_within some =
+      let within = well_formed_tail_len-within lead after in
+      omega (arith, ap length next, length-drop 1 rest)
 
 -- no sequence changes the designated character set
-
-either_set : (t : Bool) (x y : Head) → x.set ≡ 0 → y.set ≡ 0 → Head.set (cond t x y) ≡ 0
-either_set true x y e f = e
-either_set false x y e f = f
-
 rule_set : (b : ℕ) (z : List ℕ) → (utf_8_rule 0 b z).set ≡ 0
-unfolding utf_8_rule
-rule_set b z = either_set (eqb (well_formed_tail_len b z + 1) (sequence_len b)) _ _ refl refl
+rule_set b z = holds_of_first (λ h. h.set ≡ 0) 0 b z (λ _. refl) refl
 
 -- what a sequence found at the front adds to the text and to the errors
 

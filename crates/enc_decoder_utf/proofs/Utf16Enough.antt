@@ -1,6 +1,6 @@
 -- Which lengths are enough for UTF-16.
 use Rattle.std.proofs.Common.{◌≡◌, ℕ, ◌+◌, ◌*◌, ◌/◌, ◌<◌, ◌≤◌, suc, Bool, true, false, Some, List, [], ◌∷◌, ◌++◌}
-use Rattle.std.proofs.Common.{zero, length, drop, refl, ap, ◌∙◌, arith}
+use Rattle.std.proofs.Common.{zero, length, drop, refl, ap, arith}
 use Rattle.std.proofs.lemmas.List.{length-append}
 use Rattle.std.specs.Char.{encode_utf8}
 use Rattle.std.specs.Char.Escape.{encode_utf16}
@@ -18,7 +18,7 @@ use Rattle.enc_decoder.specs.declared.text_lengths.TextLengths.TheVariants as le
 use Rattle.enc_decoder.specs.Need.{NeedExceeds, AreEnoughForCodec, IsBmpText}
 use Rattle.enc_decoder.proofs.RuleLemmas.{one_small}
 use Rattle.enc_decoder.proofs.NeedLemmas.{units, units-both, units-one}
-use Rattle.enc_decoder.proofs.EnoughLemmas.{plus_is, times_is, half_is, same_some, needed_less, needs_all, basic_by}
+use Rattle.enc_decoder.proofs.EnoughLemmas.{plus_is, times_is, half_is, sum_is, needed_less, needs_all, basic_by}
 use Rattle.enc_decoder_utf.specs.Utf16.{code_unit, pair_scalar, utf_16_rule}
 use Rattle.enc_decoder_utf.specs.Utf16State.{Utf16State, begins_with_lead, utf_16_state}
 use Rattle.enc_decoder_utf.proofs.Utf16Lemmas.{lead_range, holds_of_first, has_form}
@@ -95,14 +95,10 @@ module _ (units_of : ℕ → List ℕ) (each : ℕ) (most : ℕ → ℕ) (one : 
   unfolding sequences_after
   with_rest set b z extra slack unit rest =
       let head = rule set b z in
-      omega (
-        arith,
-        first_is_within set b z extra unit,
-        rest,
-        units-both units_of (head_sequence head b z ∷ [])
-            (sequences_after rule head.set head.more z),
-        units-one units_of (head_sequence head b z) head.text refl,
-      )
+      let others = sequences_after rule head.set head.more z in
+      let first_units = first_is_within set b z extra unit in
+      let both = units-both units_of (head_sequence head b z ∷ []) others in
+      omega (arith, units-one units_of (head_sequence head b z) head.text refl)
 
   bytes_bounded : (set k : ℕ) (z : List ℕ) → AreBytes z → after set k z ≤ most (length (drop k z))
   unfolding sequences_after
@@ -112,10 +108,8 @@ module _ (units_of : ℕ → List ℕ) (each : ℕ) (most : ℕ → ℕ) (one : 
   bytes_bounded set zero (b ∷ z) are_bytes =
       let head = rule set b z in
       let rest = bytes_bounded head.set head.more z are_bytes.1 in
-      omega (
-        arith,
-        with_rest set b z 0 0 (bytes_are_within b z are_bytes.0 are_bytes.1) (omega (arith, rest)),
-      )
+      let unit = bytes_are_within b z are_bytes.0 are_bytes.1 in
+      omega (arith, with_rest set b z 0 0 unit (omega (arith, rest)))
 
   -- after a pending byte, and after two or three: the first sequence has two of these at least
 
@@ -145,37 +139,28 @@ module _ (units_of : ℕ → List ℕ) (each : ℕ) (most : ℕ → ℕ) (one : 
   pending_bounded Nothing z leads are_bytes = omega (arith, bytes_bounded 0 0 z are_bytes)
   pending_bounded (One b) z leads are_bytes = first_bounded 0 b z are_bytes
   pending_bounded (Two b c) z leads are_bytes =
+      let head = rule 0 b (c ∷ z) in
       let some_more = (has_form s.big_endian 0 b (c ∷ z)).some_more (omega arith) in
-      let rest = past_one (rule 0 b (c ∷ z)).set (rule 0 b (c ∷ z)).more c z some_more are_bytes in
-      omega (
-        arith,
-        with_rest 0 b (c ∷ z) 1 0 (any_is_within b (c ∷ z)) (omega (arith, rest)),
-      )
+      let rest = past_one head.set head.more c z some_more are_bytes in
+      omega (arith, with_rest 0 b (c ∷ z) 1 0 (any_is_within b (c ∷ z)) (omega (arith, rest)))
   pending_bounded (Three b c d) z leads are_bytes =
+      let head = rule 0 b (c ∷ d ∷ z) in
       let some_more = (has_form s.big_endian 0 b (c ∷ d ∷ z)).some_more (omega arith) in
       let lead_in_range = lead_range (code_unit s.big_endian b c) leads in
-      let is_basic = basic _
-      (basic_by (code_unit s.big_endian b c) (omega (arith, lead_in_range.1))) in
-      omega (
-        arith,
-        with_rest 0 b (c ∷ d ∷ z) 0 1 (omega (arith, is_basic))
-            (past_two (rule 0 b (c ∷ d ∷ z)).set (rule 0 b (c ∷ d ∷ z)).more c d z some_more
-            are_bytes),
-      )
+      let is_basic = basic _ (basic_by (code_unit s.big_endian b c) (omega arith)) in
+      let rest = past_two head.set head.more c d z some_more are_bytes in
+      omega (arith, with_rest 0 b (c ∷ d ∷ z) 0 1 (omega (arith, is_basic)) rest)
 
   never : begins_with_lead s.big_endian s.pending ≡ true
       → (mode : DecodeErrorMode) (src : List ℕ) (last : Bool) (n : ℕ) → AreBytes src
       → most (length (bytes_of_pending s.pending) + length src) + 1 ≤ n
       → NeedExceeds units_of mode (remainder_of (utf_16_state s)) src last n → ⊥
   never leads mode src last n are_bytes enough exceeds =
-      omega (
-        arith,
-        enough,
-        pending_bounded s.pending src leads are_bytes,
-        ap most (length-append (bytes_of_pending s.pending) src),
-        needed_less units_of mode (sequences_of rule 0 (bytes_of_pending s.pending ++ src)),
-        needs_all units_of mode (utf_16_state s) src last n exceeds,
-      )
+      let pending = bytes_of_pending s.pending in
+      let bound = pending_bounded s.pending src leads are_bytes in
+      let same_most = ap most (length-append pending src) in
+      let less = needed_less units_of mode (sequences_of rule 0 (pending ++ src)) in
+      omega (arith, needs_all units_of mode (utf_16_state s) src last n exceeds)
 
 -- the formulas: as many code units as pairs of bytes, rounded up, and one more
 
@@ -184,53 +169,43 @@ halved : (n h q : ℕ) → checked_half (checked_add (checked_add (Some n) h) 1)
 halved n h q e =
     let half = half_is (checked_add (checked_add (Some n) h) 1) q e in
     let sum = plus_is (checked_add (Some n) h) 1 half.0 half.1 in
-    let first_sum = plus_is (Some n) h sum.0 sum.1 in
-    half.2 ∙ ap (λ m. m / 2)
-    (omega (arith, sum.2, first_sum.2, same_some n first_sum.0 first_sum.1))
+    let is_sum = sum_is n h sum.0 sum.1 in omega arith
 
 thrice : (n h q : ℕ) →
     checked_add (checked_mul (checked_half (checked_add (checked_add (Some n) h) 1)) 3) 1 ≡ Some q
     → q ≡ 3 * ((h + n + 1) / 2) + 1
 thrice n h q e =
-    let sum = plus_is (checked_mul (checked_half (checked_add (checked_add (Some n) h) 1)) 3) 1 q
-    e in
-    let product = times_is (checked_half (checked_add (checked_add (Some n) h) 1)) 3 sum.0 sum.1 in
-    omega (arith, sum.2, product.2, halved n h product.0 product.1)
+    let half = checked_half (checked_add (checked_add (Some n) h) 1) in
+    let sum = plus_is (checked_mul half 3) 1 q e in
+    let product = times_is half 3 sum.0 sum.1 in
+    omega (arith, halved n h product.0 product.1)
 
 once : (n h q : ℕ) → checked_add (checked_half (checked_add (checked_add (Some n) h) 1)) 1 ≡ Some q
     → q ≡ (h + n + 1) / 2 + 1
 once n h q e =
     let sum = plus_is (checked_half (checked_add (checked_add (Some n) h) 1)) 1 q e in
-    omega (arith, sum.2, halved n h sum.0 sum.1)
+    omega (arith, halved n h sum.0 sum.1)
 
-module _ (s : Utf16State) (lead_first : begins_with_lead s.big_endian s.pending ≡ true) where
-  never_utf_8 : (mode : DecodeErrorMode) (src : List ℕ) (last : Bool) (n : ℕ) → AreBytes src
-      → 3 * ((length (bytes_of_pending s.pending) + length src + 1) / 2) + 1 ≤ n
-      → NeedExceeds encode_utf8 mode (remainder_of (utf_16_state s)) src last n → ⊥
-  never_utf_8 =
-      never encode_utf8 3 (λ n. 3 * ((n + 1) / 2)) (omega arith) (λ n. omega arith)
-      (λ t small. small.utf_8)
-      (λ t small. (omega (arith, small.utf_8), omega (arith, small.utf_8)))
-      s lead_first
-
-  never_utf_16 : (mode : DecodeErrorMode) (src : List ℕ) (last : Bool) (n : ℕ) → AreBytes src
-      → (length (bytes_of_pending s.pending) + length src + 1) / 2 + 1 ≤ n
-      → NeedExceeds encode_utf16 mode (remainder_of (utf_16_state s)) src last n → ⊥
-  never_utf_16 =
-      never encode_utf16 1 (λ n. (n + 1) / 2) (omega arith) (λ n. omega arith)
-      (λ t small. small.utf_16)
-      (λ t small. (omega (arith, small.utf_16), omega (arith, small.utf_16)))
-      s lead_first
-
-  pub utf_16_enough : AreEnoughForCodec lengths.Utf16 (utf_16_state s)
-  utf_16_enough = record {
-    utf_8 = λ src last n a e.
-        never_utf_8 Replacement src last n a
-        (omega (arith, thrice (length src) (length (bytes_of_pending s.pending)) n e));
-    reporting = λ keeps src last n a e.
-        never_utf_8 (Fatal keeps) src last n a
-        (omega (arith, thrice (length src) (length (bytes_of_pending s.pending)) n e));
-    utf_16 = λ mode src last n a e.
-        never_utf_16 mode src last n a
-        (omega (arith, once (length src) (length (bytes_of_pending s.pending)) n e));
-  }
+pub utf_16_enough : (s : Utf16State) → begins_with_lead s.big_endian s.pending ≡ true
+    → AreEnoughForCodec lengths.Utf16 (utf_16_state s)
+utf_16_enough s lead_first =
+    let held = length (bytes_of_pending s.pending) in
+    let never_utf_8 =
+    never encode_utf8 3 (λ n. 3 * ((n + 1) / 2)) (omega arith) (λ n. omega arith)
+    (λ t small. small.utf_8)
+    (λ t small. (omega (arith, small.utf_8), omega (arith, small.utf_8))) s lead_first in
+    let never_utf_16 =
+    never encode_utf16 1 (λ n. (n + 1) / 2) (omega arith) (λ n. omega arith)
+    (λ t small. small.utf_16)
+    (λ t small. (omega (arith, small.utf_16), omega (arith, small.utf_16))) s lead_first in
+    record {
+      utf_8 = λ src last n are_bytes is_length.
+          never_utf_8 Replacement src last n are_bytes
+          (omega (arith, thrice (length src) held n is_length));
+      reporting = λ keeps src last n are_bytes is_length.
+          never_utf_8 (Fatal keeps) src last n are_bytes
+          (omega (arith, thrice (length src) held n is_length));
+      utf_16 = λ mode src last n are_bytes is_length.
+          never_utf_16 mode src last n are_bytes
+          (omega (arith, once (length src) held n is_length));
+    }

@@ -1,23 +1,19 @@
 -- The laws of UTF-16's rule. The own bytes of a sequence determine it. A lead surrogate that no
 -- trail follows is determined by the next code unit, and the last bytes of a code unit or a pair
 -- that is cut off by the end.
-use Rattle.std.proofs.Common.{◌≡◌, ℕ, ◌<◌, Bool, true, false, List, [], ◌∷◌, refl, ap, ◌∙◌, sym, arith, subst}
+use Rattle.std.proofs.Common.{◌≡◌, ℕ, ◌<◌, Bool, true, false, cond, List, [], ◌∷◌, refl, ap, sym, arith, subst}
 use Rattle.std.proofs.Common.{◌⊎◌, inl, inr}
 use Rattle.enc_decoder.specs.declared.byte_codec.Kind.TheVariants.{Valid}
-use Rattle.enc_decoder.specs.Segmentation.{Head}
+use Rattle.enc_decoder.specs.Segmentation.{Head, character_head, malformed_head}
 use Rattle.enc_decoder.specs.RuleLaws.{HasTexts, IsSmallText, IsDeterminedWithin, IsLookahead, IsDeterminedByEnd}
 use Rattle.enc_decoder.specs.RuleLaws.{HasBoundedLookahead, IsLawfulRule}
 use Rattle.enc_decoder.specs.Latin1.{HasNoByteSequences}
-use Rattle.enc_decoder_utf.specs.Utf16.{code_unit, is_lead_surrogate, is_trail_surrogate, utf_16_rule}
+use Rattle.enc_decoder_utf.specs.Utf16.{code_unit, is_trail_surrogate, utf_16_rule}
 use Rattle.enc_decoder.proofs.RuleLemmas.{one_small}
-use Rattle.enc_decoder.proofs.FirstSequenceLemmas.{true_or_false, determined_by_head, looks_by, lookahead_by}
-use Rattle.enc_decoder_utf.proofs.Utf16Lemmas.{one_head, character_first, trail_first, lead_at_end, lead_and_byte}
+use Rattle.enc_decoder.proofs.EndLemmas.{by_end_of}
+use Rattle.enc_decoder.proofs.FirstSequenceLemmas.{determined_by_head, looks_by, lookahead_by}
+use Rattle.enc_decoder_utf.proofs.Utf16Lemmas.{Leads, Trails, one_head, character_first, trail_first, lead_first}
 use Rattle.enc_decoder_utf.proofs.Utf16Lemmas.{pair_first, lead_alone, holds_of_first, has_form}
-
--- heads that differ
-
-more_differs : {h k x y : Head} → x ≡ h → y ≡ k → (h.more ≡ k.more → ⊥) → x ≡ y → ⊥
-more_differs e f n q = n (ap (λ (t : Head). t.more) (sym e ∙ q ∙ f))
 
 -- a trail surrogate
 trail_exists : (big : Bool)
@@ -29,50 +25,35 @@ trail_exists false = (0, 0xDC, omega arith, omega arith, refl)
 module _ (big : Bool) where
   -- sequences that only the end of the input determines
 
-  two_bytes : (set b c : ℕ) → (utf_16_rule big set b (c ∷ [])).more ≡ 1
-  two_bytes set b c =
-      let form = has_form big set b (c ∷ []) in
-      let some_more = form.some_more (omega arith) in omega (arith, form.within, some_more)
-
   pub one_by_end : (set b : ℕ) → IsDeterminedByEnd (utf_16_rule big) set b []
-  one_by_end set b = record {
-    within = (let more_is = ap (λ (h : Head). h.more) (one_head big set b) in
-        omega (arith, more_is));
-    more = 0 ∷ [];
-    bytes = (omega arith, tt);
-    other = more_differs refl (one_head big set b)
-        (λ q. let more_is = two_bytes set b 0 in omega arith);
-    near = omega arith;
-  }
+  one_by_end set b =
+      let some_more = (has_form big set b (0 ∷ [])).some_more (omega arith) in
+      by_end_of (utf_16_rule big) set b [] (0 ∷ []) (one_head big set b) refl
+      (λ same. let more_is = ap (λ (h : Head). h.more) same in omega arith) (omega arith, tt)
+      (omega arith) (omega arith)
 
-  pub lead_by_end : (set b c : ℕ) → is_lead_surrogate (code_unit big b c) ≡ true
+  pub lead_by_end : (set b c : ℕ) → Leads big true b c
       → IsDeterminedByEnd (utf_16_rule big) set b (c ∷ [])
-  lead_by_end set b c is_lead =
-      let trail = trail_exists big in record {
-        within = (let more_is = ap (λ (h : Head). h.more) (lead_at_end big set b c is_lead) in
-            omega (arith, more_is));
-        more = trail.0 ∷ trail.1 ∷ [];
-        bytes = (trail.2, (trail.3, tt));
-        other = more_differs (pair_first big set b c trail.0 trail.1 [] is_lead trail.4)
-            (lead_at_end big set b c is_lead) (λ q. omega arith);
-        near = omega arith;
-      }
+  lead_by_end set b c leads =
+      let trail = trail_exists big in
+      by_end_of (utf_16_rule big) set b (c ∷ []) (trail.0 ∷ trail.1 ∷ [])
+      (lead_first big set b c [] leads) (pair_first big set b c trail.0 trail.1 [] leads trail.4)
+      (λ same. let kinds_agree = ap (λ (h : Head). h.kind) same in cc)
+      (trail.2, (trail.3, tt)) (omega arith) (omega arith)
 
-  pub three_by_end : (set b c d : ℕ) → is_lead_surrogate (code_unit big b c) ≡ true
+  pub three_by_end : (set b c d : ℕ) → Leads big true b c
       → IsDeterminedByEnd (utf_16_rule big) set b (c ∷ d ∷ [])
-  three_by_end set b c d is_lead = record {
-    within = (let more_is = ap (λ (h : Head). h.more) (lead_and_byte big set b c d is_lead) in
-        omega (arith, more_is));
-    more = 0 ∷ [];
-    bytes = (omega arith, tt);
-    other =
-        let end = lead_and_byte big set b c d is_lead in
-        elim (true_or_false (is_trail_surrogate (code_unit big d 0))) [
-          | inl t ↦ more_differs (pair_first big set b c d 0 [] is_lead t) end (λ q. omega arith)
-          | inr n ↦ more_differs (lead_alone big set b c d 0 [] is_lead n) end (λ q. omega arith)
-        ];
-    near = omega arith;
-  }
+  three_by_end set b c d leads =
+      by_end_of (utf_16_rule big) set b (c ∷ d ∷ []) (0 ∷ []) (lead_first big set b c (d ∷ []) leads)
+      (lead_first big set b c (d ∷ 0 ∷ []) leads)
+      (λ same. not_two_more (is_trail_surrogate (code_unit big d 0)) _
+      (ap (λ (h : Head). h.more) same))
+      (omega arith, tt) (omega arith) (omega arith)
+    where
+      not_two_more : (trails : Bool) (character : ℕ)
+          → (cond trails (character_head set 3 character) (malformed_head set 1)).more ≡ 2 → ⊥
+      not_two_more true character more_is = omega arith
+      not_two_more false character more_is = omega arith
 
   -- every sequence
 
@@ -80,8 +61,7 @@ module _ (big : Bool) where
   IsDeterminedSoonWith set b z h = IsDeterminedWithin (utf_16_rule big) set b z 0
       ⊎ ((h.kind ≡ Valid → ⊥) × HasBoundedLookahead (utf_16_rule big) set b z)
 
-  alone_looks : (set b c d e : ℕ) (z : List ℕ) → is_lead_surrogate (code_unit big b c) ≡ true
-      → is_trail_surrogate (code_unit big d e) ≡ false
+  alone_looks : (set b c d e : ℕ) (z : List ℕ) → Leads big true b c → Trails big false d e
       → IsLookahead (utf_16_rule big) set b (c ∷ d ∷ e ∷ z) 2
   alone_looks set b c d e z leads other =
       let alone = λ (y : List ℕ). lead_alone big set b c d e y leads other in

@@ -1,17 +1,18 @@
 -- The sequences of UTF-8, by the bytes in front, and the scalar values of those that are
 -- well-formed.
 use Rattle.std.proofs.Common.{◌≡◌, ℕ, ◌+◌, ◌-◌, ◌<◌, ◌≤◌, zero, suc, true, false, List, [], ◌∷◌, length, take, drop}
-use Rattle.std.proofs.Common.{refl}
-use Rattle.std.proofs.Common.{ap, ◌∙◌, eqb, ◌⊎◌, arith, inl, inr}
-use Rattle.enc_decoder.proofs.FirstSequenceLemmas.{true_or_false}
+use Rattle.std.proofs.Common.{refl, ap, ◌∙◌, eqb, ◌⊎◌, arith, inl, inr}
+use Rattle.std.proofs.Math.Seq.{take-length, drop-length}
 use Rattle.std.proofs.lemmas.Bool.Decides.{nat_tests, leb_tells}
 use Rattle.std.specs.Char.{InScalarRange}
 use Rattle.enc_decoder.specs.declared.byte_codec.Kind.TheVariants.{Valid, Malformed}
 use Rattle.enc_decoder.specs.Sequence.{Sequence}
-use Rattle.enc_decoder.specs.Segmentation.{sequences_of}
+use Rattle.enc_decoder.specs.Segmentation.{Head, sequences_of, character_head, malformed_head}
+use Rattle.enc_decoder.specs.Taking.{IsSequenceBefore}
+use Rattle.enc_decoder.proofs.FirstSequenceLemmas.{true_or_false}
+use Rattle.enc_decoder.proofs.SegmentationLemmas.{sequences_of-head, sequences_of-nil}
 use Rattle.enc_decoder_utf.specs.Utf8.{sequence_len, is_second_byte, is_continuation, continuations, continuing_len}
 use Rattle.enc_decoder_utf.specs.Utf8.{well_formed_tail_len, scalar_of, utf_8_rule}
-use Rattle.enc_decoder.proofs.SegmentationLemmas.{sequences_of-head, sequences_of-nil}
 
 abbrev pub valid_sequence : List ℕ → Sequence
 valid_sequence bytes = record { bytes = bytes; text = scalar_of bytes ∷ []; kind = Valid; set = 0 }
@@ -19,50 +20,88 @@ valid_sequence bytes = record { bytes = bytes; text = scalar_of bytes ∷ []; ki
 abbrev pub malformed_sequence : List ℕ → Sequence
 malformed_sequence bytes = record { bytes = bytes; text = 0xFFFD ∷ []; kind = Malformed; set = 0 }
 
--- the first sequence
+-- these bytes are a character, or malformed, if z follows them
 
-pub valid_head : (b : ℕ) (z : List ℕ) (m : ℕ) → well_formed_tail_len b z ≡ m
-    → eqb (m + 1) (sequence_len b) ≡ true
-    → utf_8_rule 0 b z ≡ record {
-      more = m;
-      text = scalar_of (b ∷ take m z) ∷ [];
-      kind = Valid;
-      set = 0;
-    }
-unfolding utf_8_rule
-valid_head b z m r e = rw (r, e) refl
+abbrev pub IsCharBefore : List ℕ → List ℕ → Type 0
+IsCharBefore z bytes = IsSequenceBefore z Valid utf_8_rule 0 bytes (scalar_of bytes)
 
-pub malformed_head : (b : ℕ) (z : List ℕ) (m : ℕ) → well_formed_tail_len b z ≡ m
-    → eqb (m + 1) (sequence_len b) ≡ false
-    → utf_8_rule 0 b z ≡ record { more = m; text = 0xFFFD ∷ []; kind = Malformed; set = 0 }
-unfolding utf_8_rule
-malformed_head b z m r e = rw (r, e) refl
+abbrev pub IsMalformedBefore : List ℕ → List ℕ → Type 0
+IsMalformedBefore z bytes = IsSequenceBefore z Malformed utf_8_rule 0 bytes 0xFFFD
 
-valid_first : (b : ℕ) (z : List ℕ) (m : ℕ) → well_formed_tail_len b z ≡ m
-    → eqb (m + 1) (sequence_len b) ≡ true
-    → sequences_of utf_8_rule 0 (b ∷ z) ≡ valid_sequence (b ∷ take m z)
-    ∷ sequences_of utf_8_rule 0 (drop m z)
-valid_first b z m r e = sequences_of-head utf_8_rule 0 b z _ (valid_head b z m r e)
+-- the first sequence, by how far the bytes reach
 
-malformed_first : (b : ℕ) (z : List ℕ) (m : ℕ) → well_formed_tail_len b z ≡ m
-    → eqb (m + 1) (sequence_len b) ≡ false
-    → sequences_of utf_8_rule 0 (b ∷ z) ≡ malformed_sequence (b ∷ take m z)
-    ∷ sequences_of utf_8_rule 0 (drop m z)
-malformed_first b z m r e = sequences_of-head utf_8_rule 0 b z _ (malformed_head b z m r e)
+module _ (set b : ℕ) (z : List ℕ) {m : ℕ} (reach : well_formed_tail_len b z ≡ m) where
+  pub whole_head : eqb (m + 1) (sequence_len b) ≡ true
+      → utf_8_rule set b z ≡ character_head set m (scalar_of (b ∷ take m z))
+  unfolding utf_8_rule
+  whole_head whole = rw (reach, whole) refl
+
+  pub short_head : eqb (m + 1) (sequence_len b) ≡ false → utf_8_rule set b z ≡ malformed_head set m
+  unfolding utf_8_rule
+  short_head short = rw (reach, short) refl
+
+-- what holds of a whole sequence, and of one that stops short, holds of the first sequence
+pub holds_of_first : (Holds : Head → Type 0) (set b : ℕ) (z : List ℕ)
+    → (sequence_len b ≡ suc (well_formed_tail_len b z)
+    → Holds (character_head set (well_formed_tail_len b z)
+    (scalar_of (b ∷ take (well_formed_tail_len b z) z))))
+    → Holds (malformed_head set (well_formed_tail_len b z)) → Holds (utf_8_rule set b z)
+holds_of_first Holds set b z whole short =
+    elim (true_or_false (eqb (well_formed_tail_len b z + 1) (sequence_len b))) [
+      | inl t ↦ rw (whole_head set b z refl t) (whole (grind (arith, nat_tests)))
+      | inr f ↦ rw (short_head set b z refl f) short
+    ]
+
+module _ (b : ℕ) (z : List ℕ) (m : ℕ) (reach : well_formed_tail_len b z ≡ m) where
+  valid_first : eqb (m + 1) (sequence_len b) ≡ true
+      → sequences_of utf_8_rule 0 (b ∷ z) ≡ valid_sequence (b ∷ take m z)
+      ∷ sequences_of utf_8_rule 0 (drop m z)
+  valid_first whole = sequences_of-head utf_8_rule 0 b z _ (whole_head 0 b z reach whole)
+
+  malformed_first : eqb (m + 1) (sequence_len b) ≡ false
+      → sequences_of utf_8_rule 0 (b ∷ z) ≡ malformed_sequence (b ∷ take m z)
+      ∷ sequences_of utf_8_rule 0 (drop m z)
+  malformed_first short = sequences_of-head utf_8_rule 0 b z _ (short_head 0 b z reach short)
 
 -- what the tests say
 
+-- the length of a sequence, by its first byte
+pub record HasLenByRange (b : ℕ) : Type 0 where
+  pub one : b < 0x80 → sequence_len b ≡ 1
+  pub none : 0x80 ≤ b → b < 0xC2 → sequence_len b ≡ 0
+  pub two : 0xC2 ≤ b → b < 0xE0 → sequence_len b ≡ 2
+  pub three : 0xE0 ≤ b → b < 0xF0 → sequence_len b ≡ 3
+  pub four : 0xF0 ≤ b → b < 0xF5 → sequence_len b ≡ 4
+  pub beyond : 0xF5 ≤ b → sequence_len b ≡ 0
+
+pub len_by_range : (b : ℕ) → HasLenByRange b
+unfolding sequence_len
+len_by_range b = record {
+  one = λ below. grind (arith, nat_tests);
+  none = λ from below. grind (arith, nat_tests);
+  two = λ from below. grind (arith, nat_tests);
+  three = λ from below. grind (arith, nat_tests);
+  four = λ from below. grind (arith, nat_tests);
+  beyond = λ from. grind (arith, nat_tests);
+}
+
+-- and the first byte, by the length
+
+pub one_range : (b : ℕ) → sequence_len b ≡ 1 → b < 0x80
+unfolding sequence_len
+one_range b one_byte = grind (arith, nat_tests)
+
 pub two_range : (b : ℕ) → sequence_len b ≡ 2 → (0xC2 ≤ b) × (b < 0xE0)
 unfolding sequence_len
-two_range b s = (grind (arith, nat_tests), grind (arith, nat_tests))
+two_range b two_bytes = (grind (arith, nat_tests), grind (arith, nat_tests))
 
 pub three_range : (b : ℕ) → sequence_len b ≡ 3 → (0xE0 ≤ b) × (b < 0xF0)
 unfolding sequence_len
-three_range b s = (grind (arith, nat_tests), grind (arith, nat_tests))
+three_range b three_bytes = (grind (arith, nat_tests), grind (arith, nat_tests))
 
 pub four_range : (b : ℕ) → sequence_len b ≡ 4 → (0xF0 ≤ b) × (b < 0xF5)
 unfolding sequence_len
-four_range b s = (grind (arith, nat_tests), grind (arith, nat_tests))
+four_range b four_bytes = (grind (arith, nat_tests), grind (arith, nat_tests))
 
 pub at_most_four : (b : ℕ) → sequence_len b ≤ 4
 unfolding sequence_len
@@ -84,30 +123,40 @@ second_range a b h = (
   grind (arith, nat_tests),
 )
 
+-- A third or a fourth byte continues a sequence as a second one does after 0.
+
+pub continues_as_second : (c : ℕ) → is_second_byte 0 c ≡ is_continuation c
+unfolding is_second_byte is_continuation
+continues_as_second c = refl
+
+pub continuations_as_second : (n : ℕ) (z : List ℕ) → continuations n z ≡ continuing_len 0 n z
+unfolding is_second_byte is_continuation
+continuations_as_second zero z = refl
+continuations_as_second (suc n) [] = refl
+continuations_as_second (suc n) (c ∷ z) = refl
+
 -- how far the bytes reach
+
+pub well_formed_tail_len-end : (a : ℕ) → well_formed_tail_len a [] ≡ 0
+well_formed_tail_len-end a =
+    elim (sequence_len a - 1) as (λ n. continuing_len a n [] ≡ 0) [ zero ↦ refl | suc n ↦ refl ]
 
 well_formed_tail_len-alone : (b : ℕ) (z : List ℕ) → sequence_len b ≤ 1
     → well_formed_tail_len b z ≡ 0
 well_formed_tail_len-alone b z h =
     let none_more : sequence_len b - 1 ≡ 0 = omega arith in rw none_more refl
 
-pub well_formed_tail_len-end : (a : ℕ) → well_formed_tail_len a [] ≡ 0
-well_formed_tail_len-end a =
-    elim (sequence_len a - 1) as (λ n. continuing_len a n [] ≡ 0) [ zero ↦ refl | suc n ↦ refl ]
+module _ (a b : ℕ) (z : List ℕ) (leads : 2 ≤ sequence_len a) where
+  some_more : sequence_len a - 1 ≡ suc (sequence_len a - 2)
+  some_more = omega arith
 
-pub well_formed_tail_len-no_second : (a b : ℕ) (z : List ℕ) → 2 ≤ sequence_len a
-    → is_second_byte a b ≡ false
-    → well_formed_tail_len a (b ∷ z) ≡ 0
-well_formed_tail_len-no_second a b z h e =
-    let some_more : sequence_len a - 1 ≡ suc (sequence_len a - 2) = omega arith in
-    rw (some_more, e) refl
+  pub well_formed_tail_len-no_second : is_second_byte a b ≡ false
+      → well_formed_tail_len a (b ∷ z) ≡ 0
+  well_formed_tail_len-no_second ends = rw (some_more, ends) refl
 
-pub well_formed_tail_len-second : (a b : ℕ) (z : List ℕ) → 2 ≤ sequence_len a
-    → is_second_byte a b ≡ true
-    → well_formed_tail_len a (b ∷ z) ≡ suc (continuations (sequence_len a - 2) z)
-well_formed_tail_len-second a b z h e =
-    let some_more : sequence_len a - 1 ≡ suc (sequence_len a - 2) = omega arith in
-    rw (some_more, e) refl
+  pub well_formed_tail_len-second : is_second_byte a b ≡ true
+      → well_formed_tail_len a (b ∷ z) ≡ suc (continuations (sequence_len a - 2) z)
+  well_formed_tail_len-second follows = rw (some_more, follows) refl
 
 continuations-none : (n c : ℕ) (z : List ℕ) → is_continuation c ≡ false
     → continuations n (c ∷ z) ≡ 0
@@ -120,161 +169,167 @@ continuations-end (suc n) = refl
 
 -- they reach no further than they are there and wanted
 
-pub continuations-within : (n : ℕ) (z : List ℕ) → (continuations n z ≤ n)
-    × (continuations n z ≤ length z)
-continuations-within zero z = (omega arith, omega arith)
-continuations-within (suc n) [] = (omega arith, omega arith)
-continuations-within (suc n) (c ∷ z) = elim (true_or_false (is_continuation c)) [
-  | inl t ↦ rw t (let rest_within = continuations-within n z in (omega arith, omega arith))
-  | inr f ↦ rw f (omega arith, omega arith)
-]
-
 pub continuing_len-within : (b n : ℕ) (z : List ℕ) → (continuing_len b n z ≤ n)
     × (continuing_len b n z ≤ length z)
 continuing_len-within b zero z = (omega arith, omega arith)
 continuing_len-within b (suc n) [] = (omega arith, omega arith)
 continuing_len-within b (suc n) (c ∷ z) = elim (true_or_false (is_second_byte b c)) [
-  | inl t ↦ rw t (let rest_within = continuations-within n z in (omega arith, omega arith))
+  | inl t ↦ rw (t, continuations_as_second n z)
+      (let rest_within = continuing_len-within 0 n z in (omega arith, omega arith))
   | inr f ↦ rw f (omega arith, omega arith)
 ]
 
 pub well_formed_tail_len-within : (b : ℕ) (z : List ℕ) → well_formed_tail_len b z ≤ length z
 well_formed_tail_len-within b z = (continuing_len-within b (sequence_len b - 1) z).1
 
+-- the bytes that are reached follow the first one
+abbrev pub AreFollowing : ℕ → List ℕ → Type 0
+AreFollowing b [] = Unit {0}
+AreFollowing b (c ∷ z) = (is_second_byte b c ≡ true) × AreFollowing 0 z
+
+pub reached_follow : (b n : ℕ) (z : List ℕ) → AreFollowing b (take (continuing_len b n z) z)
+reached_follow b zero z = tt
+reached_follow b (suc n) [] = tt
+reached_follow b (suc n) (c ∷ z) = elim (true_or_false (is_second_byte b c)) [
+  | inl t ↦ rw (t, continuations_as_second n z) (t, reached_follow 0 n z)
+  | inr f ↦ rw f tt
+]
+
 -- the first sequence of a byte that begins none, or that is a character by itself
 
-pub none_malformed : (b : ℕ) (z : List ℕ) → sequence_len b ≡ 0
-    → sequences_of utf_8_rule 0 (b ∷ z) ≡ malformed_sequence (b ∷ []) ∷ sequences_of utf_8_rule 0 z
+pub none_malformed : (b : ℕ) (z : List ℕ) → sequence_len b ≡ 0 → IsMalformedBefore z (b ∷ [])
 none_malformed b z s =
     malformed_first b z 0 (well_formed_tail_len-alone b z (omega arith)) (rw s refl)
 
-pub one_valid : (b : ℕ) (z : List ℕ) → sequence_len b ≡ 1
-    → sequences_of utf_8_rule 0 (b ∷ z) ≡ valid_sequence (b ∷ []) ∷ sequences_of utf_8_rule 0 z
+pub one_valid : (b : ℕ) (z : List ℕ) → sequence_len b ≡ 1 → IsCharBefore z (b ∷ [])
 one_valid b z s = valid_first b z 0 (well_formed_tail_len-alone b z (omega arith)) (rw s refl)
 
 -- a lead byte
 
-pub one_malformed : (a b : ℕ) (z : List ℕ) → 2 ≤ sequence_len a → is_second_byte a b ≡ false
-    → sequences_of utf_8_rule 0 (a ∷ b ∷ z) ≡ malformed_sequence (a ∷ [])
-    ∷ sequences_of utf_8_rule 0 (b ∷ z)
-one_malformed a b z s e =
-    malformed_first a (b ∷ z) 0 (well_formed_tail_len-no_second a b z s e)
-    (grind (arith, nat_tests))
+module _ (a b : ℕ) (z : List ℕ) where
+  pub one_malformed : 2 ≤ sequence_len a → is_second_byte a b ≡ false
+      → IsMalformedBefore (b ∷ z) (a ∷ [])
+  one_malformed leads ends =
+      malformed_first a (b ∷ z) 0 (well_formed_tail_len-no_second a b z leads ends)
+      (grind (arith, nat_tests))
 
-pub one_end : (a : ℕ) → 2 ≤ sequence_len a
-    → sequences_of utf_8_rule 0 (a ∷ []) ≡ malformed_sequence (a ∷ []) ∷ []
-one_end a s =
-    malformed_first a [] 0 (well_formed_tail_len-end a) (grind (arith, nat_tests))
-    ∙ ap (λ ss. malformed_sequence (a ∷ []) ∷ ss) (sequences_of-nil utf_8_rule 0)
-
-pub two_valid : (a b : ℕ) (z : List ℕ) → sequence_len a ≡ 2 → is_second_byte a b ≡ true
-    → sequences_of utf_8_rule 0 (a ∷ b ∷ z) ≡ valid_sequence (a ∷ b ∷ [])
-    ∷ sequences_of utf_8_rule 0 z
-two_valid a b z two_bytes e =
-    valid_first a (b ∷ z) 1 (well_formed_tail_len-second a b z (omega arith) e ∙ rw two_bytes refl)
-    (rw two_bytes refl)
+  pub two_valid : sequence_len a ≡ 2 → is_second_byte a b ≡ true → IsCharBefore z (a ∷ b ∷ [])
+  two_valid two_bytes follows =
+      valid_first a (b ∷ z) 1
+      (well_formed_tail_len-second a b z (omega arith) follows ∙ rw two_bytes refl)
+      (rw two_bytes refl)
 
 -- a lead byte and its second byte
 
-pub two_malformed : (a b c : ℕ) (z : List ℕ) → 3 ≤ sequence_len a → is_second_byte a b ≡ true
-    → is_continuation c ≡ false
-    → sequences_of utf_8_rule 0 (a ∷ b ∷ c ∷ z) ≡ malformed_sequence (a ∷ b ∷ [])
-    ∷ sequences_of utf_8_rule 0 (c ∷ z)
-two_malformed a b c z s e t =
-    malformed_first a (b ∷ c ∷ z) 1
-    (well_formed_tail_len-second a b (c ∷ z) (omega arith) e
-    ∙ ap suc (continuations-none (sequence_len a - 2) c z t))
-    (grind (arith, nat_tests))
+module _ (a b c : ℕ) (z : List ℕ) where
+  pub two_malformed : 3 ≤ sequence_len a → is_second_byte a b ≡ true → is_continuation c ≡ false
+      → IsMalformedBefore (c ∷ z) (a ∷ b ∷ [])
+  two_malformed leads follows ends =
+      malformed_first a (b ∷ c ∷ z) 1
+      (well_formed_tail_len-second a b (c ∷ z) (omega arith) follows
+      ∙ ap suc (continuations-none (sequence_len a - 2) c z ends))
+      (grind (arith, nat_tests))
 
-pub two_end : (a b : ℕ) → 3 ≤ sequence_len a → is_second_byte a b ≡ true
-    → sequences_of utf_8_rule 0 (a ∷ b ∷ []) ≡ malformed_sequence (a ∷ b ∷ []) ∷ []
-two_end a b s e =
-    malformed_first a (b ∷ []) 1
-    (well_formed_tail_len-second a b [] (omega arith) e
-    ∙ ap suc (continuations-end (sequence_len a - 2))) (grind (arith, nat_tests))
-    ∙ ap (λ ss. malformed_sequence (a ∷ b ∷ []) ∷ ss) (sequences_of-nil utf_8_rule 0)
-
-pub three_valid : (a b c : ℕ) (z : List ℕ) → sequence_len a ≡ 3 → is_second_byte a b ≡ true
-    → is_continuation c ≡ true
-    → sequences_of utf_8_rule 0 (a ∷ b ∷ c ∷ z) ≡ valid_sequence (a ∷ b ∷ c ∷ [])
-    ∷ sequences_of utf_8_rule 0 z
-three_valid a b c z three_bytes e t =
-    valid_first a (b ∷ c ∷ z) 2
-    (well_formed_tail_len-second a b (c ∷ z) (omega arith) e ∙ rw (three_bytes, t) refl)
-    (rw three_bytes refl)
+  pub three_valid : sequence_len a ≡ 3 → is_second_byte a b ≡ true → is_continuation c ≡ true
+      → IsCharBefore z (a ∷ b ∷ c ∷ [])
+  three_valid three_bytes follows continues =
+      valid_first a (b ∷ c ∷ z) 2
+      (well_formed_tail_len-second a b (c ∷ z) (omega arith) follows
+      ∙ rw (three_bytes, continues) refl)
+      (rw three_bytes refl)
 
 -- three bytes of four
 
-pub three_malformed : (a b c d : ℕ) (z : List ℕ)
-    → sequence_len a ≡ 4 → is_second_byte a b ≡ true → is_continuation c ≡ true
-    → is_continuation d ≡ false
-    → sequences_of utf_8_rule 0 (a ∷ b ∷ c ∷ d ∷ z) ≡ malformed_sequence (a ∷ b ∷ c ∷ [])
-    ∷ sequences_of utf_8_rule 0 (d ∷ z)
-three_malformed a b c d z four_bytes e t u =
-    malformed_first a (b ∷ c ∷ d ∷ z) 2 (well_formed_tail_len-second a b (c ∷ d ∷ z) (omega arith) e
-    ∙ rw (four_bytes, t, u) refl) (rw four_bytes refl)
+module _ (a b c d : ℕ) (z : List ℕ) (four_bytes : sequence_len a ≡ 4)
+    (follows : is_second_byte a b ≡ true) (continues : is_continuation c ≡ true) where
+  three_reached : well_formed_tail_len a (b ∷ c ∷ d ∷ z) ≡ suc (suc (continuations 1 (d ∷ z)))
+  three_reached = well_formed_tail_len-second a b (c ∷ d ∷ z) (omega arith) follows
+      ∙ rw (four_bytes, continues) refl
+
+  pub three_malformed : is_continuation d ≡ false → IsMalformedBefore (d ∷ z) (a ∷ b ∷ c ∷ [])
+  three_malformed ends =
+      malformed_first a (b ∷ c ∷ d ∷ z) 2 (three_reached ∙ rw ends refl) (rw four_bytes refl)
+
+  pub four_valid : is_continuation d ≡ true → IsCharBefore z (a ∷ b ∷ c ∷ d ∷ [])
+  four_valid ends =
+      valid_first a (b ∷ c ∷ d ∷ z) 3 (three_reached ∙ rw ends refl) (rw four_bytes refl)
+
+-- A lead byte and bytes after it that continue it, fewer than it wants.
+
+pub record IsBegun (a : ℕ) (z : List ℕ) : Type 0 where
+  pub reach : well_formed_tail_len a z ≡ length z
+  pub short : length z < sequence_len a - 1
+
+pub one_begun : (a : ℕ) → 2 ≤ sequence_len a → IsBegun a []
+one_begun a leads = record { reach = well_formed_tail_len-end a; short = omega arith }
+
+pub two_begun : (a b : ℕ) → 3 ≤ sequence_len a → is_second_byte a b ≡ true → IsBegun a (b ∷ [])
+two_begun a b leads follows = record {
+  reach = well_formed_tail_len-second a b [] (omega arith) follows
+      ∙ ap suc (continuations-end (sequence_len a - 2));
+  short = omega arith;
+}
+
+pub three_begun : (a b c : ℕ) → sequence_len a ≡ 4 → is_second_byte a b ≡ true
+    → is_continuation c ≡ true → IsBegun a (b ∷ c ∷ [])
+three_begun a b c four_bytes follows continues = record {
+  reach = well_formed_tail_len-second a b (c ∷ []) (omega arith) follows
+      ∙ rw (four_bytes, continues) refl;
+  short = omega arith;
+}
+
+-- at the end of the input they are malformed
+pub begun_end : (a : ℕ) (z : List ℕ) → IsBegun a z
+    → sequences_of utf_8_rule 0 (a ∷ z) ≡ malformed_sequence (a ∷ z) ∷ []
+begun_end a z begun =
+    malformed_first a z (length z) begun.reach
+    (let is_short = begun.short in grind (arith, nat_tests))
+    ∙ rw (take-length z, drop-length z, sequences_of-nil utf_8_rule 0) refl
+
+pub one_end : (a : ℕ) → 2 ≤ sequence_len a
+    → sequences_of utf_8_rule 0 (a ∷ []) ≡ malformed_sequence (a ∷ []) ∷ []
+one_end a leads = begun_end a [] (one_begun a leads)
+
+pub two_end : (a b : ℕ) → 3 ≤ sequence_len a → is_second_byte a b ≡ true
+    → sequences_of utf_8_rule 0 (a ∷ b ∷ []) ≡ malformed_sequence (a ∷ b ∷ []) ∷ []
+two_end a b leads follows = begun_end a (b ∷ []) (two_begun a b leads follows)
 
 pub three_end : (a b c : ℕ) → sequence_len a ≡ 4 → is_second_byte a b ≡ true
     → is_continuation c ≡ true
     → sequences_of utf_8_rule 0 (a ∷ b ∷ c ∷ []) ≡ malformed_sequence (a ∷ b ∷ c ∷ []) ∷ []
-three_end a b c four_bytes e t =
-    malformed_first a (b ∷ c ∷ []) 2 (well_formed_tail_len-second a b (c ∷ []) (omega arith) e
-    ∙ rw (four_bytes, t) refl)
-    (rw four_bytes refl)
-    ∙ ap (λ ss. malformed_sequence (a ∷ b ∷ c ∷ []) ∷ ss) (sequences_of-nil utf_8_rule 0)
-
-pub four_valid : (a b c d : ℕ) (z : List ℕ)
-    → sequence_len a ≡ 4 → is_second_byte a b ≡ true → is_continuation c ≡ true
-    → is_continuation d ≡ true
-    → sequences_of utf_8_rule 0 (a ∷ b ∷ c ∷ d ∷ z) ≡ valid_sequence (a ∷ b ∷ c ∷ d ∷ [])
-    ∷ sequences_of utf_8_rule 0 z
-four_valid a b c d z four_bytes e t u =
-    valid_first a (b ∷ c ∷ d ∷ z) 3 (well_formed_tail_len-second a b (c ∷ d ∷ z) (omega arith) e
-    ∙ rw (four_bytes, t, u) refl)
-    (rw four_bytes refl)
+three_end a b c four_bytes follows continues =
+    begun_end a (b ∷ c ∷ []) (three_begun a b c four_bytes follows continues)
 
 -- the scalar values
 
 pub two_scalar : (a b : ℕ) → sequence_len a ≡ 2 → is_second_byte a b ≡ true
     → InScalarRange (scalar_of (a ∷ b ∷ []))
-two_scalar a b s e =
-    let lead_in_range = two_range a s in
-    let second_in_range = second_range a b e in inl (omega arith)
+two_scalar a b two_bytes follows =
+    let lead_in_range = two_range a two_bytes in
+    let second_in_range = second_range a b follows in inl (omega arith)
 
 at_most_or_above : (a n : ℕ) → (a ≤ n) ⊎ (n < a)
 at_most_or_above a n = grind (arith, nat_tests, leb_tells a n)
 
-below_surrogates : (a b c : ℕ) → 0xE0 ≤ a → a ≤ 0xED → b ≤ 0xBF → (a ≡ 0xED → b ≤ 0x9F) → c ≤ 0xBF
-    → scalar_of (a ∷ b ∷ c ∷ []) < 0xD800
-below_surrogates a b c h k u v w = grind arith
-
 pub three_scalar : (a b c : ℕ) → sequence_len a ≡ 3 → is_second_byte a b ≡ true
     → is_continuation c ≡ true
     → InScalarRange (scalar_of (a ∷ b ∷ c ∷ []))
-three_scalar a b c s e t =
-    let lead_in_range = three_range a s in
-    let second_in_range = second_range a b e in
-    let third_in_range = continuation_range c t in
+three_scalar a b c three_bytes follows continues =
+    let lead_in_range = three_range a three_bytes in
+    let second_in_range = second_range a b follows in
+    let third_in_range = continuation_range c continues in
     elim (at_most_or_above a 0xED) [
-      | inl h ↦ inl (below_surrogates a b c lead_in_range.0 h second_in_range.1 second_in_range.3
-          third_in_range.1)
-      | inr h ↦ inr (omega arith, omega arith)
+      | inl within ↦ inl (grind arith)
+      | inr beyond ↦ inr (omega arith, omega arith)
     ]
-
-supplementary : (a b c d : ℕ) → 0xF0 ≤ a → a < 0xF5 → 0x80 ≤ b → b ≤ 0xBF
-    → (a ≡ 0xF0 → 0x90 ≤ b) → (a ≡ 0xF4 → b ≤ 0x8F) → c ≤ 0xBF → d ≤ 0xBF
-    → (0x10000 ≤ scalar_of (a ∷ b ∷ c ∷ d ∷ [])) × (scalar_of (a ∷ b ∷ c ∷ d ∷ []) ≤ 0x10FFFF)
-supplementary a b c d h k l u v w x y = (grind arith, grind arith)
 
 pub four_scalar : (a b c d : ℕ)
     → sequence_len a ≡ 4 → is_second_byte a b ≡ true → is_continuation c ≡ true
     → is_continuation d ≡ true
     → InScalarRange (scalar_of (a ∷ b ∷ c ∷ d ∷ []))
-four_scalar a b c d s e t x =
-    let lead_in_range = four_range a s in
-    let second_in_range = second_range a b e in
-    let third_in_range = continuation_range c t in
-    let fourth_in_range = continuation_range d x in
-    let scalar_in_range = supplementary a b c d lead_in_range.0 lead_in_range.1 second_in_range.0
-    second_in_range.1 second_in_range.4 second_in_range.5 third_in_range.1 fourth_in_range.1 in
-    inr (omega arith, scalar_in_range.1)
+four_scalar a b c d four_bytes follows continues ends =
+    let lead_in_range = four_range a four_bytes in
+    let second_in_range = second_range a b follows in
+    let third_in_range = continuation_range c continues in
+    let fourth_in_range = continuation_range d ends in
+    inr (grind arith, grind arith)

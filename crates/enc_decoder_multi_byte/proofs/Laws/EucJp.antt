@@ -1,6 +1,6 @@
 -- What the bytes in front can be in EUC-JP.
 use Rattle.std.proofs.Common.{◌≡◌, ℕ, ◌<◌, ◌≤◌, Bool, true, false, cond, ◌&&◌, ◌==◌, Option, None, List, [], ◌∷◌}
-use Rattle.std.proofs.Common.{length, refl, ◌∙◌, arith}
+use Rattle.std.proofs.Common.{length, refl, ◌∙◌, arith, subst}
 use Rattle.std.proofs.lemmas.Bool.{cond-true, lt-ltb}
 use Rattle.std.proofs.lemmas.Bool.Decides.{nat_tests}
 use Rattle.enc_decoder.specs.declared.byte_codec.Text.{Text}
@@ -10,40 +10,18 @@ use Rattle.enc_decoder_multi_byte.specs.DoubleByte.{text_of_char, IsPairText}
 use Rattle.enc_decoder_multi_byte.specs.MultiByte.{CanBeMalformed, ArePrefixes}
 use Rattle.enc_decoder_multi_byte.specs.EucJp.{is_euc_byte, is_euc_jp_lead, euc_jp_single_char, euc_jp_pair_char}
 use Rattle.enc_decoder_multi_byte.specs.EucJp.{euc_jp_triple_char, euc_jp_prefix}
-use Rattle.enc_decoder_multi_byte.proofs.DoubleByteLemmas.{first_is_basic, ascii_is_basic, char_is_text, first_is_text}
-use Rattle.enc_decoder_multi_byte.proofs.DoubleByteLemmas.{first_alone}
-use Rattle.enc_decoder_multi_byte.proofs.DoubleByteLemmas.{first_malformed, trail_text, trail_malformed, trail_finished}
-use Rattle.enc_decoder_multi_byte.proofs.DoubleByteLemmas.{malformed_with_ff, trail_can_be_malformed}
-use Rattle.enc_decoder_multi_byte.proofs.DoubleByteLemmas.{unless_complete, unless_malformed}
+use Rattle.enc_decoder_multi_byte.proofs.DoubleByteLemmas.{first_is_basic, ascii_is_basic, char_is_text, first_alone}
+use Rattle.enc_decoder_multi_byte.proofs.DoubleByteLemmas.{IsLawfulPrefix, first_lawful, trail_lawful, trail_finished}
+use Rattle.enc_decoder_multi_byte.proofs.DoubleByteLemmas.{malformed_with_ff, trail_can_be_malformed, unless_lawful}
 
-texts : (front : List ℕ) (text : Text) → euc_jp_prefix front ≡ Complete text → IsPairText text
-texts [] text complete = cc
-texts (a ∷ []) text complete = first_is_text (is_euc_jp_lead a) (euc_jp_single_char a) text complete
-texts (a ∷ b ∷ []) text complete =
-    char_is_text (euc_jp_pair_char a b) text
-    (trail_text 1 b _ text (unless_complete (a == 0x8F && is_euc_byte b) _ text complete))
-texts (a ∷ b ∷ c ∷ z) text complete =
-    char_is_text (euc_jp_triple_char b c) text (trail_text 2 c _ text complete)
-
-malformed : (front : List ℕ) (n : ℕ) → euc_jp_prefix front ≡ Malformed n → (0 < n)
-    × (n ≤ length front)
-malformed [] n is_malformed = cc
-malformed (a ∷ []) n is_malformed =
-    let len_is_one = first_malformed (is_euc_jp_lead a) (euc_jp_single_char a) n is_malformed in
-    (omega arith, omega arith)
-malformed (a ∷ b ∷ []) n is_malformed =
-    let form = trail_malformed 1 b (text_of_char (euc_jp_pair_char a b)) n
-    (unless_malformed (a == 0x8F && is_euc_byte b) _ n is_malformed) in
-    (omega (arith, form.0), omega (arith, form.1))
-malformed (a ∷ b ∷ c ∷ z) n is_malformed =
-    let form = trail_malformed 2 c (text_of_char (euc_jp_triple_char b c)) n is_malformed in
-    (omega (arith, form.0), omega (arith, form.1))
-
-short : (front : List ℕ) → euc_jp_prefix front ≡ Incomplete → length front ≤ 3
-short [] e = omega arith
-short (a ∷ []) e = omega arith
-short (a ∷ b ∷ []) e = omega arith
-short (a ∷ b ∷ c ∷ z) e = absurd (trail_finished 2 c (text_of_char (euc_jp_triple_char b c)) e)
+lawful : (front : List ℕ) → IsLawfulPrefix 2 (length front) (euc_jp_prefix front)
+lawful [] = omega arith
+lawful (a ∷ []) = first_lawful 2 (is_euc_jp_lead a) (euc_jp_single_char a) (omega arith)
+lawful (a ∷ b ∷ []) =
+    unless_lawful 2 2 (a == 0x8F && is_euc_byte b) _ (omega arith)
+    (trail_lawful 2 2 1 b _ (char_is_text (euc_jp_pair_char a b)) (omega arith) (omega arith))
+lawful (a ∷ b ∷ c ∷ z) =
+    trail_lawful 2 _ 2 c _ (char_is_text (euc_jp_triple_char b c)) (omega arith) (omega arith)
 
 -- FF is no trail of any lead
 
@@ -77,10 +55,11 @@ laws = record {
       (cond-true _ _ _ (lt-ltb b 0x80 l));
   lead = 0x8E;
   leads = record { is_byte = omega arith; incomplete = refl };
-  texts = texts;
+  texts = λ front text e. subst (IsLawfulPrefix 2 (length front)) e (lawful front);
   alone = λ b text e.
       first_is_basic (is_euc_jp_lead b) (euc_jp_single_char b) text (ascii_is_basic b) e;
-  malformed = malformed;
-  short = short;
+  malformed = λ front n e. subst (IsLawfulPrefix 2 (length front)) e (lawful front);
+  short = λ front e.
+      let short = subst (IsLawfulPrefix 2 (length front)) e (lawful front) in omega arith;
   can_be_malformed = can_be_malformed;
 }
