@@ -1,6 +1,6 @@
 -- Text that is handed out where it was read, and a read after a chunk was pulled.
 use Rattle.std.proofs.Common.{◌≡◌, ℕ, ◌+◌, ◌-◌, ◌≤◌, inl, inr, Bool, true, false, List, [], ◌++◌}
-use Rattle.std.proofs.Common.{length, take, drop, Option, refl, ap, ◌∙◌, sym, subst, arith, IsUtf8, append_assoc}
+use Rattle.std.proofs.Common.{length, take, drop, Option, refl, ap, ◌∙◌, sym, subst, arith, append_assoc}
 use Rattle.std.proofs.Common.{length-append}
 use Rattle.std.proofs.Math.ListN.{length-drop}
 use Rattle.std.proofs.lemmas.List.{length-take, take-append-drop, take-take}
@@ -21,7 +21,7 @@ use Rattle.enc_reader.specs.Source.{IsExhausted}
 use Rattle.enc_reader.specs.Reading.{ReaderState, ReadsOwed, HandsOut, FailsToRead, owed_sequences}
 use Rattle.enc_reader.specs.Turn.{AreOwnBytes, FillsBuffer, IsOwnText}
 use Rattle.enc_reader.proofs.SourceLemmas.{ConsumesRemaining-none}
-use Rattle.enc_reader.proofs.ReadingLemmas.{reader_at, ReadsOwed-none, ReadsOwed-then, before_end, handed_utf_8}
+use Rattle.enc_reader.proofs.ReadingLemmas.{reader_at, ReadsOwed-none, ReadsOwed-then, before_end}
 use Rattle.enc_reader.proofs.TurnLemmas.{left_of}
 
 -- bytes that are their own text to a decoder are those of its encoding
@@ -128,11 +128,6 @@ HandsOut-chunk source d filled at n xs ended had within_filled w within o none =
       flag = sym (or_false had);
       exhausted = none;
     })
-
-pub handed_is_utf_8 : {t₀ t : Option (List ℕ)} {a b : ReaderState} {wrote : List ℕ}
-    {had_before had_after : Bool}
-    → HandsOut t₀ t a b wrote had_before had_after → IsUtf8 wrote
-handed_is_utf_8 hands_out = handed_utf_8 hands_out.reads
 
 -- a chunk that can't be pulled
 pub FailsToRead-pull : {t₀ t₁ : Option (List ℕ)} {failed_before failed_after : Bool}

@@ -168,10 +168,6 @@ room_left filled at xs h w some none = omega (
   length-drop at xs,
 )
 
-pub opposite : (a b : Bool) → not a ≡ b → a ≡ not b
-opposite true b negated = ap not negated
-opposite false b negated = ap not negated
-
 -- a call reads no more than the chunk has, and only the end of the source ends its decoder
 
 pub all_read : (filled at read : ℕ) (xs : List ℕ) → at ≤ filled
