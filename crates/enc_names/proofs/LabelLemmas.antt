@@ -1,12 +1,13 @@
 -- The place of a label in the table gives its encoding.
-use Rattle.std.proofs.Common.{◌≡◌, ◌∙◌, ℕ, zero, suc, ◌<◌, Bool, true, false, List, [], ◌∷◌, map, length, get_or}
-use Rattle.std.proofs.Common.{Option, Some, None, is_some, refl, sym, ap, arith}
-use Rattle.std.specs.Prelude.{option_map, if◌then◌else◌}
+use Rattle.std.proofs.Common.{◌≡◌, ◌∙◌, ℕ, suc, ◌<◌, Bool, true, false, List, [], ◌∷◌, map, length, get_or, inl, inr}
+use Rattle.std.proofs.Common.{Option, Some, None, is_some, refl, sym, subst, ap, arith}
+use Rattle.std.specs.Prelude.{option_map, IfSome}
 use Rattle.std.specs.List.{list_all}
 use Rattle.std.specs.Char.{to_ascii_lowercase}
 use Rattle.std.specs.Str.{bytes_eq, IsTrimAscii}
 use Rattle.std.specs.Cmp.{first_so, second_so}
-use Rattle.std.proofs.lemmas.Bool.{false≢true}
+use Rattle.std.proofs.lemmas.Bool.{false≢true, cases_Bool}
+use Rattle.std.proofs.lemmas.List.{get_or-map, length-map}
 use Rattle.std.proofs.lemmas.Slice.Eq.{bytes_eq-Decides}
 use Rattle.std.proofs.lemmas.Str.Ascii.{trim_ascii_is}
 use Rattle.enc_names.specs.Place.{word_place}
@@ -16,38 +17,18 @@ use Rattle.enc_names.proofs.WordSearchLemmas.{differs}
 use Rattle.enc_names.specs.LabelIds.{id_pairs, id_paired_with, trim_start, trim_end, id_of_label}
 
 -- at the place of a word stands that word
-placed : (labels : List (List ℕ)) (word : List ℕ) (i : ℕ) → word_place labels word ≡ Some i
-    → get_or labels i [] ≡ word
-placed [] word i found_at = absurd (let no : ⊥ = cc in no)
-placed (label ∷ labels) word i found_at =
-    by_test (bytes_eq label word) refl i found_at (λ j e. placed labels word j e)
+placed : (labels : List (List ℕ)) (word : List ℕ)
+    → IfSome (word_place labels word) (λ i. get_or labels i [] ≡ word)
+placed [] word = tt
+placed (label ∷ labels) word = elim (cases_Bool (bytes_eq label word)) [
+  | inl equal ↦ rw equal ((bytes_eq-Decides label word).0 equal)
+  | inr differ ↦ rw differ (later (word_place labels word) (placed labels word))
+]
   where
-    later : (o : Option ℕ) (n : ℕ) → option_map suc o ≡ Some n
-        → ((j : ℕ) → o ≡ Some j → get_or labels j [] ≡ word) → get_or (label ∷ labels) n [] ≡ word
-    later None n at in_rest = absurd (let no : ⊥ = cc in no)
-    later (Some j) zero at in_rest = absurd (let no : ⊥ = cc in no)
-    later (Some j) (suc n) at in_rest =
-        in_rest n (let same_place : Some j ≡ Some n = cc in same_place)
-
-    by_test : (b : Bool) → bytes_eq label word ≡ b → (n : ℕ)
-        → (if b then Some 0 else option_map suc (word_place labels word)) ≡ Some n
-        → ((j : ℕ) → word_place labels word ≡ Some j → get_or labels j [] ≡ word)
-        → get_or (label ∷ labels) n [] ≡ word
-    by_test true equal zero at in_rest = (bytes_eq-Decides label word).0 equal
-    by_test true equal (suc n) at in_rest = absurd (let no : ⊥ = cc in no)
-    by_test false equal n at in_rest = later (word_place labels word) n at in_rest
-
--- the encodings in the order of the labels
-
-at_place : (labels : List (List ℕ)) (encodings : List EncodingId) (f : List ℕ → Option EncodingId)
-    (i : ℕ)
-    (d : EncodingId) → map Some encodings ≡ map f labels → i < length encodings
-    → Some (get_or encodings i d) ≡ f (get_or labels i [])
-at_place labels [] f i d h l = absurd (let no : ⊥ = omega arith in no)
-at_place [] (e ∷ encodings) f i d h l = absurd (let no : ⊥ = cc in no)
-at_place (label ∷ labels) (e ∷ encodings) f zero d h l = cc
-at_place (label ∷ labels) (e ∷ encodings) f (suc i) d h l = at_place labels encodings f i d
-    (let same_rest : map Some encodings ≡ map f labels = cc in same_rest) (omega arith)
+    later : (o : Option ℕ) → IfSome o (λ i. get_or labels i [] ≡ word)
+        → IfSome (option_map suc o) (λ i. get_or (label ∷ labels) i [] ≡ word)
+    later None in_rest = tt
+    later (Some i) in_rest = in_rest
 
 -- a word that is no label of the table is no label
 
@@ -81,9 +62,19 @@ module _ (label trimmed : List ℕ) (trim : IsTrimAscii label trimmed) where
       ≡ map (id_paired_with id_pairs) table → i < length encodings
       → Some i ≡ word_place table (map to_ascii_lowercase trimmed)
       → Some (get_or encodings i d) ≡ id_of_label label
-  gets encodings i d h l p =
-      at_place table encodings (id_paired_with id_pairs) i d h l ∙ ap (id_paired_with id_pairs)
-      (placed table (map to_ascii_lowercase trimmed) i (sym p) ∙ word_is)
+  gets encodings i d listed within place_is =
+      let word = map to_ascii_lowercase trimmed in
+      sym (get_or-map Some encodings i d None within) ∙ ap (λ ids. get_or ids i None) listed
+      ∙ get_or-map (id_paired_with id_pairs) table i [] None (omega (
+        arith,
+        within,
+        ap length listed,
+        length-map encodings Some,
+        length-map table (id_paired_with id_pairs),
+      ))
+      ∙ ap (id_paired_with id_pairs)
+      (subst (λ o. IfSome o (λ k. get_or table k [] ≡ word)) (sym place_is) (placed table word)
+      ∙ word_is)
 
   pub gets_none : None ≡ word_place table (map to_ascii_lowercase trimmed)
       → None ≡ id_of_label label

@@ -1,75 +1,34 @@
 -- Text that is handed out where it was read, and a read after a chunk was pulled.
-use Rattle.std.proofs.Common.{◌≡◌, ℕ, suc, ◌+◌, ◌-◌, ◌<◌, ◌≤◌, inl, inr, Bool, true, false, List, [], ◌∷◌, ◌++◌}
-use Rattle.std.proofs.Common.{length, take, drop, Option, refl, ap, ◌∙◌, sym, subst, arith, IsUtf8, append_assoc}
+use Rattle.std.proofs.Common.{◌≡◌, ℕ, ◌+◌, ◌-◌, ◌≤◌, inl, inr, Bool, true, false, List, [], ◌++◌}
+use Rattle.std.proofs.Common.{length, take, drop, Option, refl, ap, ◌∙◌, sym, subst, arith, append_assoc}
 use Rattle.std.proofs.Common.{length-append}
 use Rattle.std.proofs.Math.ListN.{length-drop}
 use Rattle.std.proofs.lemmas.List.{length-take, take-append-drop, take-take}
-use Rattle.std.proofs.lemmas.Bool.{and_parts}
-use Rattle.std.proofs.lemmas.Str.{encode_ascii}
+use Rattle.std.proofs.lemmas.Str.{chars_from_encodes, scalars-chars}
 use Rattle.std.specs.Char.{encode_utf8}
-use Rattle.std.specs.Str.{all_scalars}
 use Rattle.enc_units.specs.Output.{AreScalars, units_of_text}
-use Rattle.enc_units.specs.Validity.{AreAscii}
-use Rattle.enc_units.proofs.ScalarLemmas.{ascii_scalars}
 use Rattle.enc_units.proofs.Utf8CharsLemmas.{their_units}
-use Rattle.enc_decoder.specs.Segmentation.{Rule, sequences_of}
-use Rattle.enc_decoder.specs.Taking.{IsWholeChar}
-use Rattle.enc_decoder_utf.specs.Utf8.{utf_8_rule}
-use Rattle.enc_decoder_utf.proofs.Utf8Pieces.{utf8_piece}
+use Rattle.enc_decoder.specs.Segmentation.{sequences_of}
 use Rattle.enc_decoder.proofs.SequenceLemmas.{or_false}
-use Rattle.enc_codec.specs.Properties.{IsAsciiCompatible}
-use Rattle.enc_stream.specs.declared.encoding.Encoding.{Encoding}
 use Rattle.enc_stream.specs.LifeCycle.{phase_of, mark_in, encoding_of_mark_or, sequences_in}
 use Rattle.enc_stream.specs.Encodings.{rule_of}
 use Rattle.enc_stream.specs.Decoding.{DecoderState, has_finished, has_ended, remaining_sequences}
 use Rattle.enc_stream.specs.Latin1.{DecoderMayBeLatin1}
-use Rattle.enc_stream.proofs.OwnTextLemmas.{EachIsOwn, HasOwnText, ascii_encoded, own, own_first, own_text, own_valid}
+use Rattle.enc_stream.specs.OwnText.{AreTheirOwnText}
+use Rattle.enc_stream.proofs.PropertyLemmas.{shows_ascii_compatible}
+use Rattle.enc_stream.proofs.OwnTextLemmas.{HasOwnText, has_own_text, own, own_first, own_text, own_utf_8, own_valid}
 use Rattle.enc_reader.specs.Source.{IsExhausted}
 use Rattle.enc_reader.specs.Reading.{ReaderState, ReadsOwed, HandsOut, FailsToRead, owed_sequences}
 use Rattle.enc_reader.specs.Turn.{AreOwnBytes, FillsBuffer, IsOwnText}
 use Rattle.enc_reader.proofs.SourceLemmas.{ConsumesRemaining-none}
-use Rattle.enc_reader.proofs.ReadingLemmas.{reader_at, ReadsOwed-none, ReadsOwed-then, before_end, handed_utf_8}
+use Rattle.enc_reader.proofs.ReadingLemmas.{reader_at, ReadsOwed-none, ReadsOwed-then, before_end}
 use Rattle.enc_reader.proofs.TurnLemmas.{left_of}
 
--- Each character of UTF-8, and each byte of ASCII, is a sequence by itself.
-
-each_char : (cs : List ℕ) → all_scalars cs ≡ true → EachIsOwn utf_8_rule cs
-each_char [] are_scalars = tt
-each_char (c ∷ cs) are_scalars =
-    let scalar_parts = and_parts _ _ are_scalars in
-    (utf8_piece (encode_utf8 c) c (scalar_parts.0, refl), each_char cs scalar_parts.1)
-
-each_byte : (rule : Rule) → IsAsciiCompatible rule → (bs : List ℕ) → AreAscii bs
-    → EachIsOwn rule bs
-each_byte rule is_compatible [] are_ascii = tt
-each_byte rule is_compatible (b ∷ bs) are_ascii =
-    let is_ascii : b < 0x80 = are_ascii 0 0 (omega arith) in (
-      subst (λ x. IsWholeChar rule 0 x b) (sym (encode_ascii b is_ascii))
-          (is_compatible b is_ascii),
-      each_byte rule is_compatible bs (λ k d h. are_ascii (suc k) d (omega arith)),
-    )
-
--- bytes that are their own text, with the characters of it
-has_own_text : (d : DecoderState) (bytes : List ℕ) → AreOwnBytes d bytes
-    → (has : HasOwnText (rule_of d.encoding) bytes) × AreScalars has.text
-has_own_text d bytes (inl utf_8) =
-    subst (λ (e : Encoding). (has : HasOwnText (rule_of e) bytes) × AreScalars has.text)
-    (sym utf_8.0) (
-      record {
-        text = utf_8.1.0;
-        encoded = utf_8.1.1.1;
-        each = each_char utf_8.1.0 utf_8.1.1.0;
-      },
-      utf_8.1.1.0,
-    )
-has_own_text d bytes (inr ascii) = (
-  record {
-    text = bytes;
-    encoded = ascii_encoded bytes ascii.1;
-    each = each_byte (rule_of d.encoding) ascii.0 bytes ascii.1;
-  },
-  ascii_scalars bytes ascii.1,
-)
+-- bytes that are their own text to a decoder are those of its encoding
+own_bytes : (d : DecoderState) {bytes : List ℕ} → AreOwnBytes d bytes
+    → AreTheirOwnText d.encoding bytes
+own_bytes d (inl utf_8) = inl utf_8
+own_bytes d (inr ascii) = inr (inl ((shows_ascii_compatible d.encoding).1 ascii.0, ascii.1))
 
 module _ (d : DecoderState) (may_be_latin1 : DecoderMayBeLatin1 d) where
   between_sequences : (y : List ℕ) → remaining_sequences d y ≡ sequences_of (rule_of d.encoding) 0 y
@@ -95,7 +54,7 @@ module _ (d : DecoderState) (src : List ℕ) (ended : Bool) (n : ℕ) (within : 
   after = record { decoder = d; unread = drop n src; ended = ended }
 
   abbrev has : HasOwnText (rule_of d.encoding) (take n src)
-  has = (has_own_text d (take n src) is_own.own).0
+  has = has_own_text d.encoding (take n src) (own_bytes d is_own.own)
 
   comes_first : (z : List ℕ) → owed_sequences before z ≡ own has.text ++ owed_sequences after z
   comes_first z =
@@ -107,7 +66,10 @@ module _ (d : DecoderState) (src : List ℕ) (ended : Bool) (n : ℕ) (within : 
       ∙ ap (λ ss. own has.text ++ ss) (sym (between_sequences d is_own.between (drop n src ++ z)))
 
   scalars : AreScalars has.text
-  scalars = (has_own_text d (take n src) is_own.own).1
+  scalars =
+      let utf_8 = own_utf_8 d.encoding (take n src) (own_bytes d is_own.own) in
+      subst AreScalars (sym (chars_from_encodes has.text (take n src) utf_8 has.encoded))
+      (scalars-chars (take n src) utf_8)
 
   pub ReadsOwed-lent : (source : Option (List ℕ))
       → ReadsOwed source source before after [] (take n src) false
@@ -166,11 +128,6 @@ HandsOut-chunk source d filled at n xs ended had within_filled w within o none =
       flag = sym (or_false had);
       exhausted = none;
     })
-
-pub handed_is_utf_8 : {t₀ t : Option (List ℕ)} {a b : ReaderState} {wrote : List ℕ}
-    {had_before had_after : Bool}
-    → HandsOut t₀ t a b wrote had_before had_after → IsUtf8 wrote
-handed_is_utf_8 hands_out = handed_utf_8 hands_out.reads
 
 -- a chunk that can't be pulled
 pub FailsToRead-pull : {t₀ t₁ : Option (List ℕ)} {failed_before failed_after : Bool}

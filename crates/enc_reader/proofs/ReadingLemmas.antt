@@ -1,23 +1,20 @@
 -- Successive reads are one read, and what a read is made of.
 use Rattle.std.proofs.Common.{◌≡◌, ℕ, ◌+◌, ◌-◌, ◌*◌, ◌<◌, ◌≤◌, inl, inr, Bool, true, false, ◌||◌, List, [], ◌++◌}
-use Rattle.std.proofs.Common.{length, take, drop, Option, refl, ap, ◌∙◌, sym, subst, arith, append_assoc, append-nil}
+use Rattle.std.proofs.Common.{length, take, drop, Option, refl, ap, ◌∙◌, sym, arith, append_assoc, append-nil}
 use Rattle.std.proofs.Common.{length-append, if◌then◌else◌, IsUtf8, nat_eq}
 use Rattle.std.proofs.Math.ListN.{length-drop}
 use Rattle.std.proofs.Math.Seq.{take-add}
-use Rattle.std.proofs.lemmas.Bool.Decides.{nat_tests}
 use Rattle.std.proofs.lemmas.List.{length-take}
-use Rattle.std.proofs.lemmas.Bool.{false≢true}
+use Rattle.std.proofs.lemmas.Bool.{false≢true, eqb-false}
 use Rattle.enc_decoder.proofs.FirstSequenceLemmas.{true_or_false}
 use Rattle.std.specs.Char.{encode_utf8}
-use Rattle.std.specs.Io.KnownBytes.{IsAtEnd}
 use Rattle.enc_units.specs.Output.{units_of_text}
 use Rattle.enc_units.proofs.AsciiPrefixLemmas.{text_utf8}
 use Rattle.enc_decoder.specs.Sequence.{sequence_text, any_malformed}
 use Rattle.enc_decoder.proofs.SequenceLemmas.{units-append, any_malformed-append, scalars_of-append}
 use Rattle.enc_stream.specs.Decoding.{DecoderState, has_finished, remaining_sequences}
-use Rattle.enc_stream.proofs.EndOfInputLemmas.{none_left}
 use Rattle.enc_reader.specs.Source.{ConsumesRemaining}
-use Rattle.enc_reader.specs.Reading.{ReaderState, ReadsOwed, IsReaderAtEnd, owed_sequences, owed_encoding}
+use Rattle.enc_reader.specs.Reading.{ReaderState, ReadsOwed, owed_sequences, owed_encoding}
 use Rattle.enc_reader.specs.Reading.{distance_to_end}
 use Rattle.enc_reader.specs.Turn.{IsWaiting, PullsChunk, IsTurn}
 use Rattle.enc_reader.proofs.SourceLemmas.{ConsumesRemaining-none, ConsumesRemaining-then}
@@ -92,73 +89,52 @@ pub before_end : (s : ReaderState) → has_finished s.decoder ≡ false
     → distance_to_end s ≡ 1 + (2 * length s.unread + length s.decoder.pending)
 before_end s f = ap (λ b. if b then 0 else 1 + (2 * length s.unread + length s.decoder.pending)) f
 
--- numbers that a test finds different
-pub not_all : (at filled : ℕ) → nat_eq at filled ≡ false → ¬ (at ≡ filled)
-not_all at filled h = grind (arith, nat_tests)
-
--- A chunk that is pulled after the unread bytes: all is owed that was owed.
-ReadsOwed-pull : (t₀ t₁ : Option (List ℕ)) (s : ReaderState) (x : List ℕ) (ended : Bool)
-    → s.ended ≡ false → has_finished s.decoder ≡ false → ConsumesRemaining t₀ t₁ x
-    → ReadsOwed t₀ t₁ s (record { decoder = s.decoder; unread = s.unread ++ x; ended = ended }) x []
-    false
-ReadsOwed-pull t₀ t₁ s x ended not_ended going t =
-    let now : ReaderState = record {
-      decoder = s.decoder;
-      unread = s.unread ++ x;
-      ended = ended;
-    } in
-    record {
-      given = t;
-      none_after = λ e. absurd (false≢true (sym not_ended ∙ e));
-      done = [];
-      residual = λ z h. ap (remaining_sequences s.decoder) (sym (append_assoc s.unread x z));
-      encoding = λ z h. ap (λ u.
-          owed_encoding (record { decoder = s.decoder; unread = []; ended = false }) u)
-          (append_assoc s.unread x z);
-      scalars = refl;
-      text = refl;
-      flag = refl;
-      nearer = omega (
-        arith,
-        before_end s going,
-        before_end now going,
-        length-append s.unread x,
-      );
-    }
-
-pub still_going : (finished ended : Bool) → (finished ≡ true → ended ≡ true) → ended ≡ false
-    → finished ≡ false
-still_going true ended seen not_ended = absurd (false≢true (sym not_ended ∙ seen refl))
-still_going false ended seen not_ended = refl
-
--- the same, by places in the buffer: `held` bytes are unread, and n more are pulled after them
+-- A chunk that is pulled after the unread bytes, by places in the buffer: `held` bytes are unread,
+-- and n more are pulled after them. All is owed that was owed.
 pub PullsChunk-after : {t₀ t₁ : Option (List ℕ)} {d : DecoderState} {ended : Bool} {xs : List ℕ}
     (held n : ℕ) (ys : List ℕ)
     → ended ≡ false → has_finished d ≡ false → take held ys ≡ xs → n ≤ length ys - held
     → ConsumesRemaining t₀ t₁ (take n (drop held ys))
     → PullsChunk t₀ t₁ (record { decoder = d; unread = xs; ended = ended })
     (record { decoder = d; unread = take (held + n - 0) (drop 0 ys); ended = nat_eq n 0 })
-PullsChunk-after {t₀ = t₀} {t₁ = t₁} {d = d} {ended = ended} {xs = xs} held n ys not_ended going
-    held_are bound given =
-    let before : ReaderState = record { decoder = d; unread = xs; ended = ended } in
+PullsChunk-after {d = d} {ended = ended} {xs = xs} held n ys not_ended going held_are bound given =
+    let now : ReaderState = record {
+      decoder = d;
+      unread = take (held + n - 0) (drop 0 ys);
+      ended = nat_eq n 0;
+    } in
     let bytes : List ℕ = take n (drop held ys) in
     let all : held + n - 0 ≡ held + n = omega arith in
-    let unread : take (held + n - 0) (drop 0 ys) ≡ xs ++ bytes =
+    let unread : now.unread ≡ xs ++ bytes =
     ap (λ k. take k ys) all ∙ take-add held n ys ∙ ap (λ u. u ++ bytes) held_are in
+    let same_after : (z : List ℕ) → xs ++ (bytes ++ z) ≡ now.unread ++ z =
+    λ z. sym (append_assoc xs bytes z) ∙ ap (λ u. u ++ z) (sym unread) in
     record {
       bytes = bytes;
-      reads = subst (λ u. ReadsOwed t₀ t₁ before
-          (record { decoder = d; unread = u; ended = nat_eq n 0 }) bytes [] false)
-          (sym unread)
-          (ReadsOwed-pull t₀ t₁ before bytes (nat_eq n 0) not_ended going given);
-      some = λ e. let nonzero : n ≡ 0 → ⊥ = not_all n 0 e in
-          omega (
-            arith,
-            nonzero,
-            bound,
-            length-take n (drop held ys),
-            length-drop held ys,
-          );
+      reads = record {
+        given = given;
+        none_after = λ e. absurd (false≢true (sym not_ended ∙ e));
+        done = [];
+        residual = λ z h. ap (remaining_sequences d) (same_after z);
+        encoding = λ z h. ap (owed_encoding (record now { unread = [] })) (sym (same_after z));
+        scalars = refl;
+        text = refl;
+        flag = refl;
+        nearer = omega (
+          arith,
+          before_end (record now { unread = xs }) going,
+          before_end now going,
+          ap length unread,
+          length-append xs bytes,
+        );
+      };
+      some = λ more. omega (
+        arith,
+        eqb-false n 0 more,
+        bound,
+        length-take n (drop held ys),
+        length-drop held ys,
+      );
     }
 
 -- A read up to now: the text handed out, and whether it waits, after `pulls` pulls.
@@ -205,21 +181,6 @@ HasRead-more {start = start} {now = now} {next = next} {pulled = pulled} so_far 
       waiting = turn.waiting;
       text_or_end = turn.text_or_end;
     }
-
--- what has come of it
-
--- the end
-pub IsReaderAtEnd-is : (known : Option (List ℕ)) (s : ReaderState) → has_finished s.decoder ≡ true
-    → s.ended ≡ true
-    → IsAtEnd known → IsReaderAtEnd known s
-IsReaderAtEnd-is known s is_finished e t = record {
-  seen = e;
-  exhausted = t;
-  finished = is_finished;
-  none_owed = none_left s.decoder.life s.decoder.encoding s.decoder.set
-      (s.decoder.pending ++ (s.unread ++ []))
-      is_finished;
-}
 
 -- the text handed out is UTF-8
 pub handed_utf_8 : {t₀ t : Option (List ℕ)} {s₀ s : ReaderState} {bytes wrote : List ℕ}

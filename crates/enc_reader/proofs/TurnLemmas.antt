@@ -5,7 +5,7 @@ use Rattle.std.proofs.Common.{◌&&◌, not, nat_eq, drop-drop}
 use Rattle.std.proofs.Math.ListN.{length-drop}
 use Rattle.std.proofs.Math.Seq.{drop-length}
 use Rattle.std.proofs.lemmas.List.{drop-take, length-take}
-use Rattle.std.proofs.lemmas.Bool.{false≢true}
+use Rattle.std.proofs.lemmas.Bool.{false≢true, eqb-false}
 use Rattle.enc_decoder.proofs.FirstSequenceLemmas.{true_or_false}
 use Rattle.std.specs.Char.{encode_utf8}
 use Rattle.enc_units.specs.Output.{AreScalars, units_of_text}
@@ -24,7 +24,7 @@ use Rattle.enc_stream.proofs.OutputFullLemmas.{four_bytes, some_written}
 use Rattle.enc_reader.specs.Reading.{ReaderState, ReadsOwed}
 use Rattle.enc_reader.specs.Reading.{distance_to_end}
 use Rattle.enc_reader.specs.Turn.{IsWaiting, IsTurn}
-use Rattle.enc_reader.proofs.ReadingLemmas.{ReadsOwed-none, ended_at, before_end, not_all}
+use Rattle.enc_reader.proofs.ReadingLemmas.{ended_at, before_end}
 use Rattle.enc_reader.proofs.SourceLemmas.{ConsumesRemaining-none}
 
 -- What a reader decodes next: its decoder is not finished, a byte is unread or the end is seen, and
@@ -113,23 +113,6 @@ module _ (before : ReaderState) {new : DecoderState} {room : ℕ} (result : Code
     text_or_end = text_or_end;
   })
 
--- turns that decode nothing
-pub IsTurn-waits : (s : ReaderState) → IsWaiting s → IsTurn s s [] false true
-IsTurn-waits s w =
-    record {
-      reads = λ known. ReadsOwed-none known s;
-      waiting = λ _. w;
-      text_or_end = λ f e. absurd (false≢true (sym f));
-    }
-
-pub IsTurn-ended : (s : ReaderState) → has_finished s.decoder ≡ true → IsTurn s s [] false false
-IsTurn-ended s f =
-    record {
-      reads = λ known. ReadsOwed-none known s;
-      waiting = λ t. absurd (false≢true t);
-      text_or_end = λ _ _. f;
-    }
-
 -- The chunk in the buffer: how much of it is left after a call, and that some is left where it is
 -- not all decoded.
 
@@ -155,10 +138,10 @@ pub chunk_can_decode : {d : DecoderState} (filled at : ℕ) (xs : List ℕ) {end
 chunk_can_decode filled at xs {ended = ended} going decoded within tested roomy = record {
   going = going;
   some = λ not_ended.
-      let other = not_all at filled (some_left (nat_eq at filled) ended tested not_ended) in
+      let more : nat_eq at filled ≡ false = grind (arith, tested, not_ended) in
       omega (
         arith,
-        other,
+        eqb-false at filled more,
         decoded,
         within,
         length-take (filled - at) (drop at xs),
@@ -166,11 +149,6 @@ chunk_can_decode filled at xs {ended = ended} going decoded within tested roomy 
       );
   roomy = roomy;
 }
-  where
-    some_left : (all ended : Bool) → (all && not ended) ≡ false → ended ≡ false → all ≡ false
-    some_left true true tested not_ended = absurd (false≢true (sym not_ended))
-    some_left true false tested not_ended = tested
-    some_left false ended tested not_ended = refl
 
 pub some_text : (n : ℕ) (xs : List ℕ) → 0 < n → n ≤ length xs → take n xs ≡ [] → ⊥
 some_text n xs h w e = omega (arith, h, w, ap length e, length-take n xs)
@@ -187,10 +165,6 @@ room_left filled at xs h w some none = omega (
   length-take (filled - at) (drop at xs),
   length-drop at xs,
 )
-
-pub opposite : (a b : Bool) → not a ≡ b → a ≡ not b
-opposite true b negated = ap not negated
-opposite false b negated = ap not negated
 
 -- a call reads no more than the chunk has, and only the end of the source ends its decoder
 

@@ -1,6 +1,6 @@
 -- Text that is encoded as itself: each of its characters is written as its UTF-8, in ASCII.
 use Rattle.std.proofs.Common.{◌≡◌, ℕ, suc, ◌<◌, true, false, List, [], ◌∷◌, ◌++◌, refl, ap, ◌∙◌, sym, subst}
-use Rattle.std.proofs.Common.{arith, inl, inr, chars, nat_lt, not, ◌||◌, ◌==◌, is_some, Some, if◌then◌else◌}
+use Rattle.std.proofs.Common.{arith, inl, inr, append_assoc, append-nil, chars, nat_lt, not, ◌||◌, ◌==◌, is_some, Some, if◌then◌else◌}
 use Rattle.std.specs.Prelude.{All, ◌≢◌}
 use Rattle.std.specs.Char.{encode_utf8}
 use Rattle.std.specs.Str.{IsUtf8, encode_utf8_all}
@@ -26,22 +26,23 @@ use Rattle.enc_stream.proofs.ReferenceLemmas.{lawful_of}
 use Rattle.enc_stream.proofs.OwnTextLemmas.{ascii_encoded, plain_ascii}
 
 -- A character is written as its UTF-8, in ASCII.
-record IsOwnChar (rule : EncoderRule) (c : ℕ) : Type 0 where
-  bytes : rule.bytes c ≡ Some (encode_utf8 c)
-  has : rule.has Ascii c ≡ true
+pub record IsOwnChar (rule : EncoderRule) (c : ℕ) : Type 0 where
+  pub bytes : rule.bytes c ≡ Some (encode_utf8 c)
+  pub has : rule.has Ascii c ≡ true
 
-abbrev EachIsOwnChar : EncoderRule → List ℕ → Type 0
+abbrev pub EachIsOwnChar : EncoderRule → List ℕ → Type 0
 EachIsOwnChar rule [] = Unit {0}
 EachIsOwnChar rule (c ∷ cs) = IsOwnChar rule c × EachIsOwnChar rule cs
 
 module _ (rule : EncoderRule) (lawful : IsLawfulEncoderRule rule) where
-  all_stay : (cs : List ℕ) → EachIsOwnChar rule cs → with_references rule cs ≡ cs
-  all_stay [] each = refl
-  all_stay (c ∷ cs) each =
-      ap (λ b. with_reference rule c b ++ with_references rule cs) each.0.bytes
-      ∙ ap (λ x. c ∷ x) (all_stay cs each.1)
+  pub all_stay : (cs t : List ℕ) → EachIsOwnChar rule cs
+      → with_references rule (cs ++ t) ≡ cs ++ with_references rule t
+  all_stay [] t each = refl
+  all_stay (c ∷ cs) t each =
+      ap (λ b. with_reference rule c b ++ with_references rule (cs ++ t)) each.0.bytes
+      ∙ ap (λ x. c ∷ x) (all_stay cs t each.1)
 
-  all_mappable : (cs : List ℕ) → EachIsOwnChar rule cs → any_unmappable rule cs ≡ false
+  pub all_mappable : (cs : List ℕ) → EachIsOwnChar rule cs → any_unmappable rule cs ≡ false
   all_mappable [] each = refl
   all_mappable (c ∷ cs) each =
       ap (λ b. not (is_some b) || any_unmappable rule cs) each.0.bytes ∙ all_mappable cs each.1
@@ -52,24 +53,41 @@ module _ (rule : EncoderRule) (lawful : IsLawfulEncoderRule rule) where
       lawful.set_after_more Ascii u c ∙ ap (λ s. set_for rule s c) in_ascii
       ∙ ap (λ has. if has then Ascii else rule.designated c) is_own.has
 
-  all_written : (u cs : List ℕ) → rule.set_after Ascii u ≡ Ascii → EachIsOwnChar rule cs
-      → bytes_after_text rule Ascii u cs ≡ encode_utf8_all cs
-  all_written u [] in_ascii each = ap escape_at_end in_ascii
-  all_written u (c ∷ cs) in_ascii each =
-      let rest = list_or_empty (rule.bytes c) ++ bytes_after_text rule Ascii (u ++ c ∷ []) cs in
+  -- What comes after a text depends on its character set alone.
+  same_after : (u v t : List ℕ) → rule.set_after Ascii u ≡ rule.set_after Ascii v
+      → bytes_after_text rule Ascii u t ≡ bytes_after_text rule Ascii v t
+  same_after u v [] same_set = ap escape_at_end same_set
+  same_after u v (c ∷ t) same_set =
+      ap (λ s. escape_before rule s c
+      ++ (list_or_empty (rule.bytes c) ++ bytes_after_text rule Ascii (u ++ c ∷ []) t)) same_set
+      ∙ ap (λ x. escape_before rule (rule.set_after Ascii v) c
+      ++ (list_or_empty (rule.bytes c) ++ x))
+      (same_after (u ++ c ∷ []) (v ++ c ∷ []) t
+      (lawful.set_after_more Ascii u c ∙ ap (λ s. set_for rule s c) same_set
+      ∙ sym (lawful.set_after_more Ascii v c)))
+
+  pub all_written : (u cs t : List ℕ) → rule.set_after Ascii u ≡ Ascii → EachIsOwnChar rule cs
+      → bytes_after_text rule Ascii u (cs ++ t)
+      ≡ encode_utf8_all cs ++ bytes_after_text rule Ascii [] t
+  all_written u [] t in_ascii each =
+      same_after u [] t (in_ascii ∙ sym (lawful.set_after_none Ascii))
+  all_written u (c ∷ cs) t in_ascii each =
+      let others = bytes_after_text rule Ascii (u ++ c ∷ []) (cs ++ t) in
+      let rest = list_or_empty (rule.bytes c) ++ others in
       ap (λ s. escape_before rule s c ++ rest) in_ascii
       ∙ ap (λ has. (if has then [] else escape_sequence (rule.designated c)) ++ rest) each.0.has
-      ∙ ap (λ b. list_or_empty b ++ bytes_after_text rule Ascii (u ++ c ∷ []) cs) each.0.bytes
+      ∙ ap (λ b. list_or_empty b ++ others) each.0.bytes
       ∙ ap (λ x. encode_utf8 c ++ x)
-      (all_written (u ++ c ∷ []) cs (stays_in_ascii u c in_ascii each.0) each.1)
+      (all_written (u ++ c ∷ []) cs t (stays_in_ascii u c in_ascii each.0) each.1)
+      ∙ sym (append_assoc (encode_utf8 c) (encode_utf8_all cs) (bytes_after_text rule Ascii [] t))
 
 -- UTF-8 writes each character so
-each_in_utf_8 : (cs : List ℕ) → EachIsOwnChar (output_rule [] UTF_8) cs
+pub each_in_utf_8 : (cs : List ℕ) → EachIsOwnChar (output_rule [] UTF_8) cs
 each_in_utf_8 [] = tt
 each_in_utf_8 (c ∷ cs) = (record { bytes = refl; has = refl }, each_in_utf_8 cs)
 
 -- bytes below 0x80 that are written as themselves
-each_of_bytes : (rule : EncoderRule) (bs : List ℕ)
+pub each_of_bytes : (rule : EncoderRule) (bs : List ℕ)
     → All (λ b. (b < 0x80) × ((rule.bytes b ≡ Some (b ∷ [])) × (rule.has Ascii b ≡ true))) bs
     → EachIsOwnChar rule bs
 each_of_bytes rule [] are_own = tt
@@ -131,11 +149,15 @@ module _ (e : Encoding) (text : List ℕ) (utf8 : IsUtf8 text)
 
   pub own_bytes : text ≡ whole_bytes [] e (chars text)
   own_bytes =
-      sym (encodes-chars text utf8)
-      ∙ sym (all_written (output_rule [] e) (lawful_of [] e) [] (chars text)
-      ((lawful_of [] e).set_after_none Ascii) each)
-      ∙ ap (bytes_after_text (output_rule [] e) Ascii [])
-      (sym (all_stay (output_rule [] e) (lawful_of [] e) (chars text) each))
+      let rule = output_rule [] e in
+      let lawful = lawful_of [] e in
+      let none_after = lawful.set_after_none Ascii in
+      sym (append-nil text)
+      ∙ ap (λ x. x ++ []) (sym (encodes-chars text utf8))
+      ∙ ap (λ s. encode_utf8_all (chars text) ++ escape_at_end s) (sym none_after)
+      ∙ sym (all_written rule lawful [] (chars text) [] none_after each)
+      ∙ ap (bytes_after_text rule Ascii []) (sym (all_stay rule lawful (chars text) [] each))
+      ∙ ap (whole_bytes [] e) (append-nil (chars text))
 
   pub own_mappable : false ≡ any_unmappable (output_rule [] e) (chars text)
   own_mappable = sym (all_mappable (output_rule [] e) (lawful_of [] e) (chars text) each)

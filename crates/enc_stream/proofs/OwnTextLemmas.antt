@@ -160,7 +160,7 @@ plain_own bs are_plain = record {
 
 -- in each encoding
 
-has_own_text : (e : Encoding) (bytes : List ℕ) → AreTheirOwnText e bytes
+pub has_own_text : (e : Encoding) (bytes : List ℕ) → AreTheirOwnText e bytes
     → HasOwnText (rule_of e) bytes
 has_own_text e bytes (inl utf_8) =
     subst (λ (o : Encoding). HasOwnText (rule_of o) bytes) (sym utf_8.0)

@@ -1,7 +1,6 @@
 -- The text of one call of a run, and the bytes that it is offered.
 use Rattle.std.proofs.Common.{◌≡◌, ℕ, ◌≤◌, Bool, true, false, true≢false, List, [], ◌++◌, length, take, refl, ap, ◌∙◌}
 use Rattle.std.proofs.Common.{sym, arith, nat_le, append-nil}
-use Rattle.std.proofs.lemmas.Bool.Decides.{nat_tests}
 use Rattle.std.proofs.lemmas.List.{take_min}
 use Rattle.std.proofs.Math.Seq.{take-append_seam}
 use Rattle.std.specs.Prelude.{min}
@@ -26,9 +25,6 @@ pub refilled : (n : ℕ) (all new after : List ℕ) → all ≡ take n (new ++ a
     → all ≡ new
 refilled n all new after h e = h ∙ ap (λ k. take k (new ++ after)) (sym e)
     ∙ take-append_seam new after
-
-pub reaches : (n offer : ℕ) → nat_le n offer ≡ true → n ≤ offer
-reaches n offer h = grind (arith, nat_tests)
 
 -- the units of either kind determine a text
 pub determined_by : (utf16 : Bool) → DetermineTexts (units_of_call utf16)

@@ -2,7 +2,7 @@
 use Rattle.std.proofs.Common.{◌≡◌, ℕ, ◌+◌, ◌-◌, ◌*◌, ◌<◌, ◌≤◌, ◌⊎◌, inl, inr, Bool, true, false, List, length, take}
 use Rattle.std.proofs.Common.{drop, nat_le, arith}
 use Rattle.std.specs.List.{All}
-use Rattle.std.proofs.lemmas.Bool.Decides.{nat_tests}
+use Rattle.std.proofs.lemmas.Bool.{leb-false}
 use Rattle.std.proofs.lemmas.List.{length-take}
 use Rattle.std.proofs.Math.ListN.{length-drop}
 use Rattle.enc_stream.specs.declared.bom.BomHandling.{BomHandling}
@@ -24,9 +24,6 @@ small_by false = four_bytes
 abbrev left : List ℕ → DecodeRunState → ℕ
 left bytes s = 2 * (length bytes - s.read) + length s.decoder.pending
 
-beyond : (n offer : ℕ) → nat_le n offer ≡ false → offer < n
-beyond n offer h = grind (arith, nat_tests)
-
 one_nearer : (bytes : List ℕ) (call : DecodeCall) (a b : DecodeRunState) → a.read ≤ length bytes
     → CanDecodeMore call → DecodeRunAdvances bytes call a b
     → (b.read ≤ length bytes) × ((has_finished b.decoder ≡ true) ⊎ (left bytes b < left bytes a))
@@ -47,7 +44,7 @@ one_nearer bytes call a b within can_go_on advances =
         wrote = _;
         replaced = advances.replaced;
       }) can_go_on.roomy decodes
-          (λ not_last. let more_than_offered = beyond (length unread) call.offer not_last in
+          (λ not_last. let more_than_offered = leb-false (length unread) call.offer not_last in
           omega (arith, more_than_offered, size, can_go_on.offered))) [
             | inl ended ↦ inl ended
             | inr less ↦ inr (omega (arith, less, in_offer, size, rest, advances.read, within))

@@ -1,6 +1,7 @@
 -- A run of a decoder does the sequences of the whole input, from the first on.
 use Rattle.std.proofs.Common.{◌≡◌, ℕ, ◌+◌, ◌-◌, ◌≤◌, Bool, true, false, true≢false, List, [], ◌∷◌, ◌++◌, map, length}
 use Rattle.std.proofs.Common.{take, drop, refl, ap, ◌∙◌, sym, arith, append_assoc, ◌||◌, subst, nat_le, append-nil}
+use Rattle.std.proofs.lemmas.Bool.{leb-true}
 use Rattle.std.proofs.lemmas.List.{take-append-drop, drop-append-le, drop-drop, length-append}
 use Rattle.std.proofs.Math.ListN.{drop_of_length-le, length-drop, length-take}
 use Rattle.std.specs.Prelude.{if◌then◌else◌}
@@ -31,7 +32,7 @@ use Rattle.enc_stream.proofs.EndOfInputLemmas.{fresh_sequences, none_left, fresh
 use Rattle.enc_stream.proofs.WholeInputLemmas.{joined}
 use Rattle.enc_stream.proofs.DecoderProgressLemmas.{ends_read}
 use Rattle.enc_stream.proofs.WholeEncodingLemmas.{within_after, within_bytes, encoding_ahead, still_ahead, fresh_ahead}
-use Rattle.encoding_rs.proofs.DecodeCallLemmas.{determined_by, reaches}
+use Rattle.encoding_rs.proofs.DecodeCallLemmas.{determined_by}
 use Rattle.encoding_rs.proofs.FaultPlaceLemmas.{no_faults, last_fault, all_reported}
 use Rattle.encoding_rs.proofs.RunLemmas.{IsRun}
 
@@ -116,7 +117,7 @@ module _ {handling : BomHandling} {e : Encoding} {bytes : List ℕ} {made : Deco
       ∙ drop-drop advances.more old.read bytes ∙ ap (λ n. drop n bytes) (sym advances.read)
 
   none_following : last ≡ true → following ≡ []
-  none_following h = drop_of_length-le unread (reaches (length unread) made.offer h)
+  none_following h = drop_of_length-le unread (leb-true (length unread) made.offer h)
 
   takes_first : remaining_in_run bytes old ≡ done ++ remaining_in_run bytes new
   takes_first = ap (remaining_sequences old.decoder) (sym (take-append-drop made.offer unread))
@@ -149,7 +150,7 @@ module _ {handling : BomHandling} {e : Encoding} {bytes : List ℕ} {made : Deco
           arith,
           advances.read,
           ends.1,
-          reaches (length unread) made.offer ends.0,
+          leb-true (length unread) made.offer ends.0,
           length-take made.offer unread,
           length-drop old.read bytes,
           in_input.within,

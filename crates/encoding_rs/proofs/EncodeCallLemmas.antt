@@ -2,10 +2,12 @@
 use Rattle.std.proofs.Common.{◌≡◌, ℕ, ◌≤◌, Bool, true, false, true≢false, ◌==◌, ◌↔◌, chars, List, [], ◌∷◌, ◌++◌, Option}
 use Rattle.std.proofs.Common.{Some, is_some, length, refl, ap, ◌∙◌, sym, arith, ◌||◌, ◌&&◌, nat_le, append-nil}
 use Rattle.std.proofs.Common.{if◌then◌else◌}
-use Rattle.std.proofs.lemmas.Bool.Decides.{nat_tests}
+use Rattle.std.proofs.lemmas.Bool.{leb-true, le-leb}
+use Rattle.std.proofs.lemmas.Bool.Decides.{same_from_decides, Decides-eqb}
 use Rattle.std.proofs.lemmas.List.{length-append}
 use Rattle.std.proofs.Math.ListN.{drop_of_length-le}
-use Rattle.std.proofs.lemmas.Str.{encodes-chars, length-encode, len_utf8_bounds}
+use Rattle.std.proofs.lemmas.Str.{encodes-chars}
+use Rattle.enc_encoder.proofs.EnoughLemmas.{some_of_utf_8}
 use Rattle.std.specs.Prelude.{drop}
 use Rattle.std.specs.Char.{encode_utf8}
 use Rattle.std.specs.Str.{IsUtf8, encode_utf8_all}
@@ -20,7 +22,6 @@ use Rattle.enc_encoder.specs.ErrorMode.{EncodeErrorMode, Fatal, Html, is_html_mo
 use Rattle.enc_encoder.proofs.UnmappableLemmas.{reports_by, reports_in, reports_in-append}
 use Rattle.enc_stream.specs.Encoder.{EncoderState, room_kept_for_references}
 use Rattle.enc_decoder.proofs.SequenceLemmas.{or_false}
-use Rattle.encoding_rs.proofs.DecodeCallLemmas.{reaches}
 use Rattle.encoding_rs.specs.EncodeRun.{encode_error_mode, reported_character, is_unmappable_result}
 use Rattle.encoding_rs.specs.EncodeRun.{is_input_empty_result}
 
@@ -31,9 +32,6 @@ none_in [] e = refl
 none_in (p ∷ ps) e =
     let both = parted p.report (any_reported ps) e in
     ap (λ r. reports_by r ++ reports_in ps) both.0 ∙ none_in ps both.1
-
-one_in : (r : Option ℕ) (c : ℕ) → r ≡ Some c → reports_by r ≡ c ∷ []
-one_in r c e = ap reports_by e
 
 -- the steps of a call without replacement
 report_is : (new : RawEncoderState) (rest : List ℕ) (last : Bool) (room : ℕ) (done : List Step)
@@ -49,20 +47,11 @@ report_is new rest last room done (Unmappable c) stops =
       sym (ap reports_in stops.then_report ∙ reports_in-append stops.before (last_step ∷ [])
           ∙ ap (λ t. t ++ (reports_by last_step.report ++ []))
           (none_in stops.before stops.none_reported)
-          ∙ append-nil (reports_by last_step.report) ∙ one_in last_step.report c stops.reported),
+          ∙ append-nil (reports_by last_step.report) ∙ ap reports_by stops.reported),
       sym (ap any_reported stops.then_report ∙ any_reported-append stops.before (last_step ∷ [])
           ∙ ap (λ b. b || (is_some last_step.report || false)) stops.none_reported
           ∙ ap (λ r. is_some r || false) stops.reported),
     )
-
--- the steps of a call with replacement
-none_reported_in_mode : (kept : ℕ) (new : RawEncoderState) (rest : List ℕ) (last : Bool) (room : ℕ)
-    (done : List Step)
-    (result : EncoderResult) → StopsInMode (Html kept) new rest last room done result
-    → (reported_character result ≡ []) × (is_unmappable_result result ≡ false)
-none_reported_in_mode kept new rest last room done InputEmpty s = (refl, refl)
-none_reported_in_mode kept new rest last room done OutputFull s = (refl, refl)
-none_reported_in_mode kept new rest last room done (Unmappable c) s = absurd s
 
 -- the character that a call reports and its flag, by its steps
 pub report_of_call : (replace : Bool) (v : EncoderState) (new : RawEncoderState) (rest : List ℕ)
@@ -71,13 +60,14 @@ pub report_of_call : (replace : Bool) (v : EncoderState) (new : RawEncoderState)
     → StopsInMode (encode_error_mode replace v) new rest last room done result
     → (reported_character result ≡ (if replace then [] else reports_in done))
     × ((replaced || is_unmappable_result result) ≡ any_reported done)
-report_of_call true v new rest last room done result replaced f s =
-    let none = none_reported_in_mode (room_kept_for_references v.barred v.encoding) new rest last
-    room done result s in
-    (none.0, ap (λ b. replaced || b) none.1 ∙ or_false replaced ∙ f)
-report_of_call false v new rest last room done result replaced f s =
-    let report_holds = report_is new rest last room done result s in
-    (report_holds.0, ap (λ b. b || is_unmappable_result result) f ∙ report_holds.1)
+report_of_call true v new rest last room done InputEmpty replaced flag stops =
+    (refl, or_false replaced ∙ flag)
+report_of_call true v new rest last room done OutputFull replaced flag stops =
+    (refl, or_false replaced ∙ flag)
+report_of_call true v new rest last room done (Unmappable c) replaced flag stops = absurd stops
+report_of_call false v new rest last room done result replaced flag stops =
+    let report_holds = report_is new rest last room done result stops in
+    (report_holds.0, ap (λ b. b || is_unmappable_result result) flag ∙ report_holds.1)
 
 -- after a call that ends the text, nothing is left
 pub left_nothing : (mode : EncodeErrorMode) (new : RawEncoderState) (rest : List ℕ) (last : Bool)
@@ -99,7 +89,7 @@ is_empty_is (Unmappable c) e = absurd (true≢false (sym e))
 -- no characters follow the offer of a call that reaches the end
 pub nothing_later : (unread : List ℕ) (offer : ℕ) → nat_le (length unread) offer ≡ true
     → drop offer unread ≡ []
-nothing_later unread offer l = drop_of_length-le unread (reaches (length unread) offer l)
+nothing_later unread offer l = drop_of_length-le unread (leb-true (length unread) offer l)
 
 -- a text has no more characters than bytes
 pub few_chars : (text : List ℕ) → IsUtf8 text → length (chars text) ≤ length text
@@ -111,18 +101,14 @@ few_chars text u = omega (arith, few (chars text), ap length (encodes-chars text
       arith,
       few t,
       length-append (encode_utf8 c) (encode_utf8_all t),
-      length-encode c,
-      len_utf8_bounds c,
+      some_of_utf_8 c,
     )
-
-leb_by : (n m : ℕ) (b : Bool) → (b ≡ true → n ≤ m) → (n ≤ m → b ≡ true) → b ≡ nat_le n m
-leb_by n m true h k = grind (arith, nat_tests, h refl)
-leb_by n m false h k = grind (arith, nat_tests, λ (l : n ≤ m). true≢false (sym (k l)))
 
 -- the offer is all of the rest
 pub is_last : (n m offer : ℕ) (last : Bool) → last ≡ (n == 0) → (n ≡ 0) ↔ (m ≤ offer)
     → last ≡ nat_le m offer
-is_last n m offer last last_is reaches_end =
-    leb_by m offer last (λ e. reaches_end.0 (grind (arith, nat_tests, sym last_is ∙ e)))
-    (λ e. last_is
-    ∙ grind (arith, nat_tests, reaches_end.1 e))
+is_last n m offer last last_is ends =
+    let none = Decides-eqb n 0 in
+    last_is ∙ same_from_decides {P = m ≤ offer} (n == 0) (nat_le m offer)
+    (λ is_zero. ends.0 (none.0 is_zero), λ few. none.1 (ends.1 few))
+    (leb-true m offer, le-leb m offer)

@@ -2,7 +2,7 @@
 use Rattle.std.proofs.Common.{◌≡◌, ℕ, ◌+◌, ◌*◌, ◌<◌, ◌≤◌, ◌⊎◌, inl, inr, Bool, true, false, ◌&&◌, List, [], ◌∷◌, ◌++◌}
 use Rattle.std.proofs.Common.{length, take, drop, nat_le, refl, ap, ◌∙◌, sym, arith, length-append}
 use Rattle.std.specs.List.{All}
-use Rattle.std.proofs.lemmas.Bool.{false≢true}
+use Rattle.std.proofs.lemmas.Bool.{false≢true, and_from, false_from_ne_true}
 use Rattle.std.proofs.lemmas.Bool.Decides.{nat_tests}
 use Rattle.std.proofs.lemmas.List.{take-append-drop, length-take}
 use Rattle.enc_decoder.proofs.FirstSequenceLemmas.{true_or_false}
@@ -34,10 +34,6 @@ some_read : (src rest : List ℕ) (done : List Step) → src ≡ step_chars done
 some_read src rest (p ∷ done) r e l = omega arith
 some_read src rest [] r e l = absurd (omega (arith, l, ap length r, ap length e))
 
-more_left : (a : Bool) (b : Bool) → (a && b) ≡ false → b ≡ true → a ≡ false
-more_left true b h e = absurd (false≢true (sym h ∙ e))
-more_left false b h e = refl
-
 -- the number of steps to come in a run
 abbrev to_come : List ℕ → EncodeRunState → ℕ
 to_come text s = length (steps_from_state (raw_state s.encoder) true (drop s.read text))
@@ -59,8 +55,9 @@ module _ {b : List ℕ} {e : Encoding} {text : List ℕ} {made : EncodeCall} {ol
     when_empty : is_input_empty_result advances.result ≡ true → 1 ≤ length done
     when_empty is_empty =
         let beyond : nat_le (length unread) made.offer ≡ false =
-        more_left last (is_input_empty_result advances.result) (sym advances.finished ∙ goes_on)
-        is_empty in
+        false_from_ne_true last
+        (λ is_last. false≢true (sym goes_on ∙ advances.finished ∙ and_from last _ is_last is_empty))
+        in
         let none_unread = left_nothing _ _ advances.call.encodes.rest last made.room done
         advances.result (raw in_text advances).stops is_empty in
         let some : 1 ≤ length (take made.offer unread) =

@@ -60,10 +60,7 @@ may_look e set b z n are_bytes is_lookahead RepeatedEscape k =
 pub looks_or_ends : (e : Encoding) (set b : ℕ) (z : List ℕ)
     → ((n : ℕ) × IsLookahead (rule_of e) set b z n) ⊎ IsDeterminedByEnd (rule_of e) set b z
 looks_or_ends e set b z = elim ((lookahead_of e).others set b z) [
-  | inl has_lookahead ↦ inl (
-    has_lookahead.0,
-    has_lookahead.2,
-  )
+  | inl has_lookahead ↦ inl (has_lookahead.0, has_lookahead.2)
   | inr f ↦ inr f
 ]
 

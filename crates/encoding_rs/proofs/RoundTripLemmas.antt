@@ -2,7 +2,7 @@
 use Rattle.std.proofs.Common.{◌≡◌, ◌≢◌, ℕ, ◌<◌, true, false, is_some, Option, Some, None, List, [], ◌∷◌, map, refl, ap}
 use Rattle.std.proofs.Common.{◌∙◌, arith, inl, not}
 use Rattle.std.proofs.lemmas.Bool.{and_from}
-use Rattle.std.proofs.lemmas.Bool.Decides.{nat_tests}
+use Rattle.std.proofs.Math.Utf8.{low_scalar}
 use Rattle.std.specs.Char.{IsScalar}
 use Rattle.std.specs.Cmp.{first_so, second_so}
 use Rattle.enc_units.specs.Output.{AreScalars}
@@ -81,10 +81,7 @@ decoded_text b e t s m euc shift iso gbk gb18030 =
 -- references are of scalar values
 
 is_scalar : (c : ℕ) → IsReferenceCharacter c → IsScalar c
-is_scalar c h = let below : c < 0x80 = omega arith in ascii_scalar c below
-  where
-    ascii_scalar : (c : ℕ) → c < 0x80 → IsScalar c
-    ascii_scalar c l = grind (arith, nat_tests)
+is_scalar c of_reference = low_scalar c (omega arith)
 
 are_scalars : (t : List ℕ) → AreOfReferences t → AreScalars t
 are_scalars [] of_references = refl

@@ -1,16 +1,12 @@
 -- Successive calls of an encoder are one call.
-use Rattle.std.proofs.Common.{◌≡◌, ℕ, Bool, true, false, ◌||◌, Option, List, [], ◌∷◌, ◌++◌, refl}
+use Rattle.std.proofs.Common.{◌≡◌, ℕ, Bool, true, false, ◌||◌, Option, List, [], ◌++◌, refl}
 use Rattle.std.proofs.Common.{ap, ◌∙◌, sym, append_assoc, append-nil, chars, IsUtf8}
 use Rattle.std.proofs.lemmas.Str.{encodes-chars}
 use Rattle.std.specs.Char.{encode_utf8}
+use Rattle.std.specs.Str.{encode_utf8_all}
 use Rattle.enc_units.specs.declared.coder_result.CoderResult.{CoderResult}
 use Rattle.enc_units.specs.declared.coder_result.CoderResult.TheVariants.{InputEmpty, OutputFull}
-use Rattle.enc_units.specs.Output.{units_of_text}
-use Rattle.enc_units.proofs.Utf8CharsLemmas.{their_units}
-use Rattle.enc_decoder.proofs.SequenceLemmas.{units_of_text-append}
 use Rattle.enc_encoder.specs.declared.character_set.CharacterSet.TheVariants.{Ascii}
-use Rattle.enc_encoder.specs.Stateless.{stateless_rule}
-use Rattle.enc_encode.specs.Utf8.{utf_8_bytes}
 use Rattle.enc_encoder.specs.Text.{bytes_after_text, with_references, KeepsText}
 use Rattle.enc_encoder.specs.Steps.{step_chars}
 use Rattle.enc_units.specs.Results.{encoder_result_of}
@@ -21,6 +17,8 @@ use Rattle.enc_encoder.proofs.UnmappableLemmas.{any_reported_is, any_unmappable-
 use Rattle.enc_stream.specs.declared.constants.TheConstants.{UTF_8}
 use Rattle.enc_stream.specs.Encodings.{output_rule}
 use Rattle.enc_stream.specs.Encoder.{EncoderState, EncodesChunk, raw_state, html_mode}
+use Rattle.enc_stream.proofs.ReferenceLemmas.{lawful_of}
+use Rattle.enc_stream.proofs.OwnBytesLemmas.{EachIsOwnChar, all_stay, all_mappable, all_written, each_in_utf_8}
 use Rattle.recode_engine.specs.Sink.{AppendsPrefix}
 use Rattle.recode_engine.specs.Writing.{bytes_from_state, bytes_to_come, TextToEncode, text_to_encode}
 use Rattle.recode_engine.specs.Writing.{EncodesText, HasEncoded, StopsWithin}
@@ -127,6 +125,16 @@ HasEncoded-longer_text {a} {b} t has_encoded =
       taken = has_encoded.taken;
     }
 
+-- Nothing is taken.
+pub StopsWithin-none : (s : TextToEncode) (last : Bool) (k : Option (List ℕ))
+    → StopsWithin s last k k
+StopsWithin-none s last k = record {
+  wrote = [];
+  unwritten = λ z h. bytes_to_come s z;
+  prefix = λ z h. refl;
+  taken = AppendsContents-none k;
+}
+
 -- A prefix of the bytes written is taken.
 pub StopsWithin-part : {a b : TextToEncode} {last : Bool} {wrote : List ℕ} {replaced : Bool}
     {k₀ k₁ : Option (List ℕ)} → EncodesText a b last wrote replaced → AppendsPrefix k₀ k₁ wrote
@@ -150,41 +158,37 @@ StopsWithin-then {k₀ = k₀} {k₁ = k₁} {k₂ = k₂} first stops = record 
   taken = AppendsContents-then k₀ k₁ k₂ first.wrote stops.wrote first.taken stops.taken;
 }
 
+-- characters that are written as their UTF-8
+pub EncodesText-own : (s : EncoderState) (front back : List ℕ) (last : Bool) → s.set ≡ Ascii
+    → EachIsOwnChar (raw_state s).rule front
+    → EncodesText (text_to_encode s (front ++ back)) (text_to_encode s back) last
+    (encode_utf8_all front) false
+EncodesText-own s front back last in_ascii each =
+    let rule = (raw_state s).rule in
+    let lawful = lawful_of s.barred s.encoding in
+    let bytes_of : List ℕ → List ℕ = λ t. bytes_after_text rule Ascii [] (with_references rule t) in
+    let from_ascii : (t : List ℕ) → bytes_from_state s t ≡ bytes_of t =
+    λ t. ap (λ set. bytes_after_text rule set [] (with_references rule t)) in_ascii in
+    record {
+      encoding = refl;
+      barred = refl;
+      front = front;
+      reads = refl;
+      residual = λ z h. from_ascii ((front ++ back) ++ z)
+          ∙ ap bytes_of (append_assoc front back z)
+          ∙ ap (bytes_after_text rule Ascii []) (all_stay rule lawful front (back ++ z) each)
+          ∙ all_written rule lawful [] front (with_references rule (back ++ z))
+          (lawful.set_after_none Ascii) each
+          ∙ ap (λ x. encode_utf8_all front ++ x) (sym (from_ascii (back ++ z)));
+      flag = sym (all_mappable rule lawful front each);
+    }
+
 -- UTF-8 is written as it is
-
-all_mapped : (t : List ℕ) → any_unmappable (stateless_rule utf_8_bytes) t ≡ false
-all_mapped [] = refl
-all_mapped (c ∷ t) = all_mapped t
-
-no_references : (t : List ℕ) → with_references (stateless_rule utf_8_bytes) t ≡ t
-no_references [] = refl
-no_references (c ∷ t) = ap (λ x. c ∷ x) (no_references t)
-
-rest_is : (u t : List ℕ)
-    → bytes_after_text (stateless_rule utf_8_bytes) Ascii u t ≡ units_of_text encode_utf8 t
-rest_is u [] = refl
-rest_is u (c ∷ t) = ap (λ x. encode_utf8 c ++ x) (rest_is (u ++ c ∷ []) t)
-
--- in UTF-8 the bytes of a text are its code units
-bytes_are_units : (s : EncoderState) → s.encoding ≡ UTF_8 → (s.set ≡ Ascii) × (s.barred ≡ [])
-    → (t : List ℕ) → bytes_from_state s t ≡ units_of_text encode_utf8 t
-bytes_are_units s is_utf_8 fresh t = rw (is_utf_8, fresh.0, fresh.1)
-    (ap (bytes_after_text (stateless_rule utf_8_bytes) Ascii []) (no_references t) ∙ rest_is [] t)
-
 pub EncodesText-utf_8 : (s : EncoderState) (text : List ℕ) (last : Bool) → s.encoding ≡ UTF_8
     → (s.set ≡ Ascii) × (s.barred ≡ []) → IsUtf8 text
     → EncodesText (text_to_encode s (chars text)) (text_to_encode s []) last text false
 EncodesText-utf_8 s text last is_utf_8 fresh utf_8 =
-    let units : units_of_text encode_utf8 (chars text) ≡ text = their_units (chars text)
-    ∙ encodes-chars text utf_8 in
-    record {
-      encoding = refl;
-      barred = refl;
-      front = chars text;
-      reads = sym (append-nil (chars text));
-      residual = λ z h. bytes_are_units s is_utf_8 fresh (chars text ++ z)
-          ∙ units_of_text-append encode_utf8 (chars text) z
-          ∙ ap (λ t. t ++ units_of_text encode_utf8 z) units
-          ∙ ap (λ t. text ++ t) (sym (bytes_are_units s is_utf_8 fresh z));
-      flag = rw (is_utf_8, fresh.1) (sym (all_mapped (chars text)));
-    }
+    let each : EachIsOwnChar (raw_state s).rule (chars text) =
+    rw (is_utf_8, fresh.1) (each_in_utf_8 (chars text)) in
+    rw (append-nil (chars text), encodes-chars text utf_8)
+    at (EncodesText-own s (chars text) [] last fresh.0 each)

@@ -1,6 +1,6 @@
 -- What a run has done after some reads, and where a fault stops it.
 use Rattle.std.proofs.Common.{◌≡◌, ℕ, ◌+◌, ◌-◌, ◌*◌, ◌^◌, ◌<◌, ◌≤◌, inl, inr, Bool, true, false, ◌||◌, List, []}
-use Rattle.std.proofs.Common.{◌++◌, length, Option, Some, None, refl, ap, ◌∙◌, sym, subst, append_assoc}
+use Rattle.std.proofs.Common.{◌++◌, length, Option, Some, None, refl, ap, ◌∙◌, sym, append_assoc}
 use Rattle.std.proofs.Common.{append-nil, length-append, arith, chars}
 use Rattle.std.proofs.lemmas.Bool.{false≢true}
 use Rattle.std.proofs.lemmas.Str.{chars-encodes, chars-append, chars-nil}
@@ -27,6 +27,7 @@ use Rattle.recode_engine.specs.Writing.{HasEncoded, StopsWithin, bytes_from_stat
 use Rattle.recode_engine.specs.Run.{RunsToEnd, RunsToFault, whole_text, recoded_bytes, any_replaced}
 use Rattle.recode_engine.proofs.SourceSinkLemmas.{AppendsContents-then, all_given, none_remaining}
 use Rattle.recode_engine.proofs.EncodingLemmas.{not_ended, HasEncoded-none, HasEncoded-then, HasEncoded-longer_text}
+use Rattle.recode_engine.proofs.EncodingLemmas.{StopsWithin-none}
 
 -- The text owed before is that handed out and that owed now.
 
@@ -71,24 +72,6 @@ pub record HasRun (start : RunStart) (now : RunState) : Type 0 where
       (text_to_encode now.encoder []) false start.taken now.taken now.replaced
   pub enough : now.made + distance_to_end now.source.state ≤ 1 + 2 * length bytes
 
-HasRun-none : (start : RunStart) → HasRun start (record {
-  source = reader_at start.remaining (fresh_reader start.from);
-  taken = start.taken;
-  encoder = fresh_encoder [] start.to;
-  malformed = false;
-  replaced = false;
-  made = 0;
-})
-HasRun-none start = record {
-  bytes = [];
-  wrote = [];
-  reads = ReadsOwed-none start.remaining (fresh_reader start.from);
-  is_exhausted = λ e. not_ended e;
-  encoded = rw chars-nil
-      (HasEncoded-none (text_to_encode (fresh_encoder [] start.to) []) false start.taken);
-  enough = omega arith;
-}
-
 pub HasRun-start : {start : RunStart} {remaining : Option (List ℕ)} {reader : ReaderState}
     {encoder : EncoderState} {malformed : Bool}
     → remaining ≡ start.remaining → reader ≡ fresh_reader start.from
@@ -101,7 +84,16 @@ pub HasRun-start : {start : RunStart} {remaining : Option (List ℕ)} {reader : 
       replaced = false;
       made = 0;
     })
-HasRun-start {start = start} a b c d = rw (a, b, c, d) (HasRun-none start)
+HasRun-start {start} all_remaining is_fresh fresh none_malformed =
+    rw (all_remaining, is_fresh, fresh, none_malformed) (record {
+      bytes = [];
+      wrote = [];
+      reads = ReadsOwed-none start.remaining (fresh_reader start.from);
+      is_exhausted = λ e. not_ended e;
+      encoded = rw chars-nil
+          (HasEncoded-none (text_to_encode (fresh_encoder [] start.to) []) false start.taken);
+      enough = omega arith;
+    })
 
 -- What a run owes is what its reader and its encoder owe that have read nothing.
 owed_is : (from to : Encoding) (bytes : List ℕ)
@@ -125,31 +117,12 @@ none_after s f z = none_left s.decoder.life s.decoder.encoding s.decoder.set
     (s.decoder.pending ++ (s.unread ++ z)) f
 
 -- A source that says all its bytes gives no more than they are.
-
-given_length : (old new : Option (List ℕ)) (bytes : List ℕ) → ConsumesRemaining old new bytes
-    → IfSome old (λ all. length bytes ≤ length all)
-given_length old None bytes given =
-    subst (λ (o : Option (List ℕ)). IfSome o (λ all. length bytes ≤ length all)) (sym given) tt
-given_length old (Some xs) bytes given =
-    subst (λ (o : Option (List ℕ)). IfSome o (λ all. length bytes ≤ length all)) (sym given)
-    (omega (arith, length-append bytes xs))
-
-if_some : (o : Option (List ℕ)) (P Q : List ℕ → Type 0) → ((all : List ℕ) → P all → Q all)
-    → IfSome o P → IfSome o Q
-if_some None P Q f h = tt
-if_some (Some all) P Q f h = f all h
-
--- what a run owes before a read, by what its reader owes then
-owed_before : {start : RunStart} {now : RunState} (so_far : HasRun start now) (z : List ℕ)
-    → (now.source.state.ended ≡ true → z ≡ [])
-    → recoded_bytes start.from start.to (so_far.bytes ++ z)
-    ≡ so_far.encoded.wrote
-    ++ bytes_from_state now.encoder (sequence_text (owed_sequences now.source.state z))
-owed_before {start = start} {now = now} so_far z ends =
-    owed_is start.from start.to (so_far.bytes ++ z)
-    ∙ ap (bytes_from_state (fresh_encoder [] start.to)) (owed_text so_far.reads z ends)
-    ∙ so_far.encoded.encoded.residual (sequence_text (owed_sequences now.source.state z))
-    (λ f. not_ended f)
+whole_given : (old new : Option (List ℕ)) (bytes : List ℕ) {failed : Bool}
+    → ConsumesRemaining old new bytes → (length bytes < 2 ^ 62 → failed ≡ true)
+    → IfSome old (λ all. length all < 2 ^ 62 → failed ≡ true)
+whole_given old None bytes given fails = rw given tt
+whole_given old (Some rest) bytes given fails =
+    rw given (λ few. fails (omega (arith, few, length-append bytes rest)))
 
 -- one read more
 module _ {start : RunStart} {now : RunState} (next : ReaderPlace) {text : List ℕ} {malformed : Bool}
@@ -172,9 +145,14 @@ module _ {start : RunStart} {now : RunState} (next : ReaderPlace) {text : List �
       → recoded_bytes start.from start.to (bytes ++ z) ≡ so_far.encoded.wrote
       ++ bytes_from_state now.encoder (chars text ++ sequence_text (owed_sequences next.state z))
   owed_on z ends =
+      let later = hands_out.bytes ++ z in
+      let ended : now.source.state.ended ≡ true → later ≡ [] =
+      λ e. let after = hands_out.reads.none_after e in ap (λ x. x ++ z) after.0 ∙ ends after.1 in
       ap (recoded_bytes start.from start.to) (append_assoc so_far.bytes hands_out.bytes z)
-      ∙ owed_before so_far (hands_out.bytes ++ z)
-      (λ e. let ended = hands_out.reads.none_after e in ap (λ x. x ++ z) ended.0 ∙ ends ended.1)
+      ∙ owed_is start.from start.to (so_far.bytes ++ later)
+      ∙ ap (bytes_from_state (fresh_encoder [] start.to)) (owed_text so_far.reads later ended)
+      ∙ so_far.encoded.encoded.residual (sequence_text (owed_sequences now.source.state later))
+      (λ e. not_ended e)
       ∙ ap (λ x. so_far.encoded.wrote ++ bytes_from_state now.encoder x)
       (owed_text hands_out.reads z ends)
 
@@ -286,21 +264,15 @@ module _ {start : RunStart} {now : RunState} (so_far : HasRun start now) where
       → ReadsOwed now.source.remaining next.remaining now.source.state next.state x [] malformed
       → (next.state.ended ≡ true → IsExhausted next.remaining)
       → RunsToFault start.from start.to start.remaining next.remaining start.taken now.taken
-  stops_at next x malformed reads_owed is_exhausted = record {
-    bytes = so_far.bytes ++ x;
-    given = ConsumesRemaining-then start.remaining now.source.remaining next.remaining so_far.bytes
-        x so_far.reads.given reads_owed.given;
-    ended = next.state.ended;
-    none_left = is_exhausted;
-    wrote = so_far.encoded.wrote;
-    written = so_far.encoded.taken;
-    prefix = λ z h. (
-      bytes_from_state now.encoder (sequence_text (owed_sequences now.source.state (x ++ z))),
-      ap (recoded_bytes start.from start.to) (append_assoc so_far.bytes x z)
-          ∙ owed_before so_far (x ++ z)
-          (λ e. let ended = reads_owed.none_after e in ap (λ u. u ++ z) ended.0 ∙ h ended.1),
-    );
-  }
+  stops_at next x malformed reads_owed is_exhausted =
+      RunsToFault-within next so_far (record {
+        bytes = x;
+        malformed = malformed;
+        reads = reads_owed;
+        flag = refl;
+        exhausted = is_exhausted;
+      }) (λ is_last. not_ended is_last)
+      (StopsWithin-none (text_to_encode now.encoder (chars [])) false now.taken)
 
   -- after `made` reads
   pub RunsToFault-between : RunsToFault start.from start.to start.remaining now.source.remaining
@@ -313,10 +285,8 @@ module _ {start : RunStart} {now : RunState} (so_far : HasRun start now) where
   pub has_failed-between : (failed : Bool) → now.made ≡ 2 ^ 64 - 1
       → IfSome start.remaining (λ all. length all < 2 ^ 62 → failed ≡ true)
   has_failed-between failed many =
-      if_some start.remaining (λ all. length so_far.bytes ≤ length all)
-      (λ all. length all < 2 ^ 62 → failed ≡ true)
-      (λ all l few. absurd (omega (arith, l, few, many, so_far.enough)))
-      (given_length start.remaining now.source.remaining so_far.bytes so_far.reads.given)
+      whole_given start.remaining now.source.remaining so_far.bytes so_far.reads.given
+      (λ few. absurd (omega (arith, few, many, so_far.enough)))
 
   -- in a read
   module _ (next : ReaderPlace) {failed_before failed_after : Bool}
@@ -332,12 +302,10 @@ module _ {start : RunStart} {now : RunState} (so_far : HasRun start now) where
     pub has_failed-reading : IfSome start.remaining
         (λ all. length all < 2 ^ 62 → failed_after ≡ true)
     has_failed-reading =
-        let given = ConsumesRemaining-then start.remaining now.source.remaining next.remaining
-        so_far.bytes fails.bytes so_far.reads.given fails.reads.given in
-        if_some start.remaining (λ all. length (so_far.bytes ++ fails.bytes) ≤ length all)
-        (λ all. length all < 2 ^ 62 → failed_after ≡ true)
-        (λ all l few. elim fails.why [
-          | inl e ↦ e
-          | inr many ↦ absurd (omega (arith, l, few, many, length-append so_far.bytes fails.bytes))
+        whole_given start.remaining next.remaining (so_far.bytes ++ fails.bytes)
+        (ConsumesRemaining-then start.remaining now.source.remaining next.remaining so_far.bytes
+        fails.bytes so_far.reads.given fails.reads.given)
+        (λ few. elim fails.why [
+          | inl failed ↦ failed
+          | inr many ↦ absurd (omega (arith, few, many, length-append so_far.bytes fails.bytes))
         ])
-        (given_length start.remaining next.remaining (so_far.bytes ++ fails.bytes) given)

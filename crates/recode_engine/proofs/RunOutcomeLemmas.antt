@@ -2,7 +2,7 @@
 use Rattle.std.proofs.Common.{◌≡◌, ℕ, ◌^◌, ◌<◌, Bool, true, false, ◌||◌, List, [], ◌∷◌}
 use Rattle.std.proofs.Common.{length, nat_eq, Option, Some, None, refl, ap, ◌∙◌, sym}
 use Rattle.std.proofs.Common.{arith}
-use Rattle.std.proofs.lemmas.Bool.{false≢true}
+use Rattle.std.proofs.lemmas.Bool.{false≢true, eqb-false}
 use Rattle.std.proofs.lemmas.Bool.Decides.{nat_tests}
 use Rattle.std.specs.Prelude.{IsErr, IsErrOf, IfSome, Ok, Err}
 use Rattle.std.specs.declared.result.Result.{Result}
@@ -22,8 +22,7 @@ no_text [] e = refl
 no_text (b ∷ text) e = absurd (grind (arith, nat_tests))
 
 pub some_text : (text : List ℕ) → nat_eq (length text) 0 ≡ false → 0 < length text
-some_text [] e = absurd (false≢true (sym e))
-some_text (b ∷ text) e = omega arith
+some_text text e = omega (arith, eqb-false (length text) 0 e)
 
 -- the text handed out, where it is known by another name
 pub HandsOut-by : {t₁ t₂ : Option (List ℕ)} {a b : ReaderState} {text wrote : List ℕ} {m₁ m₂ : Bool}
@@ -48,25 +47,16 @@ pub RunsToFault-by : {from to : Encoding} {t₀ t known k₀ k : Option (List �
     → RunsToFault from to t₀ t k₀ k → RunsToFault from to t₀ known k₀ k
 RunsToFault-by a h = rw a h
 
--- a run that is not begun
-pub RunsToFault-none : (from to : Encoding) (t k : Option (List ℕ)) → RunsToFault from to t t k k
-RunsToFault-none from to t k = record {
-  bytes = [];
-  given = ConsumesRemaining-none t;
-  ended = false;
-  none_left = λ e. absurd (false≢true e);
-  wrote = [];
-  written = AppendsContents-none k;
-  prefix = λ z h. (recoded_bytes from to z, refl);
-}
-
 IfSome-always : (known : Option (List ℕ)) {P : List ℕ → Type 0} → ((all : List ℕ) → P all)
     → IfSome known P
 IfSome-always None h = tt
 IfSome-always (Some all) h = h all
 
-neither_failed : {a b : Bool} → a ≡ false → b ≡ false → (a || b) ≡ false
-neither_failed {b = b} e f = ap (λ x. x || b) e ∙ f
+same_fault : {one two : RecodeFault} → IsErrOf {T = Bool} (Err one) two → one ≡ two
+same_fault is = cc
+
+neither_failed : {a b : Bool} {P : Type 0} → a ≡ false → b ≡ false → (a || b) ≡ true → P
+neither_failed first second failed = absurd (false≢true (rw (first, second) at failed))
 
 -- a run that is begun, since neither side has failed before
 module _ {from to : Encoding} {source_before source_after sink_before sink_after : Side}
@@ -90,79 +80,58 @@ module _ {from to : Encoding} {source_before source_after sink_before sink_after
         write_alone = λ f. cc;
         failed_source = λ f. absurd (false≢true (sym source_going ∙ f));
         failed_sink = λ _ f. absurd (false≢true (sym sink_going ∙ f));
-        not_begun = λ f. absurd (false≢true (sym (neither_failed source_going sink_going) ∙ f));
+        not_begun = λ f. neither_failed source_going sink_going f;
       })
 
-  pub IsRecodeRun-read : RunsToFault from to source_before.bytes source_after.bytes
-      sink_before.bytes sink_after.bytes
-      → IfSome source_before.bytes (λ all. length all < 2 ^ 62 → source_after.has_failed ≡ true)
-      → sink_after.has_failed ≡ sink_before.has_failed
-      → IsRecodeRun from to source_before source_after sink_before sink_after (Err side_fault.Read)
-  IsRecodeRun-read stops failed sink = record {
-    ok = tt;
-    source_kept = tt;
-    sink_kept = tt;
-    err = stops;
-    read_fault = λ _. failed;
-    write_fault = λ f. cc;
-    read_alone = λ _. sink;
-    write_alone = λ f. cc;
-    failed_source = λ f. absurd (false≢true (sym source_going ∙ f));
-    failed_sink = λ _ f. absurd (false≢true (sym sink_going ∙ f));
-    not_begun = λ f. absurd (false≢true (sym (neither_failed source_going sink_going) ∙ f));
-  }
-
-  pub IsRecodeRun-write : {r : Result Bool RecodeFault} → r ≡ Err side_fault.Write
-      → RunsToFault from to source_before.bytes source_after.bytes sink_before.bytes
-      sink_after.bytes
-      → sink_after.has_failed ≡ true
-      → source_after.has_failed ≡ source_before.has_failed
+  -- and that a fault of a side stops
+  pub IsRecodeRun-fault : {r : Result Bool RecodeFault} (fault : RecodeFault) → r ≡ Err fault
+      → RunsToFault from to source_before.bytes source_after.bytes sink_before.bytes sink_after.bytes
+      → (fault ≡ side_fault.Read → IfSome source_before.bytes
+      (λ all. length all < 2 ^ 62 → source_after.has_failed ≡ true)
+      × (sink_after.has_failed ≡ sink_before.has_failed))
+      → (fault ≡ side_fault.Write → (sink_after.has_failed ≡ true)
+      × (source_after.has_failed ≡ source_before.has_failed))
       → IsRecodeRun from to source_before source_after sink_before sink_after r
-  IsRecodeRun-write e stops failed source =
+  IsRecodeRun-fault fault e stops read write =
       rw e (record {
         ok = tt;
         source_kept = tt;
         sink_kept = tt;
         err = stops;
-        read_fault = λ f. cc;
-        write_fault = λ _. failed;
-        read_alone = λ f. cc;
-        write_alone = λ _. source;
+        read_fault = λ is. (read (same_fault is)).0;
+        write_fault = λ is. (write (same_fault is)).0;
+        read_alone = λ is. (read (same_fault is)).1;
+        write_alone = λ is. (write (same_fault is)).1;
         failed_source = λ f. absurd (false≢true (sym source_going ∙ f));
         failed_sink = λ _ f. absurd (false≢true (sym sink_going ∙ f));
-        not_begun = λ f. absurd (false≢true (sym (neither_failed source_going sink_going) ∙ f));
+        not_begun = λ f. neither_failed source_going sink_going f;
       })
 
--- a run that is not begun, since a side has failed before
-module _ {from to : Encoding} {source sink : Side} where
-  pub IsRecodeRun-failed_source : source.has_failed ≡ true
-      → IsRecodeRun from to source source sink sink (Err side_fault.Read)
-  IsRecodeRun-failed_source failed = record {
-    ok = tt;
-    source_kept = tt;
-    sink_kept = tt;
-    err = RunsToFault-none from to source.bytes sink.bytes;
-    read_fault = λ _. IfSome-always source.bytes (λ all few. failed);
-    write_fault = λ f. cc;
-    read_alone = λ _. refl;
-    write_alone = λ _. refl;
-    failed_source = λ _. refl;
-    failed_sink = λ going. absurd (false≢true (sym going ∙ failed));
-    not_begun = λ _. (refl, refl);
-  }
-
-  pub IsRecodeRun-failed_sink : source.has_failed ≡ false → sink.has_failed ≡ true
-      → IsRecodeRun from to source source sink sink (Err side_fault.Write)
-  IsRecodeRun-failed_sink going failed = record {
-    ok = tt;
-    source_kept = tt;
-    sink_kept = tt;
-    err = RunsToFault-none from to source.bytes sink.bytes;
-    read_fault = λ f. cc;
-    write_fault = λ _. failed;
-    read_alone = λ _. refl;
-    write_alone = λ _. refl;
-    failed_source = λ f. absurd (false≢true (sym going ∙ f));
-    failed_sink = λ _ _. refl;
-    not_begun = λ _. (refl, refl);
-  }
+-- a run that is not begun, since the side that is named has failed before
+pub IsRecodeRun-not_begun : {from to : Encoding} {source sink : Side} (fault : RecodeFault)
+    → (fault ≡ side_fault.Read → source.has_failed ≡ true)
+    → (fault ≡ side_fault.Write → sink.has_failed ≡ true)
+    → (source.has_failed ≡ true → fault ≡ side_fault.Read)
+    → (source.has_failed ≡ false → sink.has_failed ≡ true → fault ≡ side_fault.Write)
+    → IsRecodeRun from to source source sink sink (Err fault)
+IsRecodeRun-not_begun {from} {to} {source} {sink} fault read write source_first sink_then = record {
+  ok = tt;
+  source_kept = tt;
+  sink_kept = tt;
+  err = record {
+    bytes = [];
+    given = ConsumesRemaining-none source.bytes;
+    ended = false;
+    none_left = λ e. absurd (false≢true e);
+    wrote = [];
+    written = AppendsContents-none sink.bytes;
+    prefix = λ z h. (recoded_bytes from to z, refl);
+  };
+  read_fault = λ is. IfSome-always source.bytes (λ all few. read (same_fault is));
+  write_fault = λ is. write (same_fault is);
+  read_alone = λ _. refl;
+  write_alone = λ _. refl;
+  failed_source = λ failed. ap Err (source_first failed);
+  failed_sink = λ going failed. ap Err (sink_then going failed);
+  not_begun = λ _. (refl, refl);
+}

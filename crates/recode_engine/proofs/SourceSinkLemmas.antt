@@ -1,6 +1,6 @@
 -- What sources give and sinks take, over several steps.
 use Rattle.std.proofs.Common.{◌≡◌, ℕ, ◌+◌, ◌-◌, ◌≤◌, List, [], ◌++◌, length, take, drop, Option, Some, None, refl, ap}
-use Rattle.std.proofs.Common.{◌∙◌, sym, subst, append_assoc, append-nil, arith}
+use Rattle.std.proofs.Common.{◌∙◌, sym, append_assoc, append-nil, arith}
 use Rattle.std.proofs.Math.Seq.{take-add}
 use Rattle.std.proofs.lemmas.List.{take-take, take-append-drop}
 use Rattle.std.specs.Prelude.{IfSome, option_map}
@@ -29,19 +29,15 @@ AppendsContents-then k₀ k₁ k₂ a b h₁ h₂ = h₂ ∙ ap (λ k. append_kn
 pub all_given : (old new : Option (List ℕ)) (bytes : List ℕ) → ConsumesRemaining old new bytes
     → IsAtEnd new
     → IfSome old (λ all. bytes ≡ all)
-all_given old None bytes given end =
-    subst (λ (o : Option (List ℕ)). IfSome o (λ all. bytes ≡ all)) (sym given) tt
+all_given old None bytes given end = rw given tt
 all_given old (Some xs) bytes given end =
-    subst (λ (o : Option (List ℕ)). IfSome o (λ all. bytes ≡ all)) (sym given)
-    (sym (ap (λ t. bytes ++ t) end ∙ append-nil bytes))
+    rw given (sym (ap (λ t. bytes ++ t) end ∙ append-nil bytes))
 
 pub none_remaining : (old new : Option (List ℕ)) (bytes : List ℕ) → ConsumesRemaining old new bytes
     → IsAtEnd new
     → new ≡ option_map (λ _. []) old
-none_remaining old None bytes given end =
-    ap (λ (o : Option (List ℕ)). option_map (λ _. []) o) (sym given)
-none_remaining old (Some xs) bytes given end =
-    ap Some end ∙ ap (λ (o : Option (List ℕ)). option_map (λ _. []) o) (sym given)
+none_remaining old None bytes given end = rw given refl
+none_remaining old (Some xs) bytes given end = rw given (ap Some end)
 
 -- `at` bytes are taken, and n more
 pub AppendsContents-push : (k₀ k₁ k₂ : Option (List ℕ)) (bytes : List ℕ) (at n : ℕ)

@@ -10,7 +10,7 @@ pub loop-c-preserved : goal.loop-c-preserved
 loop-c-preserved c =
     let units = c.in_ok-extend_from_slice.ensures.items
     ∙ ap (λ x. c.loop-c.units.items ++ x) c.encode_utf16.ensures.value in
-    converts_one _ _ _ _ _ c.in-Some.c c.loop-c.invariant c.in-Some.ensures.steps.0 units
+    converts_one c.in-Some.c c.loop-c.invariant c.in-Some.ensures.steps.0 units
 
 pub returns : goal.returns
-returns c = all_converted _ _ _ c.utf8.text c.loop-c.invariant c.in_default.ensures.steps.0.0
+returns c = all_converted c.utf8.text c.loop-c.invariant c.in_default.ensures.steps.0.0

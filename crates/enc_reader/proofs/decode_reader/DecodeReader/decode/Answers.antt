@@ -1,8 +1,8 @@
-use Rattle.std.proofs.Common.{rules, ◌≡◌, ◌≤◌, length, take, [], true, false, not, ap, sym, ◌∙◌}
-use Rattle.std.proofs.lemmas.Bool.{false≢true}
+use Rattle.std.proofs.Common.{rules, ◌≡◌, ◌≤◌, length, take, [], false, not, ap, sym, ◌∙◌}
+use Rattle.std.proofs.lemmas.Bool.{false≢true, not-true, not-false}
 use Rattle.enc_stream.specs.Decoding.{has_finished}
 use Rattle.enc_reader.specs.Reader.{state_of}
-use Rattle.enc_reader.proofs.TurnLemmas.{IsTurn-call, chunk_can_decode, left_of, some_text, opposite, all_read}
+use Rattle.enc_reader.proofs.TurnLemmas.{IsTurn-call, chunk_can_decode, left_of, some_text, all_read}
 use Rattle.enc_reader.proofs.TurnLemmas.{only_at_end}
 use Rattle.enc_reader.proofs.decode_reader.DecodeReader.decode.Goals as goal
 
@@ -39,8 +39,8 @@ returns-clause-turn g c =
     (chunk_can_decode reader.filled reader.at reader.input.now (search rules) reader.decoded
     reader.within c.if-self.false c.requires.room)
     c.without_text-2.result.waits left
-    (λ t. (sym wrote ∙ none, opposite (has_finished call.new.decoder) true (sym waits ∙ t)))
-    (λ f _. opposite (has_finished call.new.decoder) false (sym waits ∙ f)))
+    (λ t. (sym wrote ∙ none, not-true (has_finished call.new.decoder) (sym waits ∙ t)))
+    (λ f _. not-false (has_finished call.new.decoder) (sym waits ∙ f)))
 
 pub invariant_of-self : goal.invariant_of-self
 invariant_of-self g c =

@@ -1,5 +1,6 @@
 use Rattle.std.proofs.Common.{arith, rules, ◌<◌}
-use Rattle.enc_reader.proofs.LendingLemmas.{HandsOut-filled, HandsOut-chunk, FailsToRead-filled, handed_is_utf_8}
+use Rattle.enc_reader.proofs.ReadingLemmas.{handed_utf_8}
+use Rattle.enc_reader.proofs.LendingLemmas.{HandsOut-filled, HandsOut-chunk, FailsToRead-filled}
 use Rattle.enc_reader.proofs.decode_reader.DecodeReader.read_or_lend.Goals as goal
 
 pub returns-then-len-ge-LEAST_LENT-clause-ok : goal.returns-then-len-ge-LEAST_LENT-clause-ok
@@ -17,11 +18,11 @@ pub returns-then-len-ge-LEAST_LENT-clause-utf_8 : goal.returns-then-len-ge-LEAST
 returns-then-len-ge-LEAST_LENT-clause-utf_8 g c =
     let after_fill = c.fill.new.self in
     let some : 0 < c.text_ahead-len.result = omega arith in
-    handed_is_utf_8
+    handed_utf_8
     (HandsOut-chunk _ _ after_fill.filled after_fill.at c.text_ahead-len.result
     after_fill.input.now _
     after_fill.had_errors after_fill.decoded after_fill.within c.text_ahead-len.ensures.within
-    (c.text_ahead-len.ensures.own some) after_fill.exhausted)
+    (c.text_ahead-len.ensures.own some) after_fill.exhausted).reads
 
 pub returns-in_err-len-clause-reader_fault : goal.returns-in_err-len-clause-reader_fault
 returns-in_err-len-clause-reader_fault g c =
