@@ -6,11 +6,10 @@ use Rattle.enc_units.specs.declared.decoder_result.DecoderResult.{DecoderResult}
 use Rattle.enc_units.specs.declared.decoder_result.DecoderResult.TheVariants.{InputEmpty, OutputFull, Malformed}
 use Rattle.enc_decoder.specs.Sequence.{sequence_bytes}
 use Rattle.enc_stream.specs.LifeCycle.{phase_of, mark_in, mark_bytes}
-use Rattle.enc_stream.specs.Decoding.{DecoderState, has_ended, has_finished}
+use Rattle.enc_stream.specs.Decoding.{DecoderState}
 use Rattle.enc_stream.specs.Decoding.{DecodesChunk}
-use Rattle.enc_stream.proofs.EndOfInputLemmas.{ends_at_end}
 use Rattle.std.proofs.lemmas.Bool.{true≢false}
-use Rattle.enc_decoder.specs.Call.{is_replacement_mode, reaches_end}
+use Rattle.enc_decoder.specs.Call.{is_replacement_mode}
 use Rattle.enc_decoder.specs.CallRecord.{Call}
 use Rattle.enc_stream.specs.Decoding.{LeavesFewerBytes}
 
@@ -39,13 +38,6 @@ module _ {units_of : ℕ → List ℕ} {old new : DecoderState} (c : Call)
   pub fewer_left : 0 < length (sequence_bytes decodes.call.done)
       → LeavesFewerBytes old new c.src c.read
   fewer_left some = omega (arith, some, bytes_done, decodes.call.within)
-
-  -- a call has finished exactly if it came to the end
-  pub finished_by : has_finished new ≡ reaches_end c.last c.result
-  finished_by =
-      ap has_ended decodes.life
-      ∙ ends_at_end old.life (reaches_end c.last c.result) (old.pending ++ take c.read c.src)
-      decodes.call.done
 
   -- a call that replaces has put out all that it has done
   pub only_put : is_replacement_mode c.mode ≡ true → decodes.call.put ≡ decodes.call.done

@@ -5,7 +5,6 @@ use Rattle.std.proofs.Common.{length-append, length-take, if◌then◌else◌}
 use Rattle.std.proofs.lemmas.List.{drop-take, take-append-le, take-append-drop}
 use Rattle.std.proofs.Math.Seq.{drop-append_seam}
 use Rattle.enc_encoder.specs.EncoderRule.{EncoderRule, RawEncoderState, is_escape_due}
-use Rattle.enc_encoder.specs.Barring.{barring_rule}
 use Rattle.enc_encoder.specs.Stateless.{WritesAscii}
 use Rattle.enc_encoder.proofs.BarringLemmas.{except_writes_ascii}
 use Rattle.enc_index.specs.declared.codec.Codec.{Codec}
@@ -42,12 +41,6 @@ has_encoder_by_id _ = refl
 pub has_encoder : (e : Encoding)
     → is_some (encoder_rule (codec_by_id (output_encoding_of e).id)) ≡ true
 has_encoder e = has_encoder_by_id e.id
-
--- an encoder of the codec's rule, without the characters that are barred, writes by the encoding's
-pub is_output_rule : (b : List ℕ) (o : Option EncoderRule) (rule : EncoderRule)
-    → option_map (barring_rule b) o ≡ Some rule → rule ≡ barring_rule b (rule_or_utf_8 o)
-is_output_rule b None rule e = cc
-is_output_rule b (Some x) rule e = cc
 
 -- the error mode of calls that write references, where every character is mappable and elsewhere
 pub html_mode_is : (every : Bool)

@@ -34,7 +34,8 @@ use Rattle.enc_stream.proofs.PendingBytesLemmas.{own_state}
 use Rattle.enc_decoder.specs.CallRecord.{Call}
 use Rattle.enc_stream.specs.Decoding.{LeavesFewerBytes}
 use Rattle.enc_stream.proofs.RemainingRuleLemmas.{by_rule}
-use Rattle.enc_stream.proofs.DecoderCallLemmas.{Decodes, fewer_left, finished_by}
+use Rattle.enc_stream.proofs.DecoderCallLemmas.{Decodes, fewer_left}
+use Rattle.enc_stream.proofs.EndOfInputLemmas.{finishes}
 
 begins_at : (last : Bool) (remaining : List ℕ → List Sequence) (x : List ℕ) (ss : List Sequence)
     → AreDetermined last remaining x ss → (z : List ℕ) × (AreFirstSequences ss (remaining z))
@@ -170,7 +171,7 @@ module _ {units_of : ℕ → List ℕ} (determine : DetermineTexts units_of) {ol
       pending = was_pending;
       set = decodes.call.set;
       encoding = same_encoding;
-      unfinished = finished_by (record c { result = OutputFull; read = 0; wrote = [] }) decodes;
+      unfinished = finishes decodes;
       same = same_if_none;
     }
 

@@ -1,6 +1,6 @@
 -- The rest of a text in UTF-8 that a call of an encoder leaves unread.
 use Rattle.std.proofs.Common.{◌≡◌, ℕ, Bool, true, List, [], ◌∷◌, ◌++◌, ◌≤◌, length, drop, refl, ap, ◌∙◌, sym, arith}
-use Rattle.std.proofs.Common.{length-append, chars, IsUtf8}
+use Rattle.std.proofs.Common.{chars, IsUtf8}
 use Rattle.std.proofs.lemmas.Str.{encodes-chars, chars-encodes, chars_from_encodes, IsCharBoundary-at_seam}
 use Rattle.std.proofs.Math.Seq.{drop-append_seam}
 use Rattle.std.specs.Str.{all_scalars, IsCharBoundary}
@@ -15,11 +15,10 @@ use Rattle.enc_units.proofs.Utf8CharsLemmas.{their_units}
 use Rattle.enc_units.proofs.CharsLemmas.{AreUnits, utf16_length, lossy_after}
 use Rattle.enc_decoder.proofs.SequenceLemmas.{units_of_text-append}
 use Rattle.enc_encoder.specs.EncoderRule.{RawEncoderState}
-use Rattle.enc_units.specs.declared.encoder_result.EncoderResult.{EncoderResult}
-use Rattle.enc_encoder.specs.Steps.{step_chars}
-use Rattle.enc_encoder.specs.ErrorMode.{EncodeErrorMode, is_nothing_left}
+use Rattle.enc_encoder.specs.ErrorMode.{is_nothing_left}
 use Rattle.enc_units.specs.Results.{encoder_result_of}
 use Rattle.enc_stream.specs.Encoder.{EncoderState, EncodesChunk, raw_state, html_mode}
+use Rattle.enc_units.proofs.LengthLemmas.{lengths}
 
 -- no bytes are no characters
 pub no_chars : (text : List ℕ) → text ≡ [] → chars text ≡ []
@@ -46,6 +45,7 @@ module _ (text front rest : List ℕ) (n : ℕ) (is_utf_8 : IsUtf8 text)
   rest_utf_8 : IsUtf8 (units_of_text encode_utf8 rest)
   rest_utf_8 = (rest, (rest_scalars, sym (their_units rest)))
 
+  -- a call that reads these bytes ends between two characters, and leaves the others unread
   pub boundary : IsCharBoundary text n
   boundary =
       rw size (IsCharBoundary-at_seam text (units_of_text encode_utf8 front)
@@ -76,54 +76,17 @@ all_read InputEmpty at_end {new = new} {last = last} encodes =
     none_left (raw_state new) encodes.rest last encodes.call.stops
 all_read OutputFull at_end encodes = cc
 
--- A call reads UTF-8 up to a boundary between two characters.
-pub ends_between : {text : List ℕ} → IsUtf8 text
-    → {mode : EncodeErrorMode} {old new : EncoderState} {last : Bool} {room : ℕ}
-    {result : EncoderResult} {read : ℕ}
-    {wrote : List ℕ} {replaced : Bool}
-    → EncodesChunk encode_utf8 mode old new (chars text) last room result read wrote replaced
-    → IsCharBoundary text read
-ends_between {text} is_utf_8 {read} encodes =
-    boundary text (step_chars encodes.call.done) encodes.rest read is_utf_8 encodes.call.reads
-    encodes.call.units
+-- The same in UTF-16, of which a call reads no more than there is.
+module _ (text front rest : List ℕ) (n : ℕ) (are_units : AreUnits text)
+    (parts : utf16_lossy_chars text ≡ front ++ rest)
+    (size : n ≡ length (units_of_text encode_utf16 front)) where
+  pub ends_within : n ≤ length text
+  ends_within =
+      let all = utf16_length text are_units
+      ∙ ap (λ t. length (units_of_text encode_utf16 t)) parts
+      ∙ ap length (units_of_text-append encode_utf16 front rest) in
+      omega (arith, lengths, all, size)
 
--- A call reads no more UTF-16 than there is.
-pub ends_within : (text : List ℕ) → AreUnits text
-    → {mode : EncodeErrorMode} {old new : EncoderState} {last : Bool} {room : ℕ}
-    {result : EncoderResult} {read : ℕ}
-    {wrote : List ℕ} {replaced : Bool}
-    → EncodesChunk encode_utf16 mode old new (utf16_lossy_chars text) last room result read wrote
-    replaced
-    → read ≤ length text
-ends_within text are_units encodes =
-    let all = utf16_length text are_units
-    ∙ ap (λ t. length (units_of_text encode_utf16 t)) encodes.call.reads
-    ∙ ap length (units_of_text-append encode_utf16 (step_chars encodes.call.done) encodes.rest) in
-    let parts = length-append (units_of_text encode_utf16 (step_chars encodes.call.done))
-    (units_of_text encode_utf16 encodes.rest) in
-    let units_read = encodes.call.units in
-    omega (arith, all, parts, units_read)
-
--- The characters of the unread rest.
-
-pub chars_unread : {text : List ℕ} → IsUtf8 text
-    → {mode : EncodeErrorMode} {old new : EncoderState} {last : Bool} {room : ℕ}
-    {result : EncoderResult} {read : ℕ}
-    {wrote : List ℕ} {replaced : Bool}
-    (encodes : EncodesChunk encode_utf8 mode old new (chars text) last room result read wrote
-    replaced)
-    → chars (drop read text) ≡ encodes.rest
-chars_unread {text} is_utf_8 {read} encodes =
-    chars_after text (step_chars encodes.call.done) encodes.rest read is_utf_8 encodes.call.reads
-    encodes.call.units
-
-pub lossy_unread : (text : List ℕ) → AreUnits text
-    → {mode : EncodeErrorMode} {old new : EncoderState} {last : Bool} {room : ℕ}
-    {result : EncoderResult} {read : ℕ}
-    {wrote : List ℕ} {replaced : Bool}
-    (encodes : EncodesChunk encode_utf16 mode old new (utf16_lossy_chars text) last room result read
-    wrote replaced)
-    → utf16_lossy_chars (drop read text) ≡ encodes.rest
-lossy_unread text are_units encodes =
-    ap (λ n. utf16_lossy_chars (drop n text)) encodes.call.units
-    ∙ lossy_after text are_units (step_chars encodes.call.done) encodes.rest encodes.call.reads
+  pub lossy_unread : utf16_lossy_chars (drop n text) ≡ rest
+  lossy_unread = ap (λ k. utf16_lossy_chars (drop k text)) size
+      ∙ lossy_after text are_units front rest parts

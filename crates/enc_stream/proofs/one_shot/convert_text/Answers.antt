@@ -8,7 +8,7 @@ use Rattle.enc_units.specs.Results.{encoder_result_of}
 use Rattle.enc_decoder.proofs.SequenceLemmas.{or_false}
 use Rattle.enc_stream.specs.Encoder.{EncoderState}
 use Rattle.enc_stream.proofs.OneShotDecodeLemmas.{nothing, something}
-use Rattle.enc_stream.proofs.UnreadTextLemmas.{no_chars, chars_unread}
+use Rattle.enc_stream.proofs.UnreadTextLemmas.{no_chars, chars_after}
 use Rattle.enc_stream.proofs.OneShotEncodeLemmas.{none_written, none_asked, nothing_written, written_on, flagged_on}
 use Rattle.enc_stream.proofs.OneShotEncodeLemmas.{none_unread, all_written, one_more_round}
 use Rattle.enc_stream.proofs.one_shot.convert_text.Goals as goal
@@ -106,11 +106,11 @@ calls-preserved c =
             written_on c.calls.encoder c.encode_from_utf8_to_vec-stop.new.self encoded.call.call
             written_so_far encoded.call.encoding encoded.call.barred
             c.encode_from_utf8_to_vec-stop.result.0 refl refl encoded.appended
-            (ap chars c.split_at.ensures.back ∙ chars_unread invariant.0 encoded.call);
+            (ap chars c.split_at.ensures.back ∙ chars_after _ _ _ _ invariant.0 encoded.call.call.reads encoded.call.call.units);
         flag =
             flagged_on c.calls.encoder c.encode_from_utf8_to_vec-stop.new.self encoded.call.call
             written_so_far refl _ invariant.1.flag
-            (ap chars c.split_at.ensures.back ∙ chars_unread invariant.0 encoded.call);
+            (ap chars c.split_at.ensures.back ∙ chars_after _ _ _ _ invariant.0 encoded.call.call.reads encoded.call.call.units);
         front = invariant.1.front
             ++ take c.encode_from_utf8_to_vec-stop.result.1 c.calls.unread.now;
         rest =

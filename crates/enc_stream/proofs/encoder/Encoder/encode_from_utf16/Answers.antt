@@ -1,6 +1,7 @@
 use Rattle.std.proofs.Common.{◌∙◌, ap}
 use Rattle.enc_encoder.specs.ErrorMode.{mode_of}
 use Rattle.enc_encoder.proofs.NeedInModeLemmas.{goes_on}
+use Rattle.enc_encoder.specs.Steps.{step_chars}
 use Rattle.enc_stream.proofs.EncoderLemmas.{html_mode_is, encodes_by, may_keep_none, never_reported}
 use Rattle.enc_stream.proofs.UnreadTextLemmas.{ends_within, lossy_unread}
 use Rattle.enc_stream.proofs.EncoderProgressLemmas.{beside_ten, beside_none, not_ended}
@@ -30,17 +31,20 @@ returns-clause-call c =
 
 pub returns-clause-read : goal.returns-clause-read
 returns-clause-read c =
-    ends_within _ (λ i. (c.type_inv.src i).fits)
-    (returns-clause-call c).encodes
+    let encodes = (returns-clause-call c).encodes in
+    ends_within c.args.src.now (step_chars encodes.call.done) encodes.rest _
+    (λ i. (c.type_inv.src i).fits) encodes.call.reads encodes.call.units
 
 pub returns-clause-progress : goal.returns-clause-progress
 returns-clause-progress c = λ on room.
     let encodes = (returns-clause-call c).encodes in
-    rw (lossy_unread _ (λ i. (c.type_inv.src i).fits) encodes)
+    rw (lossy_unread c.args.src.now (step_chars encodes.call.done) encodes.rest _
+    (λ i. (c.type_inv.src i).fits) encodes.call.reads encodes.call.units)
     (goes_on encodes.call (lawful_of _ _) (beside_ten room _) (not_ended _ on))
 
 pub returns-clause-progress_if_none_kept : goal.returns-clause-progress_if_none_kept
 returns-clause-progress_if_none_kept c = λ on none_kept room.
     let encodes = (returns-clause-call c).encodes in
-    rw (lossy_unread _ (λ i. (c.type_inv.src i).fits) encodes)
+    rw (lossy_unread c.args.src.now (step_chars encodes.call.done) encodes.rest _
+    (λ i. (c.type_inv.src i).fits) encodes.call.reads encodes.call.units)
     (goes_on encodes.call (lawful_of _ _) (beside_none none_kept room) (not_ended _ on))

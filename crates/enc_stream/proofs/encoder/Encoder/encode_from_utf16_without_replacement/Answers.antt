@@ -1,5 +1,6 @@
 use Rattle.std.proofs.Common.{◌≤◌, length, refl, rules}
 use Rattle.enc_encoder.proofs.NeedInModeLemmas.{goes_on}
+use Rattle.enc_encoder.specs.Steps.{step_chars}
 use Rattle.enc_stream.proofs.EncoderLemmas.{encodes_by}
 use Rattle.enc_stream.proofs.NeedLemmas.{into_by_need}
 use Rattle.enc_stream.proofs.UnreadTextLemmas.{ends_within, lossy_unread}
@@ -24,11 +25,13 @@ returns-clause-need c =
 
 pub returns-clause-read : goal.returns-clause-read
 returns-clause-read c =
-    ends_within _ (λ i. (c.type_inv.src i).fits)
-    (returns-clause-call c).encodes
+    let encodes = (returns-clause-call c).encodes in
+    ends_within c.args.src.now (step_chars encodes.call.done) encodes.rest _
+    (λ i. (c.type_inv.src i).fits) encodes.call.reads encodes.call.units
 
 pub returns-clause-progress : goal.returns-clause-progress
 returns-clause-progress c = λ on room.
     let encodes = (returns-clause-call c).encodes in
-    rw (lossy_unread _ (λ i. (c.type_inv.src i).fits) encodes)
+    rw (lossy_unread c.args.src.now (step_chars encodes.call.done) encodes.rest _
+    (λ i. (c.type_inv.src i).fits) encodes.call.reads encodes.call.units)
     (goes_on encodes.call (lawful_of _ _) room on)

@@ -2,7 +2,7 @@ use Rattle.std.proofs.Common.{◌∙◌, ap}
 use Rattle.enc_encoder.specs.ErrorMode.{mode_of}
 use Rattle.enc_encoder.proofs.NeedInModeLemmas.{goes_on}
 use Rattle.enc_stream.proofs.EncoderLemmas.{html_mode_is, encodes_by, may_keep_none, never_reported}
-use Rattle.enc_stream.proofs.UnreadTextLemmas.{ends_between, chars_unread}
+use Rattle.enc_stream.proofs.UnreadTextLemmas.{boundary, chars_after}
 use Rattle.enc_stream.proofs.EncoderProgressLemmas.{beside_ten, beside_none, not_ended}
 use Rattle.enc_stream.proofs.ReferenceLemmas.{lawful_of}
 use Rattle.enc_stream.proofs.encoder.Encoder.encode_from_utf8.Goals as goal
@@ -30,7 +30,8 @@ returns-clause-call c =
 
 pub returns-clause-boundary : goal.returns-clause-boundary
 returns-clause-boundary c =
-    ends_between c.utf8.src (returns-clause-call c).encodes
+    let call = (returns-clause-call c).encodes.call in
+    boundary _ _ _ _ c.utf8.src call.reads call.units
 
 pub returns-clause-read : goal.returns-clause-read
 returns-clause-read c = (returns-clause-boundary c).0
@@ -38,11 +39,11 @@ returns-clause-read c = (returns-clause-boundary c).0
 pub returns-clause-progress : goal.returns-clause-progress
 returns-clause-progress c = λ on room.
     let encodes = (returns-clause-call c).encodes in
-    rw (chars_unread c.utf8.src encodes)
+    rw (chars_after _ _ _ _ c.utf8.src encodes.call.reads encodes.call.units)
     (goes_on encodes.call (lawful_of _ _) (beside_ten room _) (not_ended _ on))
 
 pub returns-clause-progress_if_none_kept : goal.returns-clause-progress_if_none_kept
 returns-clause-progress_if_none_kept c = λ on none_kept room.
     let encodes = (returns-clause-call c).encodes in
-    rw (chars_unread c.utf8.src encodes)
+    rw (chars_after _ _ _ _ c.utf8.src encodes.call.reads encodes.call.units)
     (goes_on encodes.call (lawful_of _ _) (beside_none none_kept room) (not_ended _ on))
