@@ -12,6 +12,7 @@ use Rattle.std.proofs.lemmas.Bool.{true≢false}
 use Rattle.enc_decoder.specs.Call.{is_replacement_mode}
 use Rattle.enc_decoder.specs.CallRecord.{Call}
 use Rattle.enc_stream.specs.Decoding.{LeavesFewerBytes}
+use Rattle.enc_units.proofs.LengthLemmas.{lengths}
 
 -- a call of a decoder
 abbrev pub Decodes : (ℕ → List ℕ) → DecoderState → DecoderState → Call → Type 0
@@ -23,17 +24,7 @@ module _ {units_of : ℕ → List ℕ} {old new : DecoderState} (c : Call)
   -- The bytes pending and read are those of a byte order mark, those done, and those pending then.
   pub bytes_done : length (sequence_bytes decodes.call.done) + length new.pending
       ≤ length old.pending + c.read
-  bytes_done =
-      let mark : List ℕ =
-      mark_bytes (mark_in (phase_of old.life) (old.pending ++ take c.read c.src)) in
-      omega (
-        arith,
-        ap length decodes.accounted,
-        length-append old.pending (take c.read c.src),
-        length-append mark (sequence_bytes decodes.call.done ++ new.pending),
-        length-append (sequence_bytes decodes.call.done) new.pending,
-        length-take c.read c.src,
-      )
+  bytes_done = omega (arith, lengths, ap length decodes.accounted)
 
   pub fewer_left : 0 < length (sequence_bytes decodes.call.done)
       → LeavesFewerBytes old new c.src c.read

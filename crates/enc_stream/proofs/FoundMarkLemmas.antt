@@ -19,6 +19,12 @@ use Rattle.enc_stream.specs.declared.life_cycle.LifeCycle.TheVariants.{AtUtf16Le
 use Rattle.enc_stream.specs.Bom.{Mark, find_mark, marks, marks_of_encoding, marks_looked_for, utf_8_mark, utf_16be_mark, utf_16le_mark}
 use Rattle.enc_stream.specs.Decoding.{start_life, removal_start}
 use Rattle.std.proofs.Common.{sym}
+use Rattle.enc_stream.specs.Encodings.{rule_of}
+use Rattle.enc_stream.specs.Bom.{sequences_by_mark}
+use Rattle.enc_stream.specs.LifeCycle.{encoding_of_mark_or}
+use Rattle.enc_stream.specs.MarkLaws.{bytes_after_mark}
+use Rattle.enc_decoder.specs.Segmentation.{sequences_of}
+use Rattle.std.proofs.Common.{None}
 
 -- these byte order marks all have a property
 abbrev pub EachMark : (Mark → Type 0) → List Mark → Type 0
@@ -85,3 +91,10 @@ at_start Has off sniff utf_8 utf_16be utf_16le Remove e = by_id e.id
     by_id Utf16be = utf_16be
     by_id Utf16le = utf_16le
     by_id _ = off
+
+-- The sequences after a mark, if there is one, are those of its encoding.
+pub by_mark : (found : Option Mark) (e : Encoding) (bytes : List ℕ)
+    → sequences_by_mark found e bytes
+    ≡ sequences_of (rule_of (encoding_of_mark_or found e)) 0 (bytes_after_mark found bytes)
+by_mark None e bytes = refl
+by_mark (Some m) e bytes = refl

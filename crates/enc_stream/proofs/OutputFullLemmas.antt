@@ -36,6 +36,7 @@ use Rattle.enc_stream.specs.Decoding.{LeavesFewerBytes}
 use Rattle.enc_stream.proofs.RemainingRuleLemmas.{by_rule}
 use Rattle.enc_stream.proofs.DecoderCallLemmas.{Decodes, fewer_left}
 use Rattle.enc_stream.proofs.EndOfInputLemmas.{finishes}
+use Rattle.enc_units.proofs.LengthLemmas.{lengths}
 
 begins_at : (last : Bool) (remaining : List ℕ → List Sequence) (x : List ℕ) (ss : List Sequence)
     → AreDetermined last remaining x ss → (z : List ℕ) × (AreFirstSequences ss (remaining z))
@@ -48,11 +49,7 @@ some_bytes : (units_of : ℕ → List ℕ) (rule : Rule) (set : ℕ) (bytes : Li
     → 0 < length (units_of_text units_of (sequence_text ss)) → 0 < length (sequence_bytes ss)
 some_bytes units_of rule set bytes [] rest cut some_units = absurd (omega (arith, some_units))
 some_bytes units_of rule set bytes (s ∷ ss) rest cut some_units =
-    omega (
-      arith,
-      has_bytes rule set bytes [] s (ss ++ rest) cut,
-      length-append s.bytes (sequence_bytes ss),
-    )
+    omega (arith, lengths, has_bytes rule set bytes [] s (ss ++ rest) cut)
 
 -- A call with room for a small text that stops for want of room.
 module _ {units_of : ℕ → List ℕ} {least : ℕ} (takes : TakesSmallTexts units_of least)
@@ -87,12 +84,8 @@ module _ {units_of : ℕ → List ℕ} {least : ℕ} (takes : TakesSmallTexts un
 
   pub some_written : Decodes units_of old new (record c { result = OutputFull })
       → 0 < length c.wrote
-  some_written decodes = omega (
-    arith,
-    (some_done decodes).0,
-    ap length decodes.call.text,
-    ap (λ ss. length (units_of_text units_of (sequence_text ss))) decodes.call.stops.only_put,
-  )
+  some_written decodes =
+      rw (decodes.call.text, ← decodes.call.stops.only_put) (some_done decodes).0
 
   -- and a sequence that is reported has bytes, too
   pub less_left : (result : DecoderResult)
@@ -109,7 +102,7 @@ module _ {units_of : ℕ → List ℕ} {least : ℕ} (takes : TakesSmallTexts un
         stops.not_empty,
         ap (λ ss. length (sequence_bytes ss)) stops.then_next,
         ap length (sequence_bytes-one decodes.call.put stops.next),
-        length-append (sequence_bytes decodes.call.put) stops.next.bytes,
+        lengths,
       ))
 
 -- the bytes pending are no mark
@@ -124,10 +117,8 @@ same_state : (a b : DecoderState)
 same_state a b encoding life set pending =
     let made : Encoding → LifeCycle → ℕ → List ℕ → DecoderState =
     λ w x y z. record { encoding = w; life = x; set = y; pending = z } in
-    ap (λ w. made w a.life a.set a.pending) encoding
-    ∙ ap (λ x. made b.encoding x a.set a.pending) life
-    ∙ ap (λ y. made b.encoding b.life y a.pending) set
-    ∙ ap (made b.encoding b.life b.set) pending
+    let same : made a.encoding a.life a.set a.pending ≡ made b.encoding b.life b.set b.pending =
+    cc in same
 
 -- A call that stops for want of room, and has read nothing and written nothing.
 module _ {units_of : ℕ → List ℕ} (determine : DetermineTexts units_of) {old new : DecoderState}

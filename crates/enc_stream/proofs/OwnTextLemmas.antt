@@ -40,6 +40,7 @@ use Rattle.enc_stream.specs.OwnText.{AreTheirOwnText, IsItsOwnText, unmarked_byt
 use Rattle.enc_stream.specs.Properties.{is_ascii_compatible}
 use Rattle.enc_stream.proofs.OneShotDecodeLemmas.{none_whole}
 use Rattle.enc_stream.proofs.PropertyLemmas.{shows_ascii_compatible}
+use Rattle.enc_stream.proofs.FoundMarkLemmas.{by_mark}
 
 -- Each character of a text, in UTF-8, is a sequence, whatever follows.
 abbrev pub EachIsOwn : Rule → List ℕ → Type 0
@@ -177,12 +178,6 @@ own_utf_8 e bytes (inr (inl ascii)) = ascii_utf_8 bytes ascii.1
 own_utf_8 e bytes (inr (inr japanese)) = ascii_utf_8 bytes (plain_ascii bytes japanese.1)
 
 -- a whole input
-
-by_mark : (found : Option Mark) (e : Encoding) (bytes : List ℕ)
-    → sequences_by_mark found e bytes
-    ≡ sequences_of (rule_of (encoding_of_mark_or found e)) 0 (bytes_after_mark found bytes)
-by_mark None e bytes = refl
-by_mark (Some m) e bytes = refl
 
 module _ (handling : BomHandling) (e : Encoding) (bytes : List ℕ)
     (is_own : IsItsOwnText handling e bytes) where
