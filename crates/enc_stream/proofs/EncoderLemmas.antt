@@ -31,6 +31,7 @@ use Rattle.enc_stream.specs.Encodings.{rule_or_utf_8, output_rule}
 use Rattle.enc_stream.specs.Properties.{output_encoding_of, is_ascii_compatible}
 use Rattle.enc_stream.specs.Encoder.{EncoderState, EncodesChunk, is_utf_8, maps_every_character, raw_state}
 use Rattle.enc_stream.proofs.PropertyLemmas.{listed_ascii}
+use Rattle.std.proofs.lemmas.List.{take-take}
 
 has_encoder_by_id : (id : EncodingId)
     → is_some (encoder_rule (codec_by_id (output_by_id id))) ≡ true
@@ -174,12 +175,12 @@ module _ {units_of : ℕ → List ℕ} (barred : List ℕ) (encoding : Encoding)
   })
 
 -- a call whose bytes are at the end of another list than the one that it wrote into
-pub in_tail : {units_of : ℕ → List ℕ} {old new : RawEncoderState} {c : CallInMode}
-    {size : ℕ} {tail : List ℕ} → c.room ≡ size → c.wrote ≡ tail → IsCallInMode units_of old new c
-    → IsCallInMode units_of old new (record c { room = size; wrote = tail })
-in_tail {units_of} {old} {new} {c} {tail = tail} room_is wrote_is call =
-    subst (λ n. IsCallInMode units_of old new (record c { room = n; wrote = tail })) room_is
-    (subst (λ bytes. IsCallInMode units_of old new (record c { wrote = bytes })) wrote_is call)
+pub in_tail : {units_of : ℕ → List ℕ} {mode : EncodeErrorMode} {old new : EncoderState}
+    {src : List ℕ} {last : Bool} {size room : ℕ} {result : EncoderResult} {read : ℕ}
+    {wrote tail : List ℕ} {replaced : Bool} → size ≡ room → wrote ≡ tail
+    → EncodesChunk units_of mode old new src last size result read wrote replaced
+    → EncodesChunk units_of mode old new src last room result read tail replaced
+in_tail room_is wrote_is encodes = rw (room_is, wrote_is) at encodes
 
 -- The rest of a list after its front, if it was cut after the bytes written there.
 pub tail_of : (front slice post junk : List ℕ) {final : List ℕ} {len : ℕ} (written n : ℕ)
@@ -189,25 +190,14 @@ pub tail_of : (front slice post junk : List ℕ) {final : List ℕ} {len : ℕ} 
     → take written slice ≡ drop len final
 tail_of front slice post junk {final} {len} written n front_is written_fits room_fits final_is =
     let following = slice ++ (post ++ junk) in
-    let all = (front ++ (slice ++ post)) ++ junk in
-    let split : all ≡ front ++ following =
-    append_assoc front (slice ++ post) junk ∙ ap (λ x. front ++ x) (append_assoc slice post junk) in
-    let room = n - len in
-    let dropped : drop len (take n all) ≡ take room following =
-    ap (λ k. drop len (take k all)) (let parts : n ≡ len + room = omega (arith, room_fits) in parts)
-    ∙ drop-take len room all
-    ∙ ap (take room) (ap (drop len) split
-    ∙ ap (λ k. drop k (front ++ following)) (sym front_is) ∙ drop-append_seam front following) in
-    let reach : written ≤ length (take room following) =
-    omega (
-      arith,
-      room_fits,
-      written_fits,
-      length-take room following,
-      length-append slice
-          (post ++ junk),
-    ) in
-    sym (ap (drop len) final_is ∙ drop-take len written (take n all) ∙ ap (take written) dropped
-    ∙ sym (take-append-le written (take room following) (drop room following) reach)
-    ∙ ap (take written) (take-append-drop room following)
-    ∙ take-append-le written slice (post ++ junk) written_fits)
+    let cut : final ≡ take (len + written) (front ++ following) =
+    final_is ∙ take-take (len + written) n ((front ++ (slice ++ post)) ++ junk) room_fits
+    ∙ ap (take (len + written)) (append_assoc front (slice ++ post) junk
+    ∙ ap (λ x. front ++ x) (append_assoc slice post junk)) in
+    rw (
+      cut,
+      drop-take len written (front ++ following),
+      ← front_is,
+      drop-append_seam front following,
+    )
+    (sym (take-append-le written slice (post ++ junk) written_fits))

@@ -19,6 +19,7 @@ use Rattle.enc_encoder.specs.ErrorMode.{is_nothing_left}
 use Rattle.enc_units.specs.Results.{encoder_result_of}
 use Rattle.enc_stream.specs.Encoder.{EncoderState, EncodesChunk, raw_state, html_mode}
 use Rattle.enc_units.proofs.LengthLemmas.{lengths}
+use Rattle.enc_encoder.proofs.ReferenceStopLemmas.{rest_is_read}
 
 -- no bytes are no characters
 pub no_chars : (text : List ℕ) → text ≡ [] → chars text ≡ []
@@ -61,11 +62,6 @@ module _ (text front rest : List ℕ) (n : ℕ) (is_utf_8 : IsUtf8 text)
       ∙ chars-encodes rest rest_scalars
 
 -- Where a call has come to the end of a text, no character is unread.
-none_left : (v : RawEncoderState) (rest : List ℕ) (last : Bool) → is_nothing_left v rest last ≡ true
-    → [] ≡ rest
-none_left v [] last h = refl
-none_left v (c ∷ rest) last h = cc
-
 pub all_read : (result : CoderResult) → result ≡ InputEmpty
     → {old new : EncoderState} {text : List ℕ} {last : Bool} {room read : ℕ} {wrote : List ℕ}
     {replaced : Bool}
@@ -73,7 +69,7 @@ pub all_read : (result : CoderResult) → result ≡ InputEmpty
     (encoder_result_of result) read wrote replaced)
     → [] ≡ encodes.rest
 all_read InputEmpty at_end {new = new} {last = last} encodes =
-    none_left (raw_state new) encodes.rest last encodes.call.stops
+    rest_is_read (raw_state new) encodes.rest last encodes.call.stops
 all_read OutputFull at_end encodes = cc
 
 -- The same in UTF-16, of which a call reads no more than there is.
