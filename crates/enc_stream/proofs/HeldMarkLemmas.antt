@@ -52,17 +52,6 @@ module _ {e : Encoding} {life : LifeCycle} {v : CodecState} {src : List ℕ} {la
   abbrev total : ℕ
   total = length held - left + read
 
-  -- all of the bytes held that the codec hasn't read are few
-  near : (settled_from (phase_of life) ≤ read) ⊎ ((total ≤ 5) × (v.pending ≡ []))
-  near = elim (most_or_more (settled_from (phase_of life)) read) [
-    | inl settled ↦ inl settled
-    | inr unsettled ↦ let awaited = awaited_unless_settled (phase_of life) read unsettled in
-        inr (
-          omega (arith, few_unread life (length v.pending), awaited.0),
-          (text.holds.unread awaited.1).1,
-        )
-  ]
-
   length_pending : length pending ≡ length v.pending + length held
   length_pending = ap length text.holds.held ∙ length-append v.pending held
 
@@ -130,14 +119,16 @@ module _ {e : Encoding} {life : LifeCycle} {v : CodecState} {src : List ℕ} {la
         at_hand text (take read src) ∙ ap (λ x. v.pending ++ x) (sym (taken_all none_left))
         ∙ made.accounted
 
-    abbrev Escape : Type 0
-    Escape = (reports_escape call made.call ≡ true → settled_from (phase_of life) ≤ read)
+    -- unless it is settled that no mark comes, few bytes are read
+    escape : (reports_escape call made.call ≡ true → settled_from (phase_of life) ≤ read)
         ⊎ ((total ≤ 5) × AreAllRead (remainder_of v) (remainder_of w) call done)
-
-    escape : Escape
-    escape = elim near [
+    escape = elim (most_or_more (settled_from (phase_of life)) read) [
       | inl settled ↦ inl (λ _. settled)
-      | inr few ↦ inr (few.0, (few.1, made.accounted))
+      | inr unsettled ↦ let awaited = awaited_unless_settled (phase_of life) read unsettled in
+          inr (
+            omega (arith, few_unread life (length v.pending), awaited.0),
+            ((text.holds.unread awaited.1).1, made.accounted),
+          )
     ]
 
     -- the decoder's call, by its state after it

@@ -22,6 +22,7 @@ use Rattle.enc_stream.specs.LifeCycle.{life_after_bytes}
 use Rattle.std.proofs.lemmas.Bool.{cond_both}
 use Rattle.std.specs.Prelude.{bytes_eq}
 use Rattle.std.proofs.lemmas.Slice.Eq.{bytes_eq-Decides}
+use Rattle.std.proofs.Common.{rules}
 
 abbrev pub IsOpen : Phase → Type 0
 IsOpen (InFront looked_for) = Unit {0}
@@ -39,13 +40,8 @@ held_unmarked AtStart = refl
 held_unmarked _ = refl
 
 pub held_are_bytes : (life : LifeCycle) → AreBytes (held_mark_bytes life)
-held_are_bytes SeenUtf8Second = (omega arith, (omega arith, tt))
-held_are_bytes AtStart = tt
-held_are_bytes SeenUtf8First = (omega arith, tt)
-held_are_bytes SeenUtf16BeFirst = (omega arith, tt)
-held_are_bytes SeenUtf16LeFirst = (omega arith, tt)
-held_are_bytes ConvertingWithPendingBb = (omega arith, tt)
-held_are_bytes _ = tt
+held_are_bytes AtStart = search rules
+held_are_bytes _ = search rules
 
 pub held_are_few : (life : LifeCycle) → length (held_mark_bytes life) ≤ 2
 held_are_few AtStart = omega arith

@@ -68,12 +68,6 @@ none_decoded handling e bytes = record {
 module _ {handling : BomHandling} {e : Encoding} {bytes src : List ℕ} {old : DecoderState}
     {before : List ℕ} {had : Bool} (decoded : HasDecoded handling e bytes src true old before had)
   where
-    all_done : (done rest : List Sequence) → remaining_sequences old (src ++ []) ≡ done ++ rest
-        → whole_sequences handling e bytes ≡ (decoded.done ++ done) ++ rest
-    all_done done rest residual =
-        ap (whole_sequences handling e) (sym (append-nil bytes)) ∙ decoded.whole [] (λ _. refl)
-        ∙ ap (λ ss. decoded.done ++ ss) residual ∙ sym (append_assoc decoded.done done rest)
-
     -- if the call puts out all sequences that it does, their text is appended
     goes_on : {new : DecoderState} {mode : DecodeErrorMode} {room read : ℕ}
         {result : DecoderResult} {after : List ℕ} {replaced : Bool}
@@ -147,14 +141,6 @@ pub still_open : (result : CoderResult) {old new : DecoderState} {src : List ℕ
     → DecodesReplacing encode_utf8 old new src true room result read wrote replaced
     → ¬ (result ≡ coder.InputEmpty) → has_finished new ≡ false
 still_open result decodes goes_on = finishes decodes ∙ not_at_end result goes_on
-
--- and one that is leaves it finished
-pub now_finished : (result : CoderResult) {old new : DecoderState} {src : List ℕ} {room : ℕ}
-    {read : ℕ} {wrote : List ℕ} {replaced : Bool}
-    → DecodesReplacing encode_utf8 old new src true room result read wrote replaced
-    → result ≡ coder.InputEmpty → has_finished new ≡ true
-now_finished result decodes at_end = finishes decodes
-    ∙ ap (λ r. reaches_end true (decoder_result_of r)) at_end
 
 -- with enough room a call is never full
 pub never_full : {units_of : ℕ → List ℕ} {mode : DecodeErrorMode} (length_answered : Option ℕ)
@@ -256,33 +242,34 @@ none_strict e bytes is_empty =
     else Some (units_of_text encode_utf8 (sequence_text ss)))
     (sym (none_whole Off e bytes is_empty))
 
--- one more call
-module _ {e : Encoding} {bytes : List ℕ} {old new : DecoderState} {before : List ℕ} where
-  pub strict_end : (result : DecoderResult) {src after : List ℕ} {room read : ℕ}
-      → HasDecoded Off e bytes src true old before false
-      → DecodesChunk encode_utf8 (Fatal false) old new src true room result read
+-- the only call
+module _ {e : Encoding} {old new : DecoderState} (is_fresh : old ≡ fresh_decoder Off e) where
+  pub strict_end : (result : DecoderResult) {bytes before after : List ℕ} {room read : ℕ}
+      → before ≡ []
+      → DecodesChunk encode_utf8 (Fatal false) old new bytes true room result read
       (drop (length before) after) false
       → take (length before) after ≡ before → result ≡ InputEmpty
       → Some after ≡ utf_8_without_replacement e bytes
-  strict_end InputEmpty decoded decodes keeps at_end =
-      let decoded_all = goes_on decoded decodes keeps (sym decodes.call.stops.only_put) in
+  strict_end InputEmpty {bytes} {before} none_before decodes keeps at_end =
+      let none_so_far : HasDecoded Off e bytes bytes true old before false =
+      rw (is_fresh, none_before) (none_decoded Off e bytes) in
+      let decoded = goes_on none_so_far decodes keeps (sym decodes.call.stops.only_put) in
       let finished = finishes decodes in
-      rw (← whole_flag decoded_all finished, ← whole_text decoded_all finished) refl
-  strict_end OutputFull decoded decodes keeps at_end = cc
-  strict_end (Malformed l a) decoded decodes keeps at_end = cc
+      rw (← whole_flag decoded finished, ← whole_text decoded finished) refl
+  strict_end OutputFull none_before decodes keeps at_end = cc
+  strict_end (Malformed l a) none_before decodes keeps at_end = cc
 
-  pub strict_report : (result : DecoderResult) {l a : ℕ} {src wrote : List ℕ} {room read : ℕ}
-      → HasDecoded Off e bytes src true old before false
-      → DecodesChunk encode_utf8 (Fatal false) old new src true room result read wrote false
+  pub strict_report : (result : DecoderResult) {l a : ℕ} {bytes wrote : List ℕ} {room read : ℕ}
+      → DecodesChunk encode_utf8 (Fatal false) old new bytes true room result read wrote false
       → result ≡ Malformed l a → None ≡ utf_8_without_replacement e bytes
-  strict_report InputEmpty decoded decodes reported = cc
-  strict_report OutputFull decoded decodes reported = cc
-  strict_report (Malformed l a) {src} {read = read} decoded decodes reported =
+  strict_report InputEmpty decodes reported = cc
+  strict_report OutputFull decodes reported = cc
+  strict_report (Malformed l a) {bytes} {read = read} decodes reported =
       let stops = decodes.call.stops in
-      let rest = remaining_sequences new (drop read src ++ []) in
+      let rest = remaining_sequences new (drop read bytes ++ []) in
+      let sequences : whole_sequences Off e bytes ≡ (decodes.call.put ++ stops.next ∷ []) ++ rest =
+      ap (whole_sequences Off e) (sym (append-nil bytes)) ∙ fresh_sequences Off e (bytes ++ [])
+      ∙ rw (is_fresh, stops.then_next) at (decodes.call.residual [] (λ _. refl)) in
       let is_malformed_now : whole_malformed Off e bytes ≡ true =
-      ap any_malformed (all_done decoded (decodes.call.put ++ stops.next ∷ []) rest
-      (decodes.call.residual [] (λ _. refl) ∙ ap (λ ss. ss ++ rest) stops.then_next)
-      ∙ ap (λ ss. ss ++ rest) (sym (append_assoc decoded.done decodes.call.put (stops.next ∷ []))))
-      ∙ any_of_last (decoded.done ++ decodes.call.put) rest stops.next stops.malformed in
+      ap any_malformed sequences ∙ any_of_last decodes.call.put rest stops.next stops.malformed in
       rw is_malformed_now refl

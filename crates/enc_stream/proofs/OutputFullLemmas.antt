@@ -198,21 +198,11 @@ pub converts_into : {units_of : ℕ → List ℕ} {mode : DecodeErrorMode} {old 
     {replaced : Bool}
     → DecodesInto units_of mode old new src last before after result read replaced
     → AnswersDecodeInto units_of mode old new src last before after result read replaced
-converts_into {mode} determine are_held going {src} {last} {before} {result} {read} {replaced}
-    decodes = record {
-      wrote = decodes.wrote;
-      onto = decodes.onto;
-      converts = λ least takes. converts (record {
-        src = src;
-        last = last;
-        mode = mode;
-        room = before.room;
-        result = result;
-        read = read;
-        wrote = decodes.wrote;
-        replaced = replaced;
-      }) determine takes are_held going decodes.decodes;
-    }
+converts_into determine are_held going decodes = record {
+  wrote = decodes.wrote;
+  onto = decodes.onto;
+  converts = λ least takes. converts _ determine takes are_held going decodes.decodes;
+}
 
 -- small texts fit into four units of UTF-8, and two of UTF-16
 pub four_bytes : TakesSmallTexts encode_utf8 4

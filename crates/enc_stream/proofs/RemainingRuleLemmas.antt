@@ -27,6 +27,7 @@ use Rattle.enc_decoder.proofs.RuleLemmas.{has_bytes}
 use Rattle.enc_decoder.specs.Sequence.{sequence_bytes}
 use Rattle.std.proofs.Common.{◌++◌, length, arith}
 use Rattle.std.proofs.Common.{◌∷◌}
+use Rattle.enc_stream.specs.declared.life_cycle.LifeCycle.TheVariants.{AtStart}
 
 -- the sequences of some bytes by a rule with a property
 pub record ByRule (Has : Rule → Type 0) (sequences : List Sequence) : Type 0 where
@@ -47,13 +48,8 @@ module _ (Has : Rule → Type 0) (utf_8 : Has utf_8_rule) (utf_16be : Has (utf_1
   PhaseHas Ended = Unit {0}
 
   phase_has : (life : LifeCycle) → PhaseHas (phase_of life)
-  phase_has AtUtf8Start = (utf_8, tt)
-  phase_has AtUtf16BeStart = (utf_16be, tt)
-  phase_has AtUtf16LeStart = (utf_16le, tt)
-  phase_has ConvertingWithPendingBb = tt
-  phase_has Converting = tt
-  phase_has Finished = tt
-  phase_has _ = (utf_8, (utf_16be, (utf_16le, tt)))
+  phase_has AtStart = search (utf_8, utf_16be, utf_16le, tt)
+  phase_has _ = search (utf_8, utf_16be, utf_16le, tt)
 
   by_phase : (p : Phase) (e : Encoding) (set : ℕ) (x : List ℕ) → PhaseHas p → Has (rule_of e)
       → ByRule Has (sequences_in p e set x)

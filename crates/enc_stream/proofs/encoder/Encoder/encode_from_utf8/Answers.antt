@@ -9,9 +9,7 @@ use Rattle.enc_stream.proofs.encoder.Encoder.encode_from_utf8.Goals as goal
 
 pub encode_in_mode-outcome-requires : goal.encode_in_mode-outcome-requires
 encode_in_mode-outcome-requires c =
-    let encoder = c.self.inside in
-    may_keep_none encoder.barred.now encoder.encoding c.self.invariant
-    (rw (← c.self.view_is) at c.html_mode-mode.ensures)
+    may_keep_none _ _ c.self.invariant (rw (← c.self.view_is) at c.html_mode-mode.ensures)
 
 pub stop-requires : goal.stop-requires
 stop-requires c =
