@@ -95,7 +95,7 @@ module _ (before : ReaderState) {new : DecoderState} {room : ℕ} (result : Code
       by_result InputEmpty at_empty = record {
         unread = ap (λ n. drop n before.unread) at_empty.call.stops.all_read
             ∙ drop-length before.unread;
-        not_ended = sym (finishes InputEmpty at_empty) ∙ going;
+        not_ended = sym (finishes at_empty) ∙ going;
         going = going;
       }
       by_result OutputFull at_full =

@@ -32,26 +32,27 @@ use Rattle.enc_stream.proofs.MarkFirstLemmas.{none_begun}
 use Rattle.enc_stream.proofs.UnmarkedTextLemmas.{marked_sequences, undetermined_in_front}
 use Rattle.enc_stream.proofs.PendingBytesLemmas.{pending_of_held}
 use Rattle.enc_stream.proofs.PendingBytesLemmas.{own_state}
+use Rattle.enc_units.proofs.LengthLemmas.{lengths}
 
 -- After the first bytes of its chunk a decoder goes on as another one: a byte order mark before the
 -- bytes pending is dropped, or none is and more bytes are held.
-record GoesOnAs (old mid : DecoderState) (src : List ℕ) (len : ℕ) : Type 0 where
-  leads_to : LeadsTo (decoder_remainder old) (decoder_remainder mid) src len
-  dropped : List ℕ
-  pending : (y : List ℕ) → old.pending ++ (take len src ++ y) ≡ dropped ++ (mid.pending ++ y)
-  mark : (y : List ℕ) → mark_bytes (mark_in (phase_of old.life) (dropped ++ (mid.pending ++ y)))
+pub record GoesOnAs (old mid : DecoderState) (src : List ℕ) (len : ℕ) : Type 0 where
+  pub leads_to : LeadsTo (decoder_remainder old) (decoder_remainder mid) src len
+  pub dropped : List ℕ
+  pub pending : (y : List ℕ) → old.pending ++ (take len src ++ y) ≡ dropped ++ (mid.pending ++ y)
+  pub mark : (y : List ℕ) → mark_bytes (mark_in (phase_of old.life) (dropped ++ (mid.pending ++ y)))
       ≡ dropped ++ mark_bytes (mark_in (phase_of mid.life) (mid.pending ++ y))
-  encoding : (y : List ℕ)
+  pub encoding : (y : List ℕ)
       → encoding_of_mark_or (mark_in (phase_of old.life) (dropped ++ (mid.pending ++ y)))
       old.encoding
       ≡ encoding_of_mark_or (mark_in (phase_of mid.life) (mid.pending ++ y)) mid.encoding
-  life : (y : List ℕ) (end : Bool) (done : List Sequence)
+  pub life : (y : List ℕ) (end : Bool) (done : List Sequence)
       → life_after old.life end (dropped ++ (mid.pending ++ y)) done
       ≡ life_after mid.life end (mid.pending ++ y) done
 
 module _ {old mid : DecoderState} {src : List ℕ} {len : ℕ} (bytes : AreBytes src)
     (goes_on : GoesOnAs old mid src len) where
-  after_prefix : {units_of : ℕ → List ℕ} {mode : DecodeErrorMode} {last : Bool}
+  pub after_prefix : {units_of : ℕ → List ℕ} {mode : DecodeErrorMode} {last : Bool}
       {before after : Output} {new : DecoderState} {result : DecoderResult} {n : ℕ}
       {replaced : Bool}
       → DecodesInto units_of mode mid new (drop len src) last before after result n replaced
@@ -102,9 +103,8 @@ module _ (e : Encoding) {to : Encoding} {life : LifeCycle} {v : CodecState} (src
   mid = record { encoding = to; life = Converting; set = 0; pending = [] }
 
   at_mark : (y : List ℕ) → old.pending ++ (take len src ++ y) ≡ completes.mark.bytes ++ y
-  at_mark y = ap (λ x. x ++ (take len src ++ y)) (pending_reaches life e v holds completes.awaits)
-      ∙ sym (append_assoc (held_mark_bytes life) (take len src) y)
-      ∙ ap (λ x. x ++ y) completes.whole
+  at_mark y = rw (pending_reaches life e v holds completes.awaits, ← completes.whole)
+      (sym (append_assoc (held_mark_bytes life) (take len src) y))
 
   after_mark : (y : List ℕ)
       → remaining_sequences old (take len src ++ y) ≡ remaining_sequences mid y
@@ -116,7 +116,7 @@ module _ (e : Encoding) {to : Encoding} {life : LifeCycle} {v : CodecState} (src
       (drop-append_seam completes.mark.bytes y)
       ∙ ap (λ t. sequences_of (rule_of t) 0 y) completes.is_encoding
 
-  goes_on_after_mark : GoesOnAs old mid src len
+  pub goes_on_after_mark : GoesOnAs old mid src len
   goes_on_after_mark = record {
     leads_to = record {
       within = within;
@@ -133,24 +133,13 @@ module _ (e : Encoding) {to : Encoding} {life : LifeCycle} {v : CodecState} (src
         (ap (λ o. life_after_sequences o done) (completes.no_front y));
   }
 
-  pub after_a_mark : AreBytes src
-      → {units_of : ℕ → List ℕ} {mode : DecodeErrorMode} {last : Bool} {before after : Output}
-      {new : DecoderState} {result : DecoderResult} {n : ℕ} {replaced : Bool}
-      → DecodesInto units_of mode mid new (drop len src) last before after result n replaced
-      → DecodesInto units_of mode old new src last before after result (len + n) replaced
-  after_a_mark bytes = after_prefix bytes goes_on_after_mark
-
 -- After bytes that might have begun one.
 
-sequences_alike : (p q : Phase) (e : Encoding) (set : ℕ) (x : List ℕ) → awaits_mark p ≡ true
-    → awaits_mark q ≡ true → mark_in p x ≡ mark_in q x
-    → sequences_in p e set x ≡ sequences_in q e set x
-sequences_alike (InFront a) (InFront b) e set x awaits still same =
-    ap (λ o. sequences_by_mark o e x) same
-sequences_alike (InFront a) Within e set x awaits still same = absurd (false≢true still)
-sequences_alike (InFront a) Ended e set x awaits still same = absurd (false≢true still)
-sequences_alike Within q e set x awaits still same = absurd (false≢true awaits)
-sequences_alike Ended q e set x awaits still same = absurd (false≢true awaits)
+in_front : (p : Phase) (e : Encoding) (set : ℕ) (x : List ℕ) → awaits_mark p ≡ true
+    → sequences_in p e set x ≡ sequences_by_mark (mark_in p x) e x
+in_front (InFront looked_for) e set x awaits = refl
+in_front Within e set x awaits = absurd (false≢true awaits)
+in_front Ended e set x awaits = absurd (false≢true awaits)
 
 module _ (e : Encoding) {life now : LifeCycle} {v : CodecState} (src : List ℕ) (len : ℕ)
     (holds : HeldBytesMatchCodec life v)
@@ -169,9 +158,8 @@ module _ (e : Encoding) {life now : LifeCycle} {v : CodecState} (src : List ℕ)
   held_pending = pending_of_held (held_mark_bytes now) v.pending (holds.unread awaits).1
 
   at_held : (y : List ℕ) → from.pending ++ (take len src ++ y) ≡ held.pending ++ y
-  at_held y = ap (λ x. x ++ (take len src ++ y)) (pending_reaches life e v holds awaits)
-      ∙ sym (append_assoc (held_mark_bytes life) (take len src) y)
-      ∙ ap (λ x. x ++ y) (extends.held ∙ sym held_pending)
+  at_held y = rw (pending_reaches life e v holds awaits, held_pending, ← extends.held)
+      (sym (append_assoc (held_mark_bytes life) (take len src) y))
 
   same_mark : (y : List ℕ)
       → mark_in (phase_of life) (held.pending ++ y) ≡ mark_in (phase_of now) (held.pending ++ y)
@@ -181,8 +169,9 @@ module _ (e : Encoding) {life now : LifeCycle} {v : CodecState} (src : List ℕ)
       → remaining_sequences from (take len src ++ y) ≡ remaining_sequences held y
   after_held y =
       ap (sequences_in (phase_of life) e v.set) (at_held y)
-      ∙ sequences_alike (phase_of life) (phase_of now) e v.set (held.pending ++ y) awaits still
-      (same_mark y)
+      ∙ in_front (phase_of life) e v.set (held.pending ++ y) awaits
+      ∙ ap (λ o. sequences_by_mark o e (held.pending ++ y)) (same_mark y)
+      ∙ sym (in_front (phase_of now) e v.set (held.pending ++ y) still)
 
   none_determined : (s : Sequence) (ss : List Sequence)
       → Determines (remaining_sequences held) [] (s ∷ ss) → ⊥
@@ -207,13 +196,6 @@ module _ (e : Encoding) {life now : LifeCycle} {v : CodecState} (src : List ℕ)
     life = λ y end done. same_life_after life now end (held.pending ++ y) (held.pending ++ y) done
         (ap (λ o. life_after_sequences o done) (rw held_pending (extends.states y)));
   }
-
-  pub after_held_bytes : len ≤ length src → AreBytes src
-      → {units_of : ℕ → List ℕ} {mode : DecodeErrorMode} {last : Bool} {before after : Output}
-      {new : DecoderState} {result : DecoderResult} {n : ℕ} {replaced : Bool}
-      → DecodesInto units_of mode held new (drop len src) last before after result n replaced
-      → DecodesInto units_of mode from new src last before after result (len + n) replaced
-  after_held_bytes within bytes = after_prefix bytes (goes_on_after_held within)
 
   -- a call without input does nothing
   idle : {units_of : ℕ → List ℕ} {mode : DecodeErrorMode} {out : Output} → has_ended now ≡ false
@@ -261,10 +243,7 @@ module _ (e : Encoding) {life now : LifeCycle} {v : CodecState} (src : List ℕ)
       let none_left : drop len src ≡ [] = drop_of_length-le src (omega arith) in
       let none_more : len + 0 ≡ len = omega arith in
       subst (λ n. DecodesInto units_of mode from held src false out out InputEmpty n false)
-      none_more (after_held_bytes (omega arith) bytes (rw none_left (idle going)))
-
-none_more : (x y : List ℕ) → x ++ y ≡ x → length y ≡ 0
-none_more x y same = omega (arith, ap length same, length-append x y)
+      none_more (after_prefix bytes (goes_on_after_held (omega arith)) (rw none_left (idle going)))
 
 -- After the bytes before text.
 pub after_text : (e : Encoding) {life now : LifeCycle} {v : CodecState} (src : List ℕ) (len : ℕ)
@@ -278,15 +257,10 @@ pub after_text : (e : Encoding) {life now : LifeCycle} {v : CodecState} (src : L
     → DecodesInto units_of mode (decoder_state_of e life v) new src last before after result
     (len + n) replaced
 after_text e src len true holds within extends awaits bytes rest =
-    after_held_bytes e src len holds extends awaits within bytes rest
+    after_prefix bytes (goes_on_after_held e src len holds extends awaits within) rest
 after_text e {life} {now} {v} src len false holds within extends awaits bytes {n} rest =
     let same : now ≡ life = extends.stays awaits in
     let none : len ≡ 0 =
-    omega (
-      arith,
-      none_more (held_mark_bytes life) (take len src)
-          (extends.held ∙ ap held_mark_bytes same),
-      length-take len src,
-    ) in
+    omega (arith, lengths, ap length (extends.held ∙ ap held_mark_bytes same), within) in
     let only_rest : len + n ≡ n = omega (arith, none) in
     rw only_rest (rw (none, same) at rest)

@@ -12,6 +12,7 @@ use Rattle.enc_units.specs.Output.{Output}
 use Rattle.enc_decoder.specs.Call.{Replacement, DecodeErrorMode}
 use Rattle.enc_stream.specs.Decoding.{DecoderState}
 use Rattle.enc_stream.specs.Decoding.{TakesSmallTexts, AnswersDecode, AnswersDecodeInto}
+use Rattle.enc_units.proofs.LengthLemmas.{lengths}
 
 -- a call with replacement that goes on does so without replacement
 pub still_goes_on : (result : CoderResult) → (result ≡ coder.InputEmpty → ⊥)
@@ -91,13 +92,4 @@ pub capacity_stays : (before wrote : List ℕ) {after : List ℕ}
     → length before ≡ len → room ≡ capacity - len → length after + room_after ≤ capacity_after
     → capacity_after ≡ end → capacity ≤ end
 capacity_stays before wrote appended falls len_is room_is fits end_is =
-    omega (
-      arith,
-      ap length appended,
-      length-append before wrote,
-      falls,
-      len_is,
-      room_is,
-      fits,
-      end_is,
-    )
+    omega (arith, lengths, ap length appended, falls, len_is, room_is, fits, end_is)

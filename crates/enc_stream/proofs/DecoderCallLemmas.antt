@@ -6,13 +6,13 @@ use Rattle.enc_units.specs.declared.decoder_result.DecoderResult.{DecoderResult}
 use Rattle.enc_units.specs.declared.decoder_result.DecoderResult.TheVariants.{InputEmpty, OutputFull, Malformed}
 use Rattle.enc_decoder.specs.Sequence.{sequence_bytes}
 use Rattle.enc_stream.specs.LifeCycle.{phase_of, mark_in, mark_bytes}
-use Rattle.enc_stream.specs.Decoding.{DecoderState, has_ended, has_finished}
+use Rattle.enc_stream.specs.Decoding.{DecoderState}
 use Rattle.enc_stream.specs.Decoding.{DecodesChunk}
-use Rattle.enc_stream.proofs.EndOfInputLemmas.{ends_at_end}
 use Rattle.std.proofs.lemmas.Bool.{true≢false}
-use Rattle.enc_decoder.specs.Call.{is_replacement_mode, reaches_end}
+use Rattle.enc_decoder.specs.Call.{is_replacement_mode}
 use Rattle.enc_decoder.specs.CallRecord.{Call}
 use Rattle.enc_stream.specs.Decoding.{LeavesFewerBytes}
+use Rattle.enc_units.proofs.LengthLemmas.{lengths}
 
 -- a call of a decoder
 abbrev pub Decodes : (ℕ → List ℕ) → DecoderState → DecoderState → Call → Type 0
@@ -23,28 +23,11 @@ module _ {units_of : ℕ → List ℕ} {old new : DecoderState} (c : Call)
   -- The bytes pending and read are those of a byte order mark, those done, and those pending then.
   pub bytes_done : length (sequence_bytes decodes.call.done) + length new.pending
       ≤ length old.pending + c.read
-  bytes_done =
-      let mark : List ℕ =
-      mark_bytes (mark_in (phase_of old.life) (old.pending ++ take c.read c.src)) in
-      omega (
-        arith,
-        ap length decodes.accounted,
-        length-append old.pending (take c.read c.src),
-        length-append mark (sequence_bytes decodes.call.done ++ new.pending),
-        length-append (sequence_bytes decodes.call.done) new.pending,
-        length-take c.read c.src,
-      )
+  bytes_done = omega (arith, lengths, ap length decodes.accounted)
 
   pub fewer_left : 0 < length (sequence_bytes decodes.call.done)
       → LeavesFewerBytes old new c.src c.read
   fewer_left some = omega (arith, some, bytes_done, decodes.call.within)
-
-  -- a call has finished exactly if it came to the end
-  pub finished_by : has_finished new ≡ reaches_end c.last c.result
-  finished_by =
-      ap has_ended decodes.life
-      ∙ ends_at_end old.life (reaches_end c.last c.result) (old.pending ++ take c.read c.src)
-      decodes.call.done
 
   -- a call that replaces has put out all that it has done
   pub only_put : is_replacement_mode c.mode ≡ true → decodes.call.put ≡ decodes.call.done

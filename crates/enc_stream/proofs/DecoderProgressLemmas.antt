@@ -7,15 +7,16 @@ use Rattle.enc_stream.specs.Decoding.{DecoderState, has_finished, TakesSmallText
 use Rattle.enc_stream.proofs.EndOfInputLemmas.{at_end}
 use Rattle.enc_decoder.specs.CallRecord.{Call}
 use Rattle.enc_decoder.proofs.FirstSequenceLemmas.{true_or_false}
-use Rattle.enc_stream.proofs.DecoderCallLemmas.{Decodes, bytes_done, finished_by}
+use Rattle.enc_stream.proofs.DecoderCallLemmas.{Decodes, bytes_done}
 use Rattle.enc_stream.proofs.OutputFullLemmas.{less_left}
+use Rattle.enc_stream.proofs.EndOfInputLemmas.{finishes}
 
 -- a call that came to the end has read everything
 pub ends_read : {units_of : ℕ → List ℕ} {old new : DecoderState} (c : Call)
     → Decodes units_of old new c → has_finished new ≡ true
     → (c.last ≡ true) × (c.read ≡ length c.src)
 ends_read {units_of} {old} {new} c decodes finished =
-    let ends = at_end c.last c.result (sym (finished_by c decodes) ∙ finished) in (
+    let ends = at_end c.last c.result (sym (finishes decodes) ∙ finished) in (
       ends.0,
       all_read c.result decodes ends.1,
     )
@@ -38,7 +39,7 @@ nearer {units_of} takes {old} {new} c roomy decodes some = by_result c.result de
         → (has_finished new ≡ true)
         ⊎ (2 * (length c.src - c.read) + length new.pending < 2 * length c.src + length old.pending)
     by_result InputEmpty made = elim (true_or_false c.last) [
-      | inl is_last ↦ inl (finished_by (record c { result = InputEmpty }) made ∙ is_last)
+      | inl is_last ↦ inl (finishes made ∙ is_last)
       | inr more ↦ inr (omega (
         arith,
         some more,

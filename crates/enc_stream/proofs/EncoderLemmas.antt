@@ -5,7 +5,6 @@ use Rattle.std.proofs.Common.{length-append, length-take, if◌then◌else◌}
 use Rattle.std.proofs.lemmas.List.{drop-take, take-append-le, take-append-drop}
 use Rattle.std.proofs.Math.Seq.{drop-append_seam}
 use Rattle.enc_encoder.specs.EncoderRule.{EncoderRule, RawEncoderState, is_escape_due}
-use Rattle.enc_encoder.specs.Barring.{barring_rule}
 use Rattle.enc_encoder.specs.Stateless.{WritesAscii}
 use Rattle.enc_encoder.proofs.BarringLemmas.{except_writes_ascii}
 use Rattle.enc_index.specs.declared.codec.Codec.{Codec}
@@ -32,6 +31,7 @@ use Rattle.enc_stream.specs.Encodings.{rule_or_utf_8, output_rule}
 use Rattle.enc_stream.specs.Properties.{output_encoding_of, is_ascii_compatible}
 use Rattle.enc_stream.specs.Encoder.{EncoderState, EncodesChunk, is_utf_8, maps_every_character, raw_state}
 use Rattle.enc_stream.proofs.PropertyLemmas.{listed_ascii}
+use Rattle.std.proofs.lemmas.List.{take-take}
 
 has_encoder_by_id : (id : EncodingId)
     → is_some (encoder_rule (codec_by_id (output_by_id id))) ≡ true
@@ -42,12 +42,6 @@ has_encoder_by_id _ = refl
 pub has_encoder : (e : Encoding)
     → is_some (encoder_rule (codec_by_id (output_encoding_of e).id)) ≡ true
 has_encoder e = has_encoder_by_id e.id
-
--- an encoder of the codec's rule, without the characters that are barred, writes by the encoding's
-pub is_output_rule : (b : List ℕ) (o : Option EncoderRule) (rule : EncoderRule)
-    → option_map (barring_rule b) o ≡ Some rule → rule ≡ barring_rule b (rule_or_utf_8 o)
-is_output_rule b None rule e = cc
-is_output_rule b (Some x) rule e = cc
 
 -- the error mode of calls that write references, where every character is mappable and elsewhere
 pub html_mode_is : (every : Bool)
@@ -180,12 +174,12 @@ module _ {units_of : ℕ → List ℕ} (barred : List ℕ) (encoding : Encoding)
   })
 
 -- a call whose bytes are at the end of another list than the one that it wrote into
-pub in_tail : {units_of : ℕ → List ℕ} {old new : RawEncoderState} {rest : List ℕ} {c : CallInMode}
-    {size : ℕ} {tail : List ℕ} → c.room ≡ size → c.wrote ≡ tail → IsCallInMode units_of old new rest c
-    → IsCallInMode units_of old new rest (record c { room = size; wrote = tail })
-in_tail {units_of} {old} {new} {rest} {c} {tail = tail} room_is wrote_is call =
-    subst (λ n. IsCallInMode units_of old new rest (record c { room = n; wrote = tail })) room_is
-    (subst (λ bytes. IsCallInMode units_of old new rest (record c { wrote = bytes })) wrote_is call)
+pub in_tail : {units_of : ℕ → List ℕ} {old new : EncoderState} {c : CallInMode} {room : ℕ}
+    {tail : List ℕ} → c.room ≡ room → c.wrote ≡ tail → EncodesChunk units_of old new c
+    → EncodesChunk units_of old new (record c { room = room; wrote = tail })
+in_tail {units_of} {old} {new} {c} {tail = tail} room_is wrote_is encodes =
+    subst (λ n. EncodesChunk units_of old new (record c { room = n; wrote = tail })) room_is
+    (subst (λ bytes. EncodesChunk units_of old new (record c { wrote = bytes })) wrote_is encodes)
 
 -- The rest of a list after its front, if it was cut after the bytes written there.
 pub tail_of : (front slice post junk : List ℕ) {final : List ℕ} {len : ℕ} (written n : ℕ)
@@ -195,25 +189,14 @@ pub tail_of : (front slice post junk : List ℕ) {final : List ℕ} {len : ℕ} 
     → take written slice ≡ drop len final
 tail_of front slice post junk {final} {len} written n front_is written_fits room_fits final_is =
     let following = slice ++ (post ++ junk) in
-    let all = (front ++ (slice ++ post)) ++ junk in
-    let split : all ≡ front ++ following =
-    append_assoc front (slice ++ post) junk ∙ ap (λ x. front ++ x) (append_assoc slice post junk) in
-    let room = n - len in
-    let dropped : drop len (take n all) ≡ take room following =
-    ap (λ k. drop len (take k all)) (let parts : n ≡ len + room = omega (arith, room_fits) in parts)
-    ∙ drop-take len room all
-    ∙ ap (take room) (ap (drop len) split
-    ∙ ap (λ k. drop k (front ++ following)) (sym front_is) ∙ drop-append_seam front following) in
-    let reach : written ≤ length (take room following) =
-    omega (
-      arith,
-      room_fits,
-      written_fits,
-      length-take room following,
-      length-append slice
-          (post ++ junk),
-    ) in
-    sym (ap (drop len) final_is ∙ drop-take len written (take n all) ∙ ap (take written) dropped
-    ∙ sym (take-append-le written (take room following) (drop room following) reach)
-    ∙ ap (take written) (take-append-drop room following)
-    ∙ take-append-le written slice (post ++ junk) written_fits)
+    let cut : final ≡ take (len + written) (front ++ following) =
+    final_is ∙ take-take (len + written) n ((front ++ (slice ++ post)) ++ junk) room_fits
+    ∙ ap (take (len + written)) (append_assoc front (slice ++ post) junk
+    ∙ ap (λ x. front ++ x) (append_assoc slice post junk)) in
+    rw (
+      cut,
+      drop-take len written (front ++ following),
+      ← front_is,
+      drop-append_seam front following,
+    )
+    (sym (take-append-le written slice (post ++ junk) written_fits))

@@ -2,31 +2,31 @@
 use Rattle.std.proofs.Common.{◌≡◌, ℕ, Bool, true, false, true≢false, List, [], ◌∷◌, ◌++◌, take, refl, ap, ◌∙◌, sym}
 use Rattle.std.proofs.Common.{◌||◌, append-nil}
 use Rattle.std.proofs.lemmas.Bool.{false≢true}
-use Rattle.std.specs.Prelude.{Option, Some, if◌then◌else◌, bytes_eq}
+use Rattle.std.specs.Prelude.{Option, Some}
 use Rattle.std.specs.Char.{encode_utf8}
 use Rattle.enc_stream.specs.declared.bom.BomHandling.{BomHandling}
-use Rattle.enc_stream.specs.declared.bom.BomHandling.TheVariants.{Off, Sniff, Remove}
 use Rattle.enc_stream.specs.declared.encoding.Encoding.{Encoding}
-use Rattle.enc_names.specs.declared.encoding_id.EncodingId.{EncodingId}
-use Rattle.enc_names.specs.declared.encoding_id.EncodingId.TheVariants.{Utf8, Utf16be, Utf16le}
 use Rattle.enc_stream.specs.declared.life_cycle.LifeCycle.{LifeCycle}
-use Rattle.enc_stream.specs.declared.life_cycle.LifeCycle.TheVariants.{AtStart, SeenUtf8Second, ConvertingWithPendingBb}
-use Rattle.enc_stream.specs.declared.life_cycle.LifeCycle.TheVariants.{Converting, Finished}
+use Rattle.enc_stream.specs.declared.life_cycle.LifeCycle.TheVariants.{AtStart}
+use Rattle.enc_stream.specs.declared.life_cycle.LifeCycle.TheVariants.{Finished}
 use Rattle.enc_units.specs.declared.decoder_result.DecoderResult.{DecoderResult}
 use Rattle.enc_units.specs.declared.decoder_result.DecoderResult.TheVariants.{Malformed}
 use Rattle.enc_units.specs.declared.decoder_result.DecoderResult.TheVariants as decoder
 use Rattle.enc_decoder.specs.Converting.{shifted_result}
-use Rattle.enc_units.specs.declared.coder_result.CoderResult.{CoderResult}
 use Rattle.enc_units.specs.Output.{units_of_text}
 use Rattle.enc_decoder.specs.Sequence.{Sequence, sequence_bytes, sequence_text, any_malformed}
 use Rattle.enc_decoder.specs.Call.{reaches_end}
-use Rattle.enc_stream.specs.Bom.{marks_of_encoding, find_mark, sequences_by_mark}
-use Rattle.enc_stream.specs.LifeCycle.{phase_of, sequences_in, mark_prefixes, life_at_prefix, life_after_bytes}
+use Rattle.enc_stream.specs.Bom.{find_mark, sequences_by_mark}
+use Rattle.enc_stream.specs.LifeCycle.{phase_of, sequences_in, mark_prefixes, life_at_prefix}
 use Rattle.enc_stream.specs.LifeCycle.{life_after_sequences, life_after}
-use Rattle.enc_units.specs.Results.{decoder_result_of}
-use Rattle.enc_stream.specs.Decoding.{DecoderState, has_ended, has_finished, removal_start, fresh_decoder}
+use Rattle.enc_stream.specs.Decoding.{DecoderState, has_ended, has_finished, fresh_decoder}
 use Rattle.enc_stream.specs.Decoding.{remaining_sequences, whole_sequences, whole_utf_8, whole_malformed}
-use Rattle.enc_stream.specs.Decoding.{DecodesChunk, replacing_call, HasDecoded}
+use Rattle.enc_stream.specs.Decoding.{HasDecoded}
+use Rattle.enc_stream.proofs.LifeCycleLemmas.{EachState, state_has, left_has}
+use Rattle.enc_stream.proofs.FoundMarkLemmas.{at_start}
+use Rattle.enc_decoder.specs.CallRecord.{Call}
+use Rattle.enc_stream.specs.Decoding.{DecodesChunk}
+use Rattle.std.proofs.Common.{None}
 
 -- Whether a call reaches the end.
 
@@ -48,16 +48,6 @@ pub not_at_end : (last : Bool) (stop : DecoderResult) → reaches_end last stop 
 not_at_end last stop goes_on is_last is_empty =
     false≢true (sym goes_on ∙ ap (reaches_end last) is_empty ∙ is_last)
 
--- whether a state that may come next is the end
-any_ended : List (List ℕ × LifeCycle) → Bool
-any_ended [] = false
-any_ended (front ∷ others) = has_ended front.1 || any_ended others
-
-none_ended : (life : LifeCycle) → any_ended (mark_prefixes life) ≡ false
-unfolding any_ended
-none_ended AtStart = refl
-none_ended _ = refl
-
 pub first_open : (a b : Bool) → (a || b) ≡ false → a ≡ false
 first_open true b h = h
 first_open false b h = refl
@@ -66,78 +56,47 @@ pub others_open : (a b : Bool) → (a || b) ≡ false → b ≡ false
 others_open true b h = absurd (true≢false h)
 others_open false b h = h
 
-open_bb : (b : Bool) → has_ended (if b then ConvertingWithPendingBb else Converting) ≡ false
-open_bb true = refl
-open_bb false = refl
-
-open_left : (life : LifeCycle) (bytes : List ℕ) → has_ended (life_after_bytes life bytes) ≡ false
-open_left SeenUtf8Second bytes = open_bb (bytes_eq (0xEF ∷ []) bytes)
-open_left _ bytes = refl
-
-open_some : (life : LifeCycle) (done : List Sequence) → has_ended life ≡ false
-    → has_ended (life_after_sequences (Some life) done) ≡ false
-open_some life [] h = h
-open_some life (s ∷ ss) h = open_left life (sequence_bytes (s ∷ ss))
-
-open_if : (b : Bool) (life : LifeCycle) (other : Option LifeCycle) (done : List Sequence)
-    → has_ended life ≡ false
-    → has_ended (life_after_sequences other done) ≡ false
-    → has_ended (life_after_sequences (if b then Some life else other) done) ≡ false
-open_if true life other done h k = open_some life done h
-open_if false life other done h k = k
-
-open_at : (states : List (List ℕ × LifeCycle)) (bytes : List ℕ) (done : List Sequence)
-    → any_ended states ≡ false
-    → has_ended (life_after_sequences (life_at_prefix states bytes) done) ≡ false
-unfolding any_ended
-open_at [] bytes done none_has_ended = refl
-open_at (front ∷ others) bytes done none_has_ended =
-    open_if _ front.1 (life_at_prefix others bytes) done
-    (first_open (has_ended front.1) (any_ended others) none_has_ended)
-    (open_at others bytes done (others_open (has_ended front.1) (any_ended others) none_has_ended))
+-- no state that may come next is the end
+open_states : (life : LifeCycle)
+    → EachState (λ _ next. has_ended next ≡ false) (mark_prefixes life)
+open_states AtStart = search (refl, tt)
+open_states _ = search (refl, tt)
 
 -- only the end leads to the end
 pub ends_at_end : (life : LifeCycle) (end : Bool) (bytes : List ℕ) (done : List Sequence)
     → has_ended (life_after life end bytes done) ≡ end
 ends_at_end life true bytes done = refl
-ends_at_end life false bytes done = open_at (mark_prefixes life) bytes done (none_ended life)
+ends_at_end life false bytes done = by_front (life_at_prefix (mark_prefixes life) bytes) refl done
+  where
+    by_front : (front : Option LifeCycle) → life_at_prefix (mark_prefixes life) bytes ≡ front
+        → (ss : List Sequence) → has_ended (life_after_sequences front ss) ≡ false
+    by_front None at_front ss = refl
+    by_front (Some front) at_front [] =
+        state_has (λ _ next. has_ended next ≡ false) (mark_prefixes life) bytes front
+        (open_states life) at_front
+    by_front (Some front) at_front (s ∷ ss) =
+        left_has (λ next. has_ended next ≡ false) refl refl front (sequence_bytes (s ∷ ss))
 
--- so a call that replaces has finished exactly if it came to the end
-pub finishes : (result : CoderResult) {old new : DecoderState} {src : List ℕ} {last : Bool}
-    {room read : ℕ} {wrote : List ℕ} {replaced : Bool}
-    → DecodesChunk encode_utf8 old new
-    (replacing_call src last room result read wrote replaced)
-    → has_finished new ≡ reaches_end last (decoder_result_of result)
-finishes result {old} {src = src} {last} {read = read} decodes =
+-- so a call has finished exactly if it came to the end
+pub finishes : {units_of : ℕ → List ℕ} {old new : DecoderState} {c : Call}
+    → DecodesChunk units_of old new c → has_finished new ≡ reaches_end c.last c.result
+finishes {old = old} {c = c} decodes =
     ap has_ended decodes.life
-    ∙ ends_at_end old.life (reaches_end last (decoder_result_of result))
-    (old.pending ++ take read src) decodes.call.done
-
-removal_sequences : (id : EncodingId) (e : Encoding) (bytes : List ℕ) → sequences_by_mark
-    (find_mark (marks_of_encoding id) bytes) e bytes
-    ≡ sequences_in (phase_of (removal_start id)) e 0 bytes
-removal_sequences Utf8 e bytes = refl
-removal_sequences Utf16be e bytes = refl
-removal_sequences Utf16le e bytes = refl
-removal_sequences _ e bytes = refl
-
-removal_open : (id : EncodingId) → has_ended (removal_start id) ≡ false
-removal_open Utf8 = refl
-removal_open _ = refl
+    ∙ ends_at_end old.life (reaches_end c.last c.result) (old.pending ++ take c.read c.src)
+    decodes.call.done
 
 -- before the first call the end isn't reached
 pub fresh_open : (handling : BomHandling) (e : Encoding)
     → has_finished (fresh_decoder handling e) ≡ false
-fresh_open Off e = refl
-fresh_open Sniff e = refl
-fresh_open Remove e = removal_open e.id
+fresh_open handling e =
+    at_start (λ life _. has_ended life ≡ false) refl refl refl refl refl handling e
 
 -- and all is still to come
 pub fresh_sequences : (handling : BomHandling) (e : Encoding) (bytes : List ℕ)
     → whole_sequences handling e bytes ≡ remaining_sequences (fresh_decoder handling e) bytes
-fresh_sequences Off e bytes = refl
-fresh_sequences Sniff e bytes = refl
-fresh_sequences Remove e bytes = removal_sequences e.id e bytes
+fresh_sequences handling e bytes =
+    at_start (λ life looked_for. sequences_by_mark (find_mark looked_for bytes) e bytes
+    ≡ sequences_in (phase_of life) e 0 bytes) refl refl refl refl refl handling e
 
 -- at the end nothing is still to come
 pub none_left : (life : LifeCycle) (e : Encoding) (set : ℕ) (bytes : List ℕ) → has_ended life ≡ true

@@ -10,6 +10,7 @@ use Rattle.enc_decoder.proofs.EnoughLemmas.{same_some}
 use Rattle.enc_stream.specs.declared.lengths.Query.{Query}
 use Rattle.enc_stream.specs.declared.lengths.Query.TheVariants as query
 use Rattle.enc_stream.specs.Lengths.{formula_length}
+use Rattle.std.proofs.lemmas.Bool.{cond-true}
 
 -- if the second query has an answer, the first has one that is no greater
 abbrev IsNoMore : Option ℕ → Option ℕ → Type 0
@@ -21,11 +22,7 @@ fitting_fits m q true t e = (grind (arith, nat_tests), cc)
 fitting_fits m q false t e = absurd (cc)
 
 fits_below : (n m : ℕ) → n ≤ m → m < 2 ^ 64 → checked_usize n ≡ Some n
-fits_below n m l h = by_test (nat_lt n (2 ^ 64)) (grind (arith, nat_tests))
-  where
-    by_test : (t : Bool) → t ≡ true → cond t (Some n) None ≡ Some n
-    by_test true e = refl
-    by_test false e = absurd (cc)
+fits_below n m l h = cond-true (nat_lt n (2 ^ 64)) _ _ (grind (arith, nat_tests))
 
 no_more_fitting : (n m : ℕ) → n ≤ m → IsNoMore (checked_usize n) (checked_usize m)
 no_more_fitting n m at_most q e =

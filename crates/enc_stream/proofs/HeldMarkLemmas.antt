@@ -37,6 +37,8 @@ use Rattle.enc_stream.proofs.PendingBytesLemmas.{converts, no_front_at}
 use Rattle.enc_stream.proofs.PendingBbLemmas.{LeavesBb, leaves_bb, bb_state}
 use Rattle.enc_stream.proofs.UnmarkedTextLemmas.{ReadsText, settled_from, awaited_unless_settled, shifts, reads_on}
 use Rattle.enc_stream.proofs.UnmarkedTextLemmas.{unmarked_read, by_codec, unmarked_all, at_hand, first_byte}
+use Rattle.enc_units.proofs.LengthLemmas.{lengths}
+use Rattle.enc_stream.proofs.RemainingRuleLemmas.{none_without_bytes}
 
 module _ {e : Encoding} {life : LifeCycle} {v : CodecState} {src : List ℕ} {last : Bool}
     (text : ReadsText e life v src last) {left read : ℕ}
@@ -50,30 +52,18 @@ module _ {e : Encoding} {life : LifeCycle} {v : CodecState} {src : List ℕ} {la
   abbrev total : ℕ
   total = length held - left + read
 
-  -- all of the bytes held that the codec hasn't read are few
-  near : (settled_from (phase_of life) ≤ read) ⊎ ((total ≤ 5) × (v.pending ≡ []))
-  near = elim (most_or_more (settled_from (phase_of life)) read) [
-    | inl settled ↦ inl settled
-    | inr unsettled ↦ let awaited = awaited_unless_settled (phase_of life) read unsettled in
-        inr (
-          omega (arith, few_unread life (length v.pending), awaited.0),
-          (text.holds.unread awaited.1).1,
-        )
-  ]
-
   length_pending : length pending ≡ length v.pending + length held
   length_pending = ap length text.holds.held ∙ length-append v.pending held
 
   -- all bytes held are read
+  all_and_read : left ≡ 0 → total ≡ length held + read
+  all_and_read none_left = omega arith
+
   taken_all : left ≡ 0 → take total (held ++ src) ≡ held ++ take read src
-  taken_all none_left =
-      let all_and_read : total ≡ length held + read = omega arith in
-      ap (λ n. take n (held ++ src)) all_and_read ∙ take-append-add held src read
+  taken_all none_left = rw (all_and_read none_left) (take-append-add held src read)
 
   dropped_all : left ≡ 0 → drop total (held ++ src) ≡ drop read src
-  dropped_all none_left =
-      let all_and_read : total ≡ length held + read = omega arith in
-      ap (λ n. drop n (held ++ src)) all_and_read ∙ drop-append-add held src read
+  dropped_all none_left = rw (all_and_read none_left) (drop-append-add held src read)
 
   module _ {units_of : ℕ → List ℕ} {w : CodecState} {mode : DecodeErrorMode} {before after : Output}
       {stop : DecoderResult} {replaced : Bool} (kept : w.rule ≡ v.rule)
@@ -98,74 +88,57 @@ module _ {e : Encoding} {life : LifeCycle} {v : CodecState} {src : List ℕ} {la
     abbrev bytes_read : List ℕ
     bytes_read = pending ++ take read src
 
+    -- a call of the decoder with this state after it
+    abbrev Leaves : DecoderState → Type 0
+    Leaves new = DecodesInto units_of mode (decoder_state_of e life v) new src last before after
+        (shifted_result stop left) read replaced
+
     -- how many bytes are done
     done_len : length v.pending + total ≡ length (sequence_bytes done) + length w.pending
-    done_len = omega (
-      arith,
-      ap length made.accounted,
-      length-append v.pending (take total (held ++ src)),
-      length-append (sequence_bytes done) w.pending,
-      length-take total (held ++ src),
-      length-append held src,
-      reads_held.within,
-      reads_held.most,
-    )
+    done_len =
+        omega (arith, lengths, ap length made.accounted, reads_held.within, reads_held.most)
 
     -- nothing is done where no byte is
     none_done : length (sequence_bytes done) ≡ 0 → done ≡ []
-    none_done = by_list done (made.call.residual [] (λ _. refl))
-      where
-        by_list : (ss : List Sequence)
-            → (remainder_of v).sequences ((held ++ src) ++ [])
-            ≡ ss ++ (remainder_of w).sequences (drop total (held ++ src) ++ [])
-            → length (sequence_bytes ss) ≡ 0 → ss ≡ []
-        by_list [] all no_byte = refl
-        by_list (s ∷ ss) all no_byte =
-            let some_bytes =
-            has_bytes v.rule v.set (v.pending ++ ((held ++ src) ++ [])) [] s
-            (ss ++ (remainder_of w).sequences (drop total (held ++ src) ++ [])) all in
-            absurd (omega (arith, some_bytes, no_byte, length-append s.bytes (sequence_bytes ss)))
+    none_done = none_without_bytes v.rule v.set (v.pending ++ ((held ++ src) ++ [])) done
+        ((remainder_of w).sequences (drop total (held ++ src) ++ []))
+        (made.call.residual [] (λ _. refl))
 
     -- and nothing is reported where nothing is done
     none_reported : done ≡ [] → (l a : ℕ) → stop ≡ Malformed l a → ⊥
-    none_reported = by_result stop made.call.stops
-      where
-        by_result : (result : DecoderResult)
-            → DecoderStops units_of (remainder_of v) (remainder_of w) (held ++ src) last mode
-            before.room made.call.put done total result
-            → done ≡ [] → (l a : ℕ) → result ≡ Malformed l a → ⊥
-        by_result InputEmpty stops none l a is_malformed = cc
-        by_result OutputFull stops none l a is_malformed = cc
-        by_result (Malformed m n) stops none l a is_malformed =
-            omega (
-              arith,
-              ap length (sym none ∙ stops.then_next),
-              length-append made.call.put (stops.next ∷ []),
-            )
+    none_reported nothing l a is_malformed =
+        let stops = rw is_malformed at made.call.stops in
+        omega (
+          arith,
+          ap length (sym nothing ∙ stops.then_next),
+          length-append made.call.put (stops.next ∷ []),
+        )
 
     accounted_all : left ≡ 0 → bytes_read ≡ sequence_bytes done ++ w.pending
     accounted_all none_left =
         at_hand text (take read src) ∙ ap (λ x. v.pending ++ x) (sym (taken_all none_left))
         ∙ made.accounted
 
-    abbrev Escape : Type 0
-    Escape = (reports_escape call made.call ≡ true → settled_from (phase_of life) ≤ read)
+    -- unless it is settled that no mark comes, few bytes are read
+    escape : (reports_escape call made.call ≡ true → settled_from (phase_of life) ≤ read)
         ⊎ ((total ≤ 5) × AreAllRead (remainder_of v) (remainder_of w) call done)
-
-    escape : Escape
-    escape = elim near [
+    escape = elim (most_or_more (settled_from (phase_of life)) read) [
       | inl settled ↦ inl (λ _. settled)
-      | inr few ↦ inr (few.0, (few.1, made.accounted))
+      | inr unsettled ↦ let awaited = awaited_unless_settled (phase_of life) read unsettled in
+          inr (
+            omega (arith, few_unread life (length v.pending), awaited.0),
+            ((text.holds.unread awaited.1).1, made.accounted),
+          )
     ]
 
     -- the decoder's call, by its state after it
-    into : (new : DecoderState)
-        → MatchesState (shifts text call) made.call (decoder_remainder new) read left
-        → new.encoding ≡ e → bytes_read ≡ sequence_bytes done ++ new.pending
-        → new.life ≡ life_after life (reaches_end last stop) bytes_read done
-        → DecodesInto units_of mode (decoder_state_of e life v) new src last before after
-        (shifted_result stop left) read replaced
-    into new matches same_encoding all_accounted next_life =
+    into : (next : LifeCycle) (state : CodecState)
+        → MatchesState (shifts text call) made.call
+        (decoder_remainder (decoder_state_of e next state)) read left
+        → bytes_read ≡ sequence_bytes done ++ (decoder_state_of e next state).pending
+        → next ≡ life_after life (reaches_end last stop) bytes_read done
+        → Leaves (decoder_state_of e next state)
+    into next state matches all_accounted next_life =
         let none : mark_in (phase_of life) bytes_read ≡ None =
         unmarked_read text read reads_held.within in
         let called =
@@ -180,30 +153,19 @@ module _ {e : Encoding} {life : LifeCycle} {v : CodecState} {src : List ℕ} {la
           decodes = record {
             call = called.0;
             accounted = rw (none, called.1) all_accounted;
-            encoding = rw none same_encoding;
+            encoding = rw none refl;
             life = rw (called.1, end_placed last stop left) next_life;
           };
         }
 
     -- At the end of the input.
-    pub ends : reaches_end last stop ≡ true
-        → DecodesInto units_of mode (decoder_state_of e life v) (decoder_state_of e Finished w) src
-        last before after (shifted_result stop left) read replaced
+    pub ends : reaches_end last stop ≡ true → Leaves (decoder_state_of e Finished w)
     ends at_end_now =
         let is_last : last ≡ true = (at_end last stop at_end_now).0 in
-        let stops : DecoderAtInputEmpty (remainder_of v) (remainder_of w) (held ++ src) last
-        made.call.put done total =
-        subst (DecoderStops units_of (remainder_of v) (remainder_of w) (held ++ src) last mode
-        before.room made.call.put done total) (at_end last stop at_end_now).1 made.call.stops in
+        let stops = rw (at_end last stop at_end_now).1 at made.call.stops in
         let none_left : left ≡ 0 =
-        omega (
-          arith,
-          stops.all_read,
-          length-append held src,
-          reads_held.within,
-          reads_held.most,
-        ) in
-        into (decoder_state_of e Finished w) (record {
+        omega (arith, lengths, stops.all_read, reads_held.within, reads_held.most) in
+        into Finished w (record {
           after =
               λ z nothing. ap (remainder_of w).sequences
               (ap (λ x. x ++ z) (drop_of_length-le (held ++ src) (omega (arith, stops.all_read)))
@@ -214,21 +176,20 @@ module _ {e : Encoding} {life : LifeCycle} {v : CodecState} {src : List ℕ} {la
           same = inl refl;
           escape = escape;
           held = λ l a _. inl none_left;
-        }) refl (accounted_all none_left)
+        }) (accounted_all none_left)
         (ap (λ end. life_after life end bytes_read done) (sym at_end_now))
 
     -- Nothing is done, and none of the chunk is read: all is as it was.
     pub stays : reaches_end last stop ≡ false → read ≡ 0
         → length w.pending + left ≡ length v.pending + length held
-        → DecodesInto units_of mode (decoder_state_of e life v) (decoder_state_of e life v) src last
-        before after (shifted_result stop left) read replaced
+        → Leaves (decoder_state_of e life v)
     stays not_ended nothing_read untouched =
         let nothing : done ≡ [] =
         none_done (omega (arith, done_len, reads_held.most, nothing_read, untouched)) in
         let none_read : bytes_read ≡ pending =
         ap (λ k. pending ++ take k src) nothing_read ∙ append-nil pending in
         let are_held = shows_held e life v text.holds in
-        into (decoder_state_of e life v) (record {
+        into life v (record {
           after = λ y ends.
               sym (ap (λ d. d ++ (remainder_of w).sequences (drop total (held ++ src) ++ y))
               nothing)
@@ -244,7 +205,7 @@ module _ {e : Encoding} {life : LifeCycle} {v : CodecState} {src : List ℕ} {la
           same = inr (inl nothing_read);
           escape = escape;
           held = λ l a is_malformed. absurd (none_reported nothing l a is_malformed);
-        }) refl (rw (none_read, nothing) refl)
+        }) (rw (none_read, nothing) refl)
         (rw (not_ended, none_read, nothing)
         (sym (own_state life pending text.going are_held.in_front are_held.held)))
 
@@ -274,36 +235,28 @@ module _ {e : Encoding} {life : LifeCycle} {v : CodecState} {src : List ℕ} {la
                 ]
               ]
 
+      some_done : read ≡ 0 → done ≡ [] → ⊥
+      some_done nothing_read nothing =
+          let no_byte = ap (λ ss. length (sequence_bytes ss)) nothing in
+          touched nothing_read (omega (arith, no_byte, done_len, none_left, nothing_read))
+
+      not_ef : read ≡ 0 → life ≡ SeenUtf8Second → length (sequence_bytes done) ≡ 1 → ⊥
+      not_ef nothing_read is_second one_byte =
+          let awaits = ap (λ l. awaits_mark (phase_of l)) is_second in
+          let none_pending = ap length (text.holds.unread awaits).1 in
+          let two_held : length held ≡ 2 = rw (none_pending, is_second) refl in
+          let all_done = done_len in
+          let none = none_left in
+          no_bb nothing_read two_held (omega arith)
+
       state_on : (n : ℕ) → n ≡ read
           → life_after_sequences (life_at_prefix (mark_prefixes life) (pending ++ take n src)) done
           ≡ Converting
       state_on zero n_is_read =
           ap (λ x. life_after_sequences (life_at_prefix (mark_prefixes life) x) done)
           (append-nil pending)
-          ∙ converts e life v text.going text.holds done
-          (λ none_done. touched (sym n_is_read) (omega (
-            arith,
-            ap (λ ss. length (sequence_bytes ss)) none_done,
-            done_len,
-            none_left,
-            n_is_read,
-          )))
-          (λ is_second one_byte. no_bb (sym n_is_read) (two_held is_second) (omega (
-            arith,
-            one_byte,
-            done_len,
-            none_left,
-            two_held is_second,
-            none_pending is_second,
-            n_is_read,
-          )))
-        where
-          none_pending : life ≡ SeenUtf8Second → length v.pending ≡ 0
-          none_pending is_second =
-              ap length (text.holds.unread (ap (λ l. awaits_mark (phase_of l)) is_second)).1
-
-          two_held : life ≡ SeenUtf8Second → length held ≡ 2
-          two_held is_second = rw (none_pending is_second, is_second) refl
+          ∙ converts e life v text.going text.holds done (some_done (sym n_is_read))
+          (not_ef (sym n_is_read))
       state_on (suc n) n_is_read =
           let first = first_byte (suc n) src [] (omega arith)
           (omega (arith, reads_held.within, n_is_read)) in
@@ -313,11 +266,9 @@ module _ {e : Encoding} {life : LifeCycle} {v : CodecState} {src : List ℕ} {la
           ∙ no_front_at e life v text.going text.holds (first.0 ∷ first.2)
           ((text.no_mark.rules_out first.0 first.1 first.3).no_front first.2))
 
-      pub goes_on : DecodesInto units_of mode (decoder_state_of e life v)
-          (decoder_state_of e Converting w) src last before after (shifted_result stop left) read
-          replaced
+      pub goes_on : Leaves (decoder_state_of e Converting w)
       goes_on =
-          into (decoder_state_of e Converting w) (record {
+          into Converting w (record {
             after = λ y _.
                 ap (λ x. (remainder_of w).sequences (x ++ y)) (dropped_all none_left)
                 ∙ ap (λ (q : Rule). sequences_of q w.set (w.pending ++ (drop read src ++ y)))
@@ -329,21 +280,19 @@ module _ {e : Encoding} {life : LifeCycle} {v : CodecState} {src : List ℕ} {la
             same = inl refl;
             escape = escape;
             held = λ l a _. inl none_left;
-          }) refl (accounted_all none_left) (rw not_ended (sym (state_on read refl)))
+          }) (accounted_all none_left) (rw not_ended (sym (state_on read refl)))
 
     -- BB stays after EF.
     pub stays_bb : reaches_end last stop ≡ false → read ≡ 0 → length held ≡ 2
         → length w.pending + left ≡ 1
-        → DecodesInto units_of mode (decoder_state_of e life v)
-        (decoder_state_of e ConvertingWithPendingBb w) src last before after
-        (shifted_result stop left) read replaced
+        → Leaves (decoder_state_of e ConvertingWithPendingBb w)
     stays_bb not_ended nothing_read two one =
         let leaves : LeavesBb v w src done left read life =
         leaves_bb reads_held made.accounted nothing_read two one in
         let all_read : bytes_read ≡ 0xEF ∷ 0xBB ∷ [] =
         ap (λ k. pending ++ take k src) nothing_read ∙ append-nil pending
         ∙ text.holds.held ∙ ap (λ x. x ++ held) leaves.none ∙ leaves.unread in
-        into (decoder_state_of e ConvertingWithPendingBb w) (record {
+        into ConvertingWithPendingBb w (record {
           after = λ y _.
               ap (λ x. sequences_of w.rule w.set x)
               (sym (append_assoc w.pending (drop total (held ++ src)) y)
@@ -366,7 +315,7 @@ module _ {e : Encoding} {life : LifeCycle} {v : CodecState} {src : List ℕ} {la
               (leaves.none, made.accounted),
             )
           ];
-        }) refl (rw (all_read, leaves.done_bytes) refl)
+        }) (rw (all_read, leaves.done_bytes) refl)
         (rw (not_ended, all_read) (sym (bb_state done leaves.done_bytes)
         ∙ ap (λ l. life_after_sequences (life_at_prefix (mark_prefixes l) (0xEF ∷ 0xBB ∷ [])) done)
         (sym leaves.state)))

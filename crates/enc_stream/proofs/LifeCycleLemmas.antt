@@ -17,6 +17,12 @@ use Rattle.enc_stream.specs.MarkLaws.{MayBeginMark}
 use Rattle.enc_stream.specs.Sniffing.{ExtendsHeldMark}
 use Rattle.enc_stream.specs.Decoding.{has_ended, LooksForOwnMark}
 use Rattle.enc_stream.proofs.MarkFirstLemmas.{AreFound, found_all, found_own}
+use Rattle.enc_decoder.proofs.FirstSequenceLemmas.{true_or_false}
+use Rattle.enc_stream.specs.LifeCycle.{life_after_bytes}
+use Rattle.std.proofs.lemmas.Bool.{cond_both}
+use Rattle.std.specs.Prelude.{bytes_eq}
+use Rattle.std.proofs.lemmas.Slice.Eq.{bytes_eq-Decides}
+use Rattle.std.proofs.Common.{rules}
 
 abbrev pub IsOpen : Phase → Type 0
 IsOpen (InFront looked_for) = Unit {0}
@@ -34,13 +40,8 @@ held_unmarked AtStart = refl
 held_unmarked _ = refl
 
 pub held_are_bytes : (life : LifeCycle) → AreBytes (held_mark_bytes life)
-held_are_bytes SeenUtf8Second = (omega arith, (omega arith, tt))
-held_are_bytes AtStart = tt
-held_are_bytes SeenUtf8First = (omega arith, tt)
-held_are_bytes SeenUtf16BeFirst = (omega arith, tt)
-held_are_bytes SeenUtf16LeFirst = (omega arith, tt)
-held_are_bytes ConvertingWithPendingBb = (omega arith, tt)
-held_are_bytes _ = tt
+held_are_bytes AtStart = search rules
+held_are_bytes _ = search rules
 
 pub held_are_few : (life : LifeCycle) → length (held_mark_bytes life) ≤ 2
 held_are_few AtStart = omega arith
@@ -104,3 +105,30 @@ own_stays id life AtUtf16LeStart extends own =
     subst (LooksForOwnMark id) (stays_at_front life AtUtf16LeStart (extends.states [])) own
 own_stays id life AtStart extends own = tt
 own_stays id life _ extends own = tt
+
+-- What holds of each of these states, with its bytes, holds of the one that is found.
+
+abbrev pub EachState : (List ℕ → LifeCycle → Type 0) → List (List ℕ × LifeCycle) → Type 0
+EachState Has [] = Unit {0}
+EachState Has (state ∷ others) = Has state.0 state.1 × EachState Has others
+
+pub state_has : (Has : List ℕ → LifeCycle → Type 0) (states : List (List ℕ × LifeCycle))
+    (bytes : List ℕ) (life : LifeCycle) → EachState Has states
+    → life_at_prefix states bytes ≡ Some life → Has bytes life
+state_has Has [] bytes life each found = absurd (let none : ⊥ = cc in none)
+state_has Has (state ∷ others) bytes life each found =
+    elim (true_or_false (bytes_eq state.0 bytes)) [
+      | inl equal ↦
+          let is_found : Some state.1 ≡ Some life = rw equal at found in
+          let same : state.1 ≡ life = cc in
+          subst (Has bytes) same
+          (subst (λ x. Has x state.1) ((bytes_eq-Decides state.0 bytes).0 equal) each.0)
+      | inr differs ↦ state_has Has others bytes life each.1 (rw differs at found)
+    ]
+
+-- What holds of text, also with a held BB, holds of the state after some of the held bytes.
+pub left_has : (Has : LifeCycle → Type 0) → Has Converting → Has ConvertingWithPendingBb
+    → (life : LifeCycle) (done : List ℕ) → Has (life_after_bytes life done)
+left_has Has text with_bb SeenUtf8Second done =
+    cond_both (bytes_eq (0xEF ∷ []) done) _ _ Has (λ _. with_bb) (λ _. text)
+left_has Has text with_bb _ done = text

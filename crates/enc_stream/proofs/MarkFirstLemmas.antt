@@ -19,7 +19,7 @@ use Rattle.enc_stream.specs.Encodings.{rule_of}
 use Rattle.enc_stream.specs.Bom.{Mark, marks, marks_of_encoding, find_mark, marks_looked_for, sequences_by_mark}
 use Rattle.enc_stream.specs.LifeCycle.{encoding_of_mark_or}
 use Rattle.enc_stream.specs.Decoding.{whole_sequences}
-use Rattle.enc_stream.proofs.FoundMarkLemmas.{found_fits}
+use Rattle.enc_stream.proofs.FoundMarkLemmas.{EachMark, found_fits}
 use Rattle.enc_stream.specs.MarkLaws.{IsProperPrefix, MayBeginMark, bytes_after_mark}
 
 -- bytes that are no proper prefix of p decide whether p is in front
@@ -67,29 +67,24 @@ same_sequences looked_for e x z decided =
     ∙ sequences_after_mark (find_mark looked_for x) e x z (found_fits looked_for x)
 
 -- Each of these marks is made of bytes, and is found where it stands alone.
-pub AreFound : List Mark → List Mark → Type 0
-AreFound all [] = Unit {0}
-AreFound all (m ∷ others) = AreBytes m.bytes × (find_mark all m.bytes ≡ Some m)
-    × AreFound all others
+abbrev pub AreFound : List Mark → List Mark → Type 0
+AreFound all looked_for = EachMark (λ m. AreBytes m.bytes × (find_mark all m.bytes ≡ Some m))
+    looked_for
 
 pub found_all : AreFound marks marks
-unfolding AreFound
 found_all = (
-  (omega arith, (omega arith, (omega arith, tt))),
-  refl,
-  ((omega arith, (omega arith, tt)), refl, ((omega arith, (omega arith, tt)), refl, tt)),
+  ((omega arith, (omega arith, (omega arith, tt))), refl),
+  (((omega arith, (omega arith, tt)), refl), (((omega arith, (omega arith, tt)), refl), tt)),
 )
 
 pub found_own : (id : EncodingId) → AreFound (marks_of_encoding id) (marks_of_encoding id)
-unfolding AreFound
-found_own Utf8 = ((omega arith, (omega arith, (omega arith, tt))), refl, tt)
-found_own Utf16be = ((omega arith, (omega arith, tt)), refl, tt)
-found_own Utf16le = ((omega arith, (omega arith, tt)), refl, tt)
+found_own Utf8 = (((omega arith, (omega arith, (omega arith, tt))), refl), tt)
+found_own Utf16be = (((omega arith, (omega arith, tt)), refl), tt)
+found_own Utf16le = (((omega arith, (omega arith, tt)), refl), tt)
 found_own _ = tt
 
 found_looked_for : (handling : BomHandling) (e : Encoding)
     → AreFound (marks_looked_for handling e) (marks_looked_for handling e)
-unfolding AreFound
 found_looked_for Off e = tt
 found_looked_for Sniff e = found_all
 found_looked_for Remove e = found_own e.id
@@ -116,17 +111,16 @@ pub undetermined_in : (all looked_for : List Mark) (e : Encoding) (x : List ℕ)
     → AreFound all looked_for
     → MayBeginMark looked_for x
     → Determines (λ bytes. sequences_by_mark (find_mark all bytes) e bytes) x (s ∷ ss) → ⊥
-unfolding AreFound
 undetermined_in all [] e x s ss are_found may_begin determines = may_begin
 undetermined_in all (m ∷ others) e x s ss are_found (inl is_prefix) determines =
     let more : List ℕ = is_prefix.0 ∷ is_prefix.1 in
     let whole : m.bytes ≡ x ++ more = is_prefix.2 in
     none_begun _ s ss
     (ap (λ t. sequences_by_mark (find_mark all t) e t) (sym whole)
-    ∙ no_sequences all m e are_found.1)
-    (determines more (bytes_after x more (subst AreBytes whole are_found.0)))
+    ∙ no_sequences all m e are_found.0.1)
+    (determines more (bytes_after x more (subst AreBytes whole are_found.0.0)))
 undetermined_in all (m ∷ others) e x s ss are_found (inr may_begin) determines =
-    undetermined_in all others e x s ss are_found.2 may_begin determines
+    undetermined_in all others e x s ss are_found.1 may_begin determines
 
 pub undetermined : (handling : BomHandling) (e : Encoding) (x : List ℕ) (s : Sequence)
     (ss : List Sequence)
@@ -152,13 +146,10 @@ pub by_rule : (handling : BomHandling) (e : Encoding) (x : List ℕ) (ss : List 
     ↔ Determines (sequences_of (rule_of (encoding_of_mark_or found e)) 0) (bytes_after_mark found x)
     ss
 by_rule handling e x ss found found_is decided =
-    let same : (z : List ℕ) → whole_sequences handling e (x ++ z)
-    ≡ sequences_of (rule_of (encoding_of_mark_or found e)) 0 (bytes_after_mark found x ++ z) =
+    let sequences = sequences_of (rule_of (encoding_of_mark_or found e)) 0 in
+    let rest = bytes_after_mark found x in
+    let same : (z : List ℕ) → whole_sequences handling e (x ++ z) ≡ sequences (rest ++ z) =
     rw found_is (λ z. same_sequences (marks_looked_for handling e) e x z decided) in (
-      determines_as (whole_sequences handling e)
-          (sequences_of (rule_of (encoding_of_mark_or found e)) 0) x
-          (bytes_after_mark found x) ss same,
-      determines_as (sequences_of (rule_of (encoding_of_mark_or found e)) 0)
-          (whole_sequences handling e)
-          (bytes_after_mark found x) x ss (λ z. sym (same z)),
+      determines_as (whole_sequences handling e) sequences x rest ss same,
+      determines_as sequences (whole_sequences handling e) rest x ss (λ z. sym (same z)),
     )

@@ -1,15 +1,12 @@
 -- One-shot calls: the text and the state after calls of a decoder that are offered the whole input.
 use Rattle.std.proofs.Common.{◌≡◌, ℕ, Bool, true, false, true≢false, List, [], ◌∷◌, ◌++◌, length, take, drop, refl, ap}
 use Rattle.std.proofs.Common.{◌∙◌, sym, subst, arith, append_assoc, append-nil, ◌||◌, if◌then◌else◌}
-use Rattle.std.proofs.lemmas.Bool.Decides.{nat_tests}
 use Rattle.std.proofs.lemmas.List.{take-append-drop}
 use Rattle.std.specs.Prelude.{Option, Some, None, IfSome, option_map, ◌==◌, ◌≢◌}
 use Rattle.std.specs.Char.{encode_utf8}
 use Rattle.enc_stream.specs.declared.bom.BomHandling.{BomHandling}
-use Rattle.enc_stream.specs.declared.bom.BomHandling.TheVariants.{Off, Sniff, Remove}
+use Rattle.enc_stream.specs.declared.bom.BomHandling.TheVariants.{Off}
 use Rattle.enc_stream.specs.declared.encoding.Encoding.{Encoding}
-use Rattle.enc_names.specs.declared.encoding_id.EncodingId.{EncodingId}
-use Rattle.enc_names.specs.declared.encoding_id.EncodingId.TheVariants.{Utf8, Utf16be, Utf16le}
 use Rattle.enc_units.specs.declared.decoder_result.DecoderResult.{DecoderResult}
 use Rattle.enc_units.specs.declared.decoder_result.DecoderResult.TheVariants.{InputEmpty, OutputFull, Malformed}
 use Rattle.enc_units.specs.declared.coder_result.CoderResult.{CoderResult}
@@ -17,15 +14,15 @@ use Rattle.enc_units.specs.declared.coder_result.CoderResult.TheVariants as code
 use Rattle.enc_units.specs.Results.{decoder_result_of}
 use Rattle.enc_units.specs.Output.{units_of_text}
 use Rattle.enc_decoder.specs.Sequence.{Sequence, sequence_text, is_malformed, any_malformed}
-use Rattle.enc_decoder.specs.Call.{DecodeErrorMode, Replacement, Fatal, reaches_end}
+use Rattle.enc_decoder.specs.Call.{DecodeErrorMode, Fatal, reaches_end}
 use Rattle.enc_decoder.specs.Remainder.{AreBytes}
 use Rattle.enc_decoder.proofs.SequenceLemmas.{units-append, any_malformed-append}
 use Rattle.enc_decoder.proofs.SegmentationLemmas.{sequences_of-nil}
 use Rattle.enc_stream.specs.Encodings.{rule_of}
-use Rattle.enc_stream.specs.Bom.{Mark, marks_of_encoding, find_mark, sequences_by_mark}
+use Rattle.enc_stream.specs.Bom.{Mark, find_mark, sequences_by_mark}
 use Rattle.enc_stream.specs.LifeCycle.{encoding_of_mark_or}
 use Rattle.enc_stream.specs.Decoding.{DecoderState, has_finished, fresh_decoder, decoder_remainder, remaining_sequences}
-use Rattle.enc_stream.specs.Decoding.{whole_sequences, whole_utf_8, whole_malformed, DecodesChunk}
+use Rattle.enc_stream.specs.Decoding.{whole_sequences, whole_malformed, DecodesChunk}
 use Rattle.enc_stream.specs.Decoding.{replacing_call, reporting_call}
 use Rattle.enc_stream.specs.Decoding.{AnswersDecode, HasDecoded}
 use Rattle.enc_units.specs.Checked.{checked_add}
@@ -34,39 +31,28 @@ use Rattle.enc_stream.specs.declared.lengths.Query.TheVariants.{Utf8Reporting}
 use Rattle.enc_stream.specs.Lengths.{max_length, IsEnoughRoom}
 use Rattle.enc_stream.specs.OneShot.{utf_8_without_replacement, HasRoomFor, HasRoomExactlyFor}
 use Rattle.enc_stream.specs.OneShot.{first_length, IsTooLongAfterFull, MayLackMemory}
-use Rattle.enc_decoder.specs.CallRecord.{Call}
 use Rattle.enc_decoder.specs.Need.{NeedExceeds}
-use Rattle.enc_stream.proofs.DecoderCallLemmas.{Decodes, only_put, finished_by}
 use Rattle.enc_stream.proofs.EndOfInputLemmas.{fresh_sequences, finishes, whole_text, whole_flag}
+use Rattle.std.proofs.lemmas.List.{nil_from_length}
+use Rattle.std.proofs.Common.{eqb-true}
+use Rattle.enc_stream.proofs.FoundMarkLemmas.{at_start}
+use Rattle.std.proofs.Math.Bool.{or-true}
 
 pub nothing : (bytes : List ℕ) → true ≡ (length bytes == 0) → bytes ≡ []
-nothing [] is_empty = refl
-nothing (b ∷ bytes) is_empty =
-    let has_no_length : length (b ∷ bytes) ≡ 0 = grind (arith, nat_tests) in
-    absurd (omega (arith, has_no_length))
+nothing bytes is_empty = nil_from_length bytes (eqb-true (length bytes) 0 (sym is_empty))
 
 pub something : {bytes : List ℕ} → false ≡ (length bytes == 0) → bytes ≢ []
 something is_empty none =
     true≢false (sym (is_empty ∙ ap (λ (bytes : List ℕ). length bytes == 0) none))
 
 -- an empty input has no sequence
-
-removal_none : (id : EncodingId) → find_mark (marks_of_encoding id) [] ≡ None
-removal_none Utf8 = refl
-removal_none Utf16be = refl
-removal_none Utf16le = refl
-removal_none _ = refl
-
 pub none_whole : (handling : BomHandling) (e : Encoding) (bytes : List ℕ) → bytes ≡ []
     → whole_sequences handling e bytes ≡ []
-none_whole Off e bytes is_empty =
-    ap (whole_sequences Off e) is_empty ∙ sequences_of-nil (rule_of e) 0
-none_whole Sniff e bytes is_empty =
-    ap (whole_sequences Sniff e) is_empty ∙ sequences_of-nil (rule_of e) 0
-none_whole Remove e bytes is_empty =
-    ap (whole_sequences Remove e) is_empty
-    ∙ ap (λ (m : Option Mark). sequences_by_mark m e []) (removal_none e.id)
-    ∙ sequences_of-nil (rule_of e) 0
+none_whole handling e bytes is_empty =
+    let none = sequences_of-nil (rule_of e) 0 in
+    ap (whole_sequences handling e) is_empty
+    ∙ at_start (λ _ looked_for. sequences_by_mark (find_mark looked_for []) e [] ≡ []) none none
+    none none none handling e
 
 -- no call
 pub none_decoded : (handling : BomHandling) (e : Encoding) (bytes : List ℕ)
@@ -80,40 +66,41 @@ none_decoded handling e bytes = record {
 }
 
 -- One more call, whose text follows the text already written.
-module _ {handling : BomHandling} {e : Encoding} {bytes : List ℕ} {old new : DecoderState}
-    {before : List ℕ} {had : Bool} (c : Call)
-    (decoded : HasDecoded handling e bytes c.src true old before had) where
-  all_done : (decodes : Decodes encode_utf8 old new (record c { last = true }))
-      → whole_sequences handling e bytes ≡ (decoded.done ++ decodes.call.done)
-      ++ remaining_sequences new (drop c.read c.src ++ [])
-  all_done decodes =
-      ap (whole_sequences handling e) (sym (append-nil bytes)) ∙ decoded.whole [] (λ _. refl)
-      ∙ ap (λ ss. decoded.done ++ ss) (decodes.call.residual [] (λ _. refl))
-      ∙ sym (append_assoc decoded.done decodes.call.done
-      (remaining_sequences new (drop c.read c.src ++ [])))
-
-  -- if the call puts out all sequences that it does, their text is appended
-  goes_on : {after : List ℕ} (decodes : Decodes encode_utf8 old new
-      (record c { last = true; wrote = drop (length before) after }))
-      → take (length before) after ≡ before → decodes.call.put ≡ decodes.call.done
-      → HasDecoded handling e bytes (drop c.read c.src) true new after (had || c.replaced)
-  goes_on {after} decodes keeps all_put = record {
-    done = decoded.done ++ decodes.call.done;
-    whole = λ z at_end. decoded.whole z at_end
-        ∙ ap (λ ss. decoded.done ++ ss) (decodes.call.residual z at_end)
-        ∙ sym (append_assoc decoded.done decodes.call.done
-        (remaining_sequences new (drop c.read c.src ++ z)));
-    text =
-        sym (take-append-drop (length before) after)
-        ∙ ap (λ x. x ++ drop (length before) after) (keeps ∙ decoded.text)
-        ∙ ap (λ x. units_of_text encode_utf8 (sequence_text decoded.done) ++ x)
-        (decodes.call.text ∙ ap (λ ss. units_of_text encode_utf8 (sequence_text ss)) all_put)
-        ∙ sym (units-append encode_utf8 decoded.done decodes.call.done);
-    flag =
-        ap (λ x. x || c.replaced) decoded.flag
-        ∙ ap (λ x. any_malformed decoded.done || x) (decodes.call.flag ∙ ap any_malformed all_put)
-        ∙ sym (any_malformed-append decoded.done decodes.call.done);
-  }
+module _ {handling : BomHandling} {e : Encoding} {bytes src : List ℕ} {old : DecoderState}
+    {before : List ℕ} {had : Bool} (decoded : HasDecoded handling e bytes src true old before had)
+  where
+    -- if the call puts out all sequences that it does, their text is appended
+    goes_on : {new : DecoderState} {mode : DecodeErrorMode} {room read : ℕ}
+        {result : DecoderResult} {after : List ℕ} {replaced : Bool}
+        (decodes : DecodesChunk encode_utf8 old new (record {
+          src = src;
+          last = true;
+          mode = mode;
+          room = room;
+          result = result;
+          read = read;
+          wrote = drop (length before) after;
+          replaced = replaced;
+        }))
+        → take (length before) after ≡ before → decodes.call.put ≡ decodes.call.done
+        → HasDecoded handling e bytes (drop read src) true new after (had || replaced)
+    goes_on {new} {read = read} {after = after} {replaced} decodes keeps all_put = record {
+      done = decoded.done ++ decodes.call.done;
+      whole = λ z at_end. decoded.whole z at_end
+          ∙ ap (λ ss. decoded.done ++ ss) (decodes.call.residual z at_end)
+          ∙ sym (append_assoc decoded.done decodes.call.done
+          (remaining_sequences new (drop read src ++ z)));
+      text =
+          sym (take-append-drop (length before) after)
+          ∙ ap (λ x. x ++ drop (length before) after) (keeps ∙ decoded.text)
+          ∙ ap (λ x. units_of_text encode_utf8 (sequence_text decoded.done) ++ x)
+          (decodes.call.text ∙ ap (λ ss. units_of_text encode_utf8 (sequence_text ss)) all_put)
+          ∙ sym (units-append encode_utf8 decoded.done decodes.call.done);
+      flag =
+          ap (λ x. x || replaced) decoded.flag
+          ∙ ap (λ x. any_malformed decoded.done || x) (decodes.call.flag ∙ ap any_malformed all_put)
+          ∙ sym (any_malformed-append decoded.done decodes.call.done);
+    }
 
 -- The same if the call replaces, is given the unread bytes, and writes after the text already
 -- written.
@@ -122,29 +109,22 @@ pub next_call : (result : CoderResult) {handling : BomHandling} {e : Encoding}
     → HasDecoded handling e bytes unread true old wrote had
     → {src before after : List ℕ} → src ≡ unread → before ≡ wrote
     → {room read : ℕ} {replaced : Bool}
-    → DecodesChunk encode_utf8 old new (replacing_call src true room result read (drop (length before) after) replaced)
+    → DecodesChunk encode_utf8 old new
+    (replacing_call src true room result read (drop (length before) after) replaced)
     → take (length before) after ≡ before
     → HasDecoded handling e bytes (drop read src) true new after (had || replaced)
-next_call result {old} {new} decoded {src} {before} {after} src_is before_is {room} {read}
-    {replaced} decodes keeps =
-    let call : Call = record {
-      src = src;
-      last = true;
-      mode = Replacement;
-      room = room;
-      result = decoder_result_of result;
-      read = read;
-      wrote = drop (length before) after;
-      replaced = replaced;
-    } in
-    goes_on call (rw (src_is, before_is) decoded) decodes keeps (only_put call decodes refl)
+next_call coder.InputEmpty decoded src_is before_is decodes keeps =
+    goes_on (rw (src_is, before_is) decoded) decodes keeps (sym decodes.call.stops.only_put)
+next_call coder.OutputFull decoded src_is before_is decodes keeps =
+    goes_on (rw (src_is, before_is) decoded) decodes keeps (sym decodes.call.stops.only_put)
 
 -- and of the first call
 pub first_call : (result : CoderResult) {handling : BomHandling} {e : Encoding} {bytes : List ℕ}
     {old new : DecoderState}
     → old ≡ fresh_decoder handling e → {before after : List ℕ} → before ≡ []
     → {room read : ℕ} {replaced : Bool}
-    → DecodesChunk encode_utf8 old new (replacing_call bytes true room result read (drop (length before) after) replaced)
+    → DecodesChunk encode_utf8 old new
+    (replacing_call bytes true room result read (drop (length before) after) replaced)
     → take (length before) after ≡ before
     → HasDecoded handling e bytes (drop read bytes) true new after replaced
 first_call result {handling} {e} {bytes} {old} is_fresh is_empty decodes keeps =
@@ -152,28 +132,12 @@ first_call result {handling} {e} {bytes} {old} is_fresh is_empty decodes keeps =
     rw is_fresh (none_decoded handling e bytes) in
     next_call result none_so_far refl is_empty decodes keeps
 
-or_true : (b : Bool) → (b || true) ≡ true
-or_true true = refl
-or_true false = refl
-
+-- a malformed sequence is one of all
 any_of_last : (ss ts : List Sequence) (s : Sequence) → is_malformed s.kind ≡ true
     → any_malformed ((ss ++ s ∷ []) ++ ts) ≡ true
-any_of_last [] ts s h = ap (λ b. b || any_malformed ts) h
-any_of_last (t ∷ ss) ts s h = ap (λ b. is_malformed t.kind || b) (any_of_last ss ts s h)
-    ∙ or_true (is_malformed t.kind)
-
--- a malformed sequence that is reported is one of the whole input
-is_malformed_input : {e : Encoding} {bytes : List ℕ} {old new : DecoderState} {before : List ℕ}
-    {l a : ℕ} (c : Call) → HasDecoded Off e bytes c.src true old before false
-    → Decodes encode_utf8 old new (record c { last = true; result = Malformed l a })
-    → whole_malformed Off e bytes ≡ true
-is_malformed_input {new} {l} {a} c decoded decodes =
-    let stops = decodes.call.stops in
-    let rest = remaining_sequences new (drop c.read c.src ++ []) in
-    ap any_malformed (all_done (record c { result = Malformed l a }) decoded decodes
-    ∙ ap (λ ss. (decoded.done ++ ss) ++ rest) stops.then_next
-    ∙ ap (λ ss. ss ++ rest) (sym (append_assoc decoded.done decodes.call.put (stops.next ∷ []))))
-    ∙ any_of_last (decoded.done ++ decodes.call.put) rest stops.next stops.malformed
+any_of_last [] ts s malformed = ap (λ b. b || any_malformed ts) malformed
+any_of_last (t ∷ ss) ts s malformed =
+    ap (λ b. is_malformed t.kind || b) (any_of_last ss ts s malformed) ∙ or-true _
 
 not_at_end : (result : CoderResult) → ¬ (result ≡ coder.InputEmpty)
     → reaches_end true (decoder_result_of result) ≡ false
@@ -185,15 +149,7 @@ pub still_open : (result : CoderResult) {old new : DecoderState} {src : List ℕ
     {read : ℕ} {wrote : List ℕ} {replaced : Bool}
     → DecodesChunk encode_utf8 old new (replacing_call src true room result read wrote replaced)
     → ¬ (result ≡ coder.InputEmpty) → has_finished new ≡ false
-still_open result decodes goes_on = finishes result decodes ∙ not_at_end result goes_on
-
--- and one that is leaves it finished
-pub now_finished : (result : CoderResult) {old new : DecoderState} {src : List ℕ} {room : ℕ}
-    {read : ℕ} {wrote : List ℕ} {replaced : Bool}
-    → DecodesChunk encode_utf8 old new (replacing_call src true room result read wrote replaced)
-    → result ≡ coder.InputEmpty → has_finished new ≡ true
-now_finished result decodes at_end = finishes result decodes
-    ∙ ap (λ r. reaches_end true (decoder_result_of r)) at_end
+still_open result decodes goes_on = finishes decodes ∙ not_at_end result goes_on
 
 -- with enough room a call is never full
 pub never_full : {units_of : ℕ → List ℕ} {mode : DecodeErrorMode} (length_answered : Option ℕ)
@@ -242,7 +198,8 @@ pub too_long_after : {handling : BomHandling} {e : Encoding} {bytes : List ℕ}
     → HasRoomExactlyFor length_answered room
     → (result : CoderResult) → ¬ (result ≡ coder.InputEmpty)
     → {read : ℕ} {wrote : List ℕ} {replaced : Bool}
-    → AnswersDecode encode_utf8 4 old new (replacing_call bytes true room result read wrote replaced)
+    → AnswersDecode encode_utf8 4 old new
+    (replacing_call bytes true room result read wrote replaced)
     → checked_add (max_length query.Utf8 new (length (drop read bytes))) (length wrote) ≡ None
     → IsTooLongAfterFull handling e bytes
 too_long_after is_fresh length_is exact coder.InputEmpty goes_on call passes = absurd (goes_on refl)
@@ -261,7 +218,8 @@ too_long_after {handling} {e} {bytes} {new} is_fresh length_is {room} exact code
       wrote = wrote;
       replaced = replaced;
       call =
-          subst (λ d. AnswersDecode encode_utf8 4 d new (replacing_call bytes true room coder.OutputFull read wrote replaced))
+          subst (λ d. AnswersDecode encode_utf8 4 d new
+          (replacing_call bytes true room coder.OutputFull read wrote replaced))
           is_fresh
           call;
       passes = passes;
@@ -287,16 +245,6 @@ encoding_without_mark (Some m) e none = cc
 
 -- calls that report malformed sequences
 
-strict_if : (malformed : Bool) (text : List ℕ) → malformed ≡ false
-    → Some text ≡ (if malformed then None else Some text)
-strict_if true text is_malformed_now = absurd (true≢false is_malformed_now)
-strict_if false text is_malformed_now = refl
-
-none_if : (malformed : Bool) (text : List ℕ) → malformed ≡ true
-    → None ≡ (if malformed then None else Some text)
-none_if true text is_malformed_now = refl
-none_if false text is_malformed_now = absurd (true≢false (sym is_malformed_now))
-
 pub none_strict : (e : Encoding) (bytes : List ℕ) → bytes ≡ []
     → Some [] ≡ utf_8_without_replacement e bytes
 none_strict e bytes is_empty =
@@ -304,55 +252,34 @@ none_strict e bytes is_empty =
     else Some (units_of_text encode_utf8 (sequence_text ss)))
     (sym (none_whole Off e bytes is_empty))
 
-pub strict_none : (e : Encoding) (bytes : List ℕ) → whole_malformed Off e bytes ≡ true
-    → None ≡ utf_8_without_replacement e bytes
-strict_none e bytes is_malformed_now =
-    none_if (whole_malformed Off e bytes) (whole_utf_8 Off e bytes) is_malformed_now
-
-pub strict_text : {e : Encoding} {bytes unread : List ℕ} {state : DecoderState} {text : List ℕ}
-    → HasDecoded Off e bytes unread true state text false → has_finished state ≡ true
-    → Some text ≡ utf_8_without_replacement e bytes
-strict_text {e} {bytes} {text} decoded finished =
-    strict_if (whole_malformed Off e bytes) text (sym (whole_flag decoded finished))
-    ∙ ap (λ t. if whole_malformed Off e bytes then None else Some t) (whole_text decoded finished)
-
--- one more call
-module _ {e : Encoding} {bytes : List ℕ} {old new : DecoderState} {before : List ℕ} where
-  pub strict_end : (result : DecoderResult) {src after : List ℕ} {room read : ℕ}
-      → HasDecoded Off e bytes src true old before false
-      → DecodesChunk encode_utf8 old new (reporting_call src true room result read (drop (length before) after))
+-- the only call
+module _ {e : Encoding} {old new : DecoderState} (is_fresh : old ≡ fresh_decoder Off e) where
+  pub strict_end : (result : DecoderResult) {bytes before after : List ℕ} {room read : ℕ}
+      → before ≡ []
+      → DecodesChunk encode_utf8 old new
+      (reporting_call bytes true room result read (drop (length before) after))
       → take (length before) after ≡ before → result ≡ InputEmpty
       → Some after ≡ utf_8_without_replacement e bytes
-  strict_end InputEmpty {src} {after} {room} {read} decoded decodes keeps at_end =
-      let call : Call = record {
-        src = src;
-        last = true;
-        mode = Fatal false;
-        room = room;
-        result = InputEmpty;
-        read = read;
-        wrote = drop (length before) after;
-        replaced = false;
-      } in
-      strict_text (goes_on call decoded decodes keeps (sym decodes.call.stops.only_put))
-      (finished_by call decodes)
-  strict_end OutputFull decoded decodes keeps at_end = cc
-  strict_end (Malformed l a) decoded decodes keeps at_end = cc
+  strict_end InputEmpty {bytes} {before} none_before decodes keeps at_end =
+      let none_so_far : HasDecoded Off e bytes bytes true old before false =
+      rw (is_fresh, none_before) (none_decoded Off e bytes) in
+      let decoded = goes_on none_so_far decodes keeps (sym decodes.call.stops.only_put) in
+      let finished = finishes decodes in
+      rw (← whole_flag decoded finished, ← whole_text decoded finished) refl
+  strict_end OutputFull none_before decodes keeps at_end = cc
+  strict_end (Malformed l a) none_before decodes keeps at_end = cc
 
-  pub strict_report : (result : DecoderResult) {l a : ℕ} {src wrote : List ℕ} {room read : ℕ}
-      → HasDecoded Off e bytes src true old before false
-      → DecodesChunk encode_utf8 old new (reporting_call src true room result read wrote)
+  pub strict_report : (result : DecoderResult) {l a : ℕ} {bytes wrote : List ℕ} {room read : ℕ}
+      → DecodesChunk encode_utf8 old new (reporting_call bytes true room result read wrote)
       → result ≡ Malformed l a → None ≡ utf_8_without_replacement e bytes
-  strict_report InputEmpty decoded decodes is_malformed_now = cc
-  strict_report OutputFull decoded decodes is_malformed_now = cc
-  strict_report (Malformed l a) {src} {wrote} {room} {read} decoded decodes is_malformed_now =
-      strict_none e bytes (is_malformed_input (record {
-        src = src;
-        last = true;
-        mode = Fatal false;
-        room = room;
-        result = Malformed l a;
-        read = read;
-        wrote = wrote;
-        replaced = false;
-      }) decoded decodes)
+  strict_report InputEmpty decodes reported = cc
+  strict_report OutputFull decodes reported = cc
+  strict_report (Malformed l a) {bytes} {read = read} decodes reported =
+      let stops = decodes.call.stops in
+      let rest = remaining_sequences new (drop read bytes ++ []) in
+      let sequences : whole_sequences Off e bytes ≡ (decodes.call.put ++ stops.next ∷ []) ++ rest =
+      ap (whole_sequences Off e) (sym (append-nil bytes)) ∙ fresh_sequences Off e (bytes ++ [])
+      ∙ rw (is_fresh, stops.then_next) at (decodes.call.residual [] (λ _. refl)) in
+      let is_malformed_now : whole_malformed Off e bytes ≡ true =
+      ap any_malformed sequences ∙ any_of_last decodes.call.put rest stops.next stops.malformed in
+      rw is_malformed_now refl

@@ -31,49 +31,13 @@ use Rattle.enc_stream.specs.OneShot.{HasWritten, length_to_encode, remaining_len
 use Rattle.enc_stream.specs.OneShot.{AreFullRounds, IsTooLongToEncode}
 use Rattle.enc_decoder.proofs.SequenceLemmas.{or_assoc}
 use Rattle.enc_stream.proofs.EncoderProgressLemmas.{none_due, output_rule_is}
+use Rattle.std.proofs.Common.{IsUtf8, false}
+use Rattle.enc_decoder.proofs.SequenceLemmas.{or_false}
+use Rattle.enc_stream.proofs.UnreadTextLemmas.{all_read, chars_after}
 
 -- the bytes of a text, by an encoder's rule and set
 abbrev bytes_by : EncoderRule → CharacterSet → List ℕ → List ℕ
 bytes_by rule set text = bytes_of_text rule set (with_references rule text)
-
--- no call
-pub none_written : (e : Encoding) (text : List ℕ) → HasWritten e text text (fresh_encoder [] e) []
-none_written e text = record {
-  encoding = refl;
-  barred = refl;
-  whole = ap (λ rule. bytes_by rule Ascii text)
-      (sym (output_rule_is [] e));
-}
-
--- no text
-pub nothing_written : (e : Encoding) (text : List ℕ) → text ≡ [] → [] ≡ whole_bytes [] e text
-nothing_written e text h = sym (none_due [] e) ∙ ap (whole_bytes [] e) (sym h)
-
--- at the end of the text all its bytes are written
-pub all_written : {e : Encoding} {text : List ℕ} {state : EncoderState} {wrote : List ℕ}
-    → HasWritten e text [] state wrote → state.set ≡ Ascii → wrote ≡ whole_bytes [] e text
-all_written {state} {wrote} all_so_far is_ascii =
-    sym (append-nil wrote) ∙ ap (λ x. wrote ++ x) (sym (none_due state.barred state.encoding))
-    ∙ ap (λ (s : CharacterSet). wrote ++ bytes_by (raw_state state).rule s []) (sym is_ascii)
-    ∙ sym all_so_far.whole
-
--- While the whole text is unread, the length query is that of the whole text, and overflows where
--- that does.
-pub none_asked : {e : Encoding} {text rest : List ℕ} {state : EncoderState} {wrote : List ℕ}
-    → HasWritten e text rest state wrote
-    → {unread all : List ℕ} → unread ≡ all
-    → length_to_encode (output_encoding_of e) (length all) ≡ None
-    → {answer : Option ℕ}
-    → answer ≡ checked_add (from_utf_8_length (output_lengths state.encoding) (length unread))
-    (room_kept_for_references state.barred state.encoding) → (n : ℕ) → checked_add answer n ≡ None
-none_asked {state} written_so_far {all} all_unread none length_is n =
-    ap (λ m. checked_add m n) (
-    length_is ∙ ap (λ x. checked_add (from_utf_8_length (output_lengths state.encoding) (length x))
-    (room_kept_for_references state.barred state.encoding)) all_unread
-    ∙ ap (λ b. checked_add (from_utf_8_length (output_lengths state.encoding) (length all))
-    (room_kept_for_references b state.encoding)) written_so_far.barred
-    ∙ ap (λ o. length_to_encode o (length all)) written_so_far.encoding ∙ none
-    )
 
 -- full calls from the start of the text
 pub record FollowsFullRounds (e : Encoding) (text : List ℕ) (state : EncoderState)
@@ -88,115 +52,171 @@ ExtendsFullRounds e text state unread wrote =
     → AreFullRounds rounds state unread wrote last left all
     → FollowsFullRounds e text last left all
 
--- one more full call
-pub one_more_round : {e : Encoding} {text rest : List ℕ} (unread before after : List ℕ)
-    {old new : EncoderState}
-    → ExtendsFullRounds e text old unread before
-    → {answer : Option ℕ} → answer ≡ remaining_length old (length unread)
-    → checked_add answer (length before) ≢ None
-    → {room : ℕ} → HasRoomFor answer room → 14 ≤ room
-    → (result : CoderResult) → ¬ (result ≡ InputEmpty) → {read : ℕ} {replaced : Bool}
-    → EncodesChunk encode_utf8 old new (record {
-      src = chars unread;
-      last = true;
-      mode = html_mode old;
-      room = room;
-      result = encoder_result_of result;
-      read = read;
-      wrote = drop (length before) after;
-      replaced = replaced;
-    })
-    → take (length before) after ≡ before → rest ≡ drop read unread
-    → ExtendsFullRounds e text new rest after
-one_more_round unread before after extends answer_is fits enough least InputEmpty goes_on encodes
-    keeps rest_is = absurd (goes_on refl)
-one_more_round unread before after {new} extends answer_is fits {room} enough least OutputFull
-    goes_on {read} {replaced} encodes keeps rest_is = λ rounds last left all full.
-    let round : EncoderRound = record {
-      room = room;
-      read = read;
-      wrote = drop (length before) after;
-      replaced = replaced;
-      after = new;
-    } in
-    let joined : after ≡ before ++ drop (length before) after =
-    sym (take-append-drop (length before) after)
-    ∙ ap (λ x. x ++ drop (length before) after) keeps in
-    extends (round ∷ rounds) last left all (
-      record {
-        length_fits = subst (λ (n : Option ℕ). checked_add n (length before) ≢ None) answer_is fits;
-        enough = subst (λ (n : Option ℕ). HasRoomFor n room) answer_is enough;
-        least = least;
-        call = encodes;
-      },
-      subst (λ x. AreFullRounds rounds new (drop read unread) x last left all) joined
-          (subst (λ x. AreFullRounds rounds new x after last left all) rest_is full),
-    )
+-- What the calls so far have come to: the state, the unread text, the bytes written, and whether a
+-- character was unmappable.
+pub record HasEncoded (e : Encoding) (text : List ℕ) (state : EncoderState) (unread wrote : List ℕ)
+    (had_unmappables : Bool) : Type 0 where
+  pub written : HasWritten e (chars text) (chars unread) state wrote
+  pub flag : any_unmappable (output_rule [] e) (chars text)
+      ≡ (had_unmappables || any_unmappable (output_rule [] e) (chars unread))
+  pub front : List ℕ
+  pub rest : text ≡ front ++ unread
+  pub full : ExtendsFullRounds e text state unread wrote
+  -- only the first call asks for a length that is not there
+  pub start : length_to_encode (output_encoding_of e) (length text) ≡ None → unread ≡ text
+
+-- no call
+pub none_encoded : (e : Encoding) (text : List ℕ)
+    → HasEncoded e text (fresh_encoder [] e) text [] false
+none_encoded e text = record {
+  written = record {
+    encoding = refl;
+    barred = refl;
+    whole = ap (λ rule. bytes_by rule Ascii (chars text)) (sym (output_rule_is [] e));
+  };
+  flag = refl;
+  front = [];
+  rest = refl;
+  full = λ rounds last left all full. record { rounds = rounds; full = full };
+  start = λ none. refl;
+}
+
+-- no text
+pub nothing_written : (e : Encoding) (text : List ℕ) → text ≡ [] → [] ≡ whole_bytes [] e text
+nothing_written e text h = sym (none_due [] e) ∙ ap (whole_bytes [] e) (sym h)
 
 -- no reference is left to the caller
 none_after : (stop : CoderResult) → reference_after (encoder_result_of stop) ≡ []
 none_after InputEmpty = refl
 none_after OutputFull = refl
 
--- One more call, whose bytes follow those already written.
-module _ (old new : EncoderState) {rest : List ℕ} {c : CallInMode}
-    (call : IsCallInMode encode_utf8 (raw_state old) (raw_state new) rest c) {e : Encoding}
-    {text before : List ℕ} (written_so_far : HasWritten e text c.src old before) where
-  rule_is : (raw_state old).rule ≡ output_rule [] e
-  rule_is =
-      ap (λ b. output_rule b old.encoding) written_so_far.barred
-      ∙ ap (output_rule []) written_so_far.encoding
-      ∙ output_rule_is [] e
+full_otherwise : (stop : CoderResult) → ¬ (stop ≡ InputEmpty) → stop ≡ OutputFull
+full_otherwise InputEmpty goes_on = absurd (goes_on refl)
+full_otherwise OutputFull goes_on = refl
 
-  pub written_on : new.encoding ≡ old.encoding → new.barred ≡ old.barred → (stop : CoderResult)
-      → c.result ≡ encoder_result_of stop → {after : List ℕ} → c.wrote ≡ drop (length before) after
-      → take (length before) after ≡ before → {unread : List ℕ} → unread ≡ rest
-      → HasWritten e text unread new after
-  written_on encoding barred stop result_is {after} follows keeps is_rest = record {
-    encoding = encoding ∙ written_so_far.encoding;
-    barred = barred ∙ written_so_far.barred;
-    whole =
-        let later = bytes_by (raw_state new).rule new.set rest in
-        let text_kept : bytes_by (raw_state old).rule old.set c.src ≡ c.wrote ++ later =
-        ap (bytes_by (raw_state old).rule old.set) (sym (append-nil c.src))
-        ∙ call.text [] (λ _. refl) ∙ rw (result_is, none_after stop, append-nil rest) refl in
-        written_so_far.whole ∙ ap (λ x. before ++ x) text_kept
-        ∙ sym (append_assoc before c.wrote later)
-        ∙ ap (λ x. x ++ later)
-        (ap (λ x. before ++ x) follows ∙ ap (λ x. x ++ drop (length before) after) (sym keeps)
-        ∙ take-append-drop (length before) after)
-        ∙ ap (λ x. after ++ bytes_by (raw_state new).rule new.set x) (sym is_rest);
-  }
+module _ {e : Encoding} {text : List ℕ} {old : EncoderState} {unread before : List ℕ} {had : Bool}
+    (so_far : HasEncoded e text old unread before had) where
+  -- where the length query of the whole text overflows, it is the next one
+  pub none_asked : length_to_encode (output_encoding_of e) (length text) ≡ None
+      → remaining_length old (length unread) ≡ None
+  none_asked none = rw (so_far.start none, so_far.written.barred, so_far.written.encoding) none
 
-  pub flagged_on : c.mode ≡ html_mode old → (had : Bool)
-      → any_unmappable (output_rule [] e) text
-      ≡ (had || any_unmappable (output_rule [] e) c.src) → {unread : List ℕ} → unread ≡ rest
-      → any_unmappable (output_rule [] e) text
-      ≡ ((had || c.replaced) || any_unmappable (output_rule [] e) unread)
-  flagged_on is_html had flag_so_far is_rest =
-      let any_in : List ℕ → Bool = any_unmappable (output_rule [] e) in
-      let replaced : c.replaced ≡ any_in (step_chars call.done) =
-      replaced_is call is_html ∙ ap (λ rule. any_unmappable rule (step_chars call.done)) rule_is in
-      flag_so_far ∙ ap (λ x. had || any_in x) call.reads
-      ∙ ap (λ b. had || b) (any_unmappable-append (output_rule [] e) (step_chars call.done) rest)
-      ∙ rw (replaced, is_rest) (sym (or_assoc had (any_in (step_chars call.done)) (any_in rest)))
+  pub too_long : checked_add (length_to_encode (output_encoding_of e) (length unread))
+      (length before) ≡ None → IsTooLongToEncode e text
+  too_long passes =
+      let follows = so_far.full [] _ _ _ (refl, refl, refl) in
+      record {
+        front = so_far.front;
+        unread = unread;
+        rest = so_far.rest;
+        state = old;
+        wrote = before;
+        written = so_far.written;
+        rounds = follows.rounds;
+        full = follows.full;
+        passes = passes;
+      }
 
-  -- the last one reads all
-  pub none_unread : c.mode ≡ html_mode old → c.result ≡ raw.InputEmpty → [] ≡ rest
-  none_unread is_html at_end =
-      rest_is_read (raw_state new) rest c.last (rw (is_html, at_end) at call.stops)
+  -- one more call, whose bytes follow those already written
+  module _ {new : EncoderState} (after : List ℕ) (stop : CoderResult) {room read : ℕ}
+      {replaced : Bool} (encodes : EncodesChunk encode_utf8 old new (record {
+        src = chars unread;
+        last = true;
+        mode = html_mode old;
+        room = room;
+        result = encoder_result_of stop;
+        read = read;
+        wrote = drop (length before) after;
+        replaced = replaced;
+      }))
+      (keeps : take (length before) after ≡ before) where
+    joined : after ≡ before ++ drop (length before) after
+    joined = sym (take-append-drop (length before) after)
+        ∙ ap (λ x. x ++ drop (length before) after) keeps
+
+    written_on : {left : List ℕ} → left ≡ encodes.rest → HasWritten e (chars text) left new after
+    written_on left_is = record {
+      encoding = encodes.encoding ∙ so_far.written.encoding;
+      barred = encodes.barred ∙ so_far.written.barred;
+      whole =
+          let later = bytes_by (raw_state new).rule new.set encodes.rest in
+          let text_kept : bytes_by (raw_state old).rule old.set (chars unread)
+          ≡ drop (length before) after ++ later =
+          ap (bytes_by (raw_state old).rule old.set) (sym (append-nil (chars unread)))
+          ∙ encodes.call.text [] (λ _. refl)
+          ∙ rw (none_after stop, append-nil encodes.rest) refl in
+          rw left_is (so_far.written.whole ∙ ap (λ x. before ++ x) text_kept
+          ∙ sym (append_assoc before (drop (length before) after) later)
+          ∙ ap (λ x. x ++ later) (sym joined));
+    }
+
+    flagged_on : {left : List ℕ} → left ≡ encodes.rest
+        → any_unmappable (output_rule [] e) (chars text)
+        ≡ ((had || replaced) || any_unmappable (output_rule [] e) left)
+    flagged_on left_is =
+        let any_in : List ℕ → Bool = any_unmappable (output_rule [] e) in
+        let done = step_chars encodes.call.done in
+        let rule_is : (raw_state old).rule ≡ output_rule [] e =
+        rw (so_far.written.barred, so_far.written.encoding) (output_rule_is [] e) in
+        let replaced_now : replaced ≡ any_in done =
+        replaced_is encodes.call refl ∙ ap (λ rule. any_unmappable rule done) rule_is in
+        so_far.flag ∙ ap (λ x. had || any_in x) encodes.call.reads
+        ∙ ap (λ b. had || b) (any_unmappable-append (output_rule [] e) done encodes.rest)
+        ∙ rw (replaced_now, left_is) (sym (or_assoc had (any_in done) (any_in encodes.rest)))
+
+    -- at the end of the text all its bytes are written
+    pub all_written : stop ≡ InputEmpty → after ≡ whole_bytes [] e (chars text)
+    all_written at_end =
+        let whole = (written_on (all_read stop at_end refl refl encodes)).whole in
+        let is_ascii : new.set ≡ Ascii =
+        ap (λ (state : EncoderState). state.set)
+        (encodes.ended (ap encoder_result_of at_end) refl) in
+        sym (append-nil after) ∙ ap (λ x. after ++ x) (sym (none_due new.barred new.encoding))
+        ∙ ap (λ set. after ++ bytes_by (raw_state new).rule set []) (sym is_ascii) ∙ sym whole
+
+    pub all_flagged : stop ≡ InputEmpty
+        → (had || replaced) ≡ any_unmappable (output_rule [] e) (chars text)
+    all_flagged at_end = sym (flagged_on (all_read stop at_end refl refl encodes) ∙ or_false _)
+
+    -- and otherwise others follow
+    pub one_more : ¬ (stop ≡ InputEmpty) → {left : List ℕ} → left ≡ drop read unread
+        → IsUtf8 unread → {answer : Option ℕ} → answer ≡ remaining_length old (length unread)
+        → checked_add answer (length before) ≢ None → HasRoomFor answer room → 14 ≤ room
+        → HasEncoded e text new left after (had || replaced)
+    one_more goes_on left_is utf8 answer_is fits enough least =
+        let left_chars = ap chars left_is
+        ∙ chars_after _ _ _ _ utf8 encodes.call.reads encodes.call.units in
+        record {
+          written = written_on left_chars;
+          flag = flagged_on left_chars;
+          front = so_far.front ++ take read unread;
+          rest = rw (
+            left_is,
+            append_assoc so_far.front (take read unread) (drop read unread),
+            take-append-drop read unread,
+          ) so_far.rest;
+          full = λ rounds last rest all full.
+              let round : EncoderRound = record {
+                room = room;
+                read = read;
+                wrote = drop (length before) after;
+                replaced = replaced;
+                after = new;
+              } in
+              so_far.full (round ∷ rounds) last rest all (
+                record {
+                  length_fits = subst (λ n. checked_add n (length before) ≢ None) answer_is fits;
+                  enough = subst (λ n. HasRoomFor n room) answer_is enough;
+                  least = least;
+                  call = rw (full_otherwise stop goes_on) at encodes;
+                },
+                rw (← left_is, ← joined) full,
+              );
+          start = λ none. absurd (fits (ap (λ n. checked_add n (length before))
+              (answer_is ∙ none_asked none)));
+        }
 
 -- the first length query overflows usize
 pub too_long_at_once : (e : Encoding) (text : List ℕ)
     → length_to_encode (output_encoding_of e) (length text) ≡ None → IsTooLongToEncode e text
-too_long_at_once e text none = record {
-  front = [];
-  unread = text;
-  rest = refl;
-  state = fresh_encoder [] e;
-  wrote = [];
-  written = none_written e (chars text);
-  rounds = [];
-  full = (refl, refl, refl);
-  passes = ap (λ n. checked_add n 0) none;
-}
+too_long_at_once e text none = too_long (none_encoded e text) (ap (λ n. checked_add n 0) none)

@@ -34,7 +34,9 @@ use Rattle.enc_stream.proofs.PendingBytesLemmas.{own_state}
 use Rattle.enc_decoder.specs.CallRecord.{Call}
 use Rattle.enc_stream.specs.Decoding.{LeavesFewerBytes}
 use Rattle.enc_stream.proofs.RemainingRuleLemmas.{by_rule}
-use Rattle.enc_stream.proofs.DecoderCallLemmas.{Decodes, fewer_left, finished_by}
+use Rattle.enc_stream.proofs.DecoderCallLemmas.{Decodes, fewer_left}
+use Rattle.enc_stream.proofs.EndOfInputLemmas.{finishes}
+use Rattle.enc_units.proofs.LengthLemmas.{lengths}
 
 begins_at : (last : Bool) (remaining : List ℕ → List Sequence) (x : List ℕ) (ss : List Sequence)
     → AreDetermined last remaining x ss → (z : List ℕ) × (AreFirstSequences ss (remaining z))
@@ -47,11 +49,7 @@ some_bytes : (units_of : ℕ → List ℕ) (rule : Rule) (set : ℕ) (bytes : Li
     → 0 < length (units_of_text units_of (sequence_text ss)) → 0 < length (sequence_bytes ss)
 some_bytes units_of rule set bytes [] rest cut some_units = absurd (omega (arith, some_units))
 some_bytes units_of rule set bytes (s ∷ ss) rest cut some_units =
-    omega (
-      arith,
-      has_bytes rule set bytes [] s (ss ++ rest) cut,
-      length-append s.bytes (sequence_bytes ss),
-    )
+    omega (arith, lengths, has_bytes rule set bytes [] s (ss ++ rest) cut)
 
 -- A call with room for a small text that stops for want of room.
 module _ {units_of : ℕ → List ℕ} {least : ℕ} (takes : TakesSmallTexts units_of least)
@@ -86,12 +84,8 @@ module _ {units_of : ℕ → List ℕ} {least : ℕ} (takes : TakesSmallTexts un
 
   pub some_written : Decodes units_of old new (record c { result = OutputFull })
       → 0 < length c.wrote
-  some_written decodes = omega (
-    arith,
-    (some_done decodes).0,
-    ap length decodes.call.text,
-    ap (λ ss. length (units_of_text units_of (sequence_text ss))) decodes.call.stops.only_put,
-  )
+  some_written decodes =
+      rw (decodes.call.text, ← decodes.call.stops.only_put) (some_done decodes).0
 
   -- and a sequence that is reported has bytes, too
   pub less_left : (result : DecoderResult)
@@ -108,7 +102,7 @@ module _ {units_of : ℕ → List ℕ} {least : ℕ} (takes : TakesSmallTexts un
         stops.not_empty,
         ap (λ ss. length (sequence_bytes ss)) stops.then_next,
         ap length (sequence_bytes-one decodes.call.put stops.next),
-        length-append (sequence_bytes decodes.call.put) stops.next.bytes,
+        lengths,
       ))
 
 -- the bytes pending are no mark
@@ -123,10 +117,8 @@ same_state : (a b : DecoderState)
 same_state a b encoding life set pending =
     let made : Encoding → LifeCycle → ℕ → List ℕ → DecoderState =
     λ w x y z. record { encoding = w; life = x; set = y; pending = z } in
-    ap (λ w. made w a.life a.set a.pending) encoding
-    ∙ ap (λ x. made b.encoding x a.set a.pending) life
-    ∙ ap (λ y. made b.encoding b.life y a.pending) set
-    ∙ ap (made b.encoding b.life b.set) pending
+    let same : made a.encoding a.life a.set a.pending ≡ made b.encoding b.life b.set b.pending =
+    cc in same
 
 -- A call that stops for want of room, and has read nothing and written nothing.
 module _ {units_of : ℕ → List ℕ} (determine : DetermineTexts units_of) {old new : DecoderState}
@@ -170,7 +162,7 @@ module _ {units_of : ℕ → List ℕ} (determine : DetermineTexts units_of) {ol
       pending = was_pending;
       set = decodes.call.set;
       encoding = same_encoding;
-      unfinished = finished_by (record c { result = OutputFull; read = 0; wrote = [] }) decodes;
+      unfinished = finishes decodes;
       same = same_if_none;
     }
 
@@ -205,21 +197,11 @@ pub converts_into : {units_of : ℕ → List ℕ} {mode : DecodeErrorMode} {old 
     {replaced : Bool}
     → DecodesInto units_of mode old new src last before after result read replaced
     → AnswersDecodeInto units_of mode old new src last before after result read replaced
-converts_into {mode} determine are_held going {src} {last} {before} {result} {read} {replaced}
-    decodes = record {
-      wrote = decodes.wrote;
-      onto = decodes.onto;
-      converts = λ least takes. converts (record {
-        src = src;
-        last = last;
-        mode = mode;
-        room = before.room;
-        result = result;
-        read = read;
-        wrote = decodes.wrote;
-        replaced = replaced;
-      }) determine takes are_held going decodes.decodes;
-    }
+converts_into determine are_held going decodes = record {
+  wrote = decodes.wrote;
+  onto = decodes.onto;
+  converts = λ least takes. converts _ determine takes are_held going decodes.decodes;
+}
 
 -- small texts fit into four units of UTF-8, and two of UTF-16
 pub four_bytes : TakesSmallTexts encode_utf8 4

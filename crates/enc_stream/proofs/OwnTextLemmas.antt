@@ -40,6 +40,8 @@ use Rattle.enc_stream.specs.OwnText.{AreTheirOwnText, IsItsOwnText, unmarked_byt
 use Rattle.enc_stream.specs.Properties.{is_ascii_compatible}
 use Rattle.enc_stream.proofs.OneShotDecodeLemmas.{none_whole}
 use Rattle.enc_stream.proofs.PropertyLemmas.{shows_ascii_compatible}
+use Rattle.enc_stream.proofs.FoundMarkLemmas.{by_mark}
+use Rattle.std.proofs.Math.Seq.{take-length}
 
 -- Each character of a text, in UTF-8, is a sequence, whatever follows.
 abbrev pub EachIsOwn : Rule → List ℕ → Type 0
@@ -178,12 +180,6 @@ own_utf_8 e bytes (inr (inr japanese)) = ascii_utf_8 bytes (plain_ascii bytes ja
 
 -- a whole input
 
-by_mark : (found : Option Mark) (e : Encoding) (bytes : List ℕ)
-    → sequences_by_mark found e bytes
-    ≡ sequences_of (rule_of (encoding_of_mark_or found e)) 0 (bytes_after_mark found bytes)
-by_mark None e bytes = refl
-by_mark (Some m) e bytes = refl
-
 module _ (handling : BomHandling) (e : Encoding) (bytes : List ℕ)
     (is_own : IsItsOwnText handling e bytes) where
   whole_has : HasOwnText (rule_of (whole_encoding handling e bytes))
@@ -203,27 +199,18 @@ module _ (handling : BomHandling) (e : Encoding) (bytes : List ℕ)
 
 -- The longest prefix is the whole exactly if the whole has the property.
 
-pub prefix_is_whole : (Has : List ℕ → Type 0) (bytes : List ℕ) (k : ℕ)
-    → IsLongestPrefix Has bytes k → k ≡ length bytes → Has bytes
-prefix_is_whole Has bytes k prefix is_all =
-    subst Has (ap (λ n. take n bytes) is_all ∙ take_all (length bytes) bytes (omega arith))
-    prefix.has
-
-pub whole_is_prefix : (Has : List ℕ → Type 0) (bytes : List ℕ) (k : ℕ)
-    → IsLongestPrefix Has bytes k → Has bytes → k ≡ length bytes
-whole_is_prefix Has bytes k prefix has = elim (cases_lt k (length bytes)) [
-  | inl shorter ↦ absurd (prefix.longest (length bytes) shorter (omega arith)
-      (subst Has (sym (take_all (length bytes) bytes (omega arith))) has))
-  | inr reaches ↦ (let within = prefix.within in omega (arith, within, reaches))
-]
-
 pub prefix_decides : (Has : List ℕ → Type 0) (bytes : List ℕ) (k : ℕ) (P : Type 0)
     → IsLongestPrefix Has bytes k → (Has bytes → P) → (P → Has bytes)
     → ((k == length bytes) ≡ true) ↔ P
-prefix_decides Has bytes k P prefix to from = (
-  λ is_all. to (prefix_is_whole Has bytes k prefix (eqb-true k (length bytes) is_all)),
-  λ p. (let same = whole_is_prefix Has bytes k prefix (from p) in grind (arith, nat_tests)),
-)
+prefix_decides Has bytes k P prefix to from =
+    let whole : take (length bytes) bytes ≡ bytes = take-length bytes in (
+      λ is_all. to (rw (eqb-true k (length bytes) is_all, whole) at prefix.has),
+      λ p. elim (cases_lt k (length bytes)) [
+        | inl shorter ↦ absurd (prefix.longest (length bytes) shorter (omega arith)
+            (rw whole (from p)))
+        | inr reaches ↦ (let within = prefix.within in grind (arith, nat_tests))
+      ],
+    )
 
 -- which of the three a text is, by its encoding
 
@@ -254,7 +241,4 @@ copied_text handling e (b ∷ bytes) is_own is_rest is_text nothing =
 
 pub strict_own : (e : Encoding) (bytes : List ℕ) {text : List ℕ} → IsItsOwnText Off e bytes
     → text ≡ whole_utf_8 Off e bytes → Some text ≡ utf_8_without_replacement e bytes
-strict_own e bytes is_own is_text =
-    ap (λ t. Some t) is_text
-    ∙ ap (λ malformed. if malformed then None else Some (whole_utf_8 Off e bytes))
-    (whole_own_valid Off e bytes is_own)
+strict_own e bytes is_own is_text = rw (is_text, ← whole_own_valid Off e bytes is_own) refl

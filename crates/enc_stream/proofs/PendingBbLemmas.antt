@@ -16,6 +16,7 @@ use Rattle.enc_stream.specs.Decoding.{unread_bytes, HeldBytesMatchCodec}
 use Rattle.enc_decoder.proofs.JoinedCallLemmas.{no_bytes}
 use Rattle.enc_stream.proofs.LifeCycleLemmas.{second_if_two}
 use Rattle.enc_stream.proofs.PendingBytesLemmas.{none_unread}
+use Rattle.enc_units.proofs.LengthLemmas.{lengths}
 
 two_bytes : (life : LifeCycle) (n : ℕ) → length (unread_bytes life n) ≡ 2
     → (life ≡ SeenUtf8Second) × (n ≡ 0)
@@ -54,16 +55,7 @@ leaves_bb {v} {w} {src} {done} {left} {read} {life} reads_held accounted nothing
     let none : v.pending ≡ [] = no_bytes v.pending two_held_bytes.1 in
     let unread : held ≡ 0xEF ∷ 0xBB ∷ [] = rw (none, two_held_bytes.0) refl in
     let one_done : length (sequence_bytes done) ≡ 1 =
-    omega (
-      arith,
-      ap length accounted,
-      length-append v.pending (take total (held ++ src)),
-      length-append (sequence_bytes done) w.pending,
-      length-take total (held ++ src),
-      length-append held src,
-      ap length none,
-      reads_held.most,
-    ) in
+    omega (arith, lengths, ap length accounted, ap length none, reads_held.most) in
     let whole : sequence_bytes done ++ (w.pending ++ drop total (held ++ src)) ≡ 0xEF
     ∷ (0xBB ∷ src) =
     sym (append_assoc (sequence_bytes done) w.pending (drop total (held ++ src)))

@@ -1,17 +1,17 @@
 -- The bytes pending of a decoder: those that it holds of a byte order mark, or else those of its
 -- codec.
 use Rattle.std.specs.Prelude.{if◌then◌else◌, bytes_eq}
-use Rattle.std.proofs.Common.{◌≡◌, ℕ, ◌<◌, ◌≤◌, zero, suc, Bool, true, false, eqb, List, [], ◌∷◌}
+use Rattle.std.proofs.Common.{◌≡◌, ℕ, ◌<◌, ◌≤◌, zero, suc, true, false, eqb, List, [], ◌∷◌}
 use Rattle.std.proofs.Common.{◌++◌, length, refl, ap, sym, arith, inl, inr, ◌⊎◌, None}
 use Rattle.std.proofs.Common.{Some}
-use Rattle.std.proofs.lemmas.Bool.{false≢true, cond-false}
+use Rattle.std.proofs.lemmas.Bool.{cond-false}
 use Rattle.std.proofs.lemmas.Bool.Decides.{nat_tests}
 use Rattle.std.proofs.lemmas.Slice.Eq.{bytes_eq-Decides}
 use Rattle.enc_stream.specs.declared.encoding.Encoding.{Encoding}
 use Rattle.enc_stream.specs.declared.life_cycle.LifeCycle.{LifeCycle}
 use Rattle.enc_stream.specs.declared.life_cycle.LifeCycle.TheVariants.{AtStart}
 use Rattle.enc_stream.specs.declared.life_cycle.LifeCycle.TheVariants.{SeenUtf8Second}
-use Rattle.enc_stream.specs.declared.life_cycle.LifeCycle.TheVariants.{ConvertingWithPendingBb, Converting}
+use Rattle.enc_stream.specs.declared.life_cycle.LifeCycle.TheVariants.{Converting}
 use Rattle.enc_decoder.specs.Sequence.{Sequence, sequence_bytes}
 use Rattle.enc_decoder.specs.CodecState.{CodecState}
 use Rattle.enc_decoder.specs.Remainder.{AreBytes}
@@ -22,6 +22,7 @@ use Rattle.enc_stream.specs.Decoding.{held_or_pending_bytes, decoder_state_of, u
 use Rattle.enc_stream.specs.Decoding.{PendingAreHeldBytes}
 use Rattle.enc_stream.proofs.LifeCycleLemmas.{own_prefix}
 use Rattle.enc_stream.proofs.LifeCycleLemmas.{held_are_bytes, held_are_few}
+use Rattle.std.proofs.lemmas.Bool.{cond_both}
 
 pub pending_of_held : (held pending : List ℕ) → pending ≡ []
     → held_or_pending_bytes held pending ≡ held
@@ -74,21 +75,13 @@ own_state life pending going in_front held =
       | inr own ↦ rw (own.0, own.1) refl
     ]
 
-left_if : (ef_done : Bool) → ef_done ≡ false
-    → (if ef_done then ConvertingWithPendingBb else Converting) ≡ Converting
-left_if true not_ef = absurd (false≢true (sym not_ef))
-left_if false not_ef = refl
-
 -- once a sequence is done, the state is Converting, unless it is EF of a held EF BB
 none_left : (life : LifeCycle) (bytes : List ℕ) → (life ≡ SeenUtf8Second → length bytes ≡ 1 → ⊥)
     → life_after_bytes life bytes ≡ Converting
 none_left SeenUtf8Second bytes not_ef =
-    left_if (bytes_eq (0xEF ∷ []) bytes) (by_test (bytes_eq (0xEF ∷ []) bytes) refl)
-  where
-    by_test : (is_ef : Bool) → bytes_eq (0xEF ∷ []) bytes ≡ is_ef → is_ef ≡ false
-    by_test true same =
-        absurd (not_ef refl (sym (ap length ((bytes_eq-Decides (0xEF ∷ []) bytes).0 same))))
-    by_test false same = refl
+    cond_both (bytes_eq (0xEF ∷ []) bytes) _ _ (λ life. life ≡ Converting)
+    (λ same. absurd (not_ef refl (sym (ap length ((bytes_eq-Decides (0xEF ∷ []) bytes).0 same)))))
+    (λ differs. refl)
 none_left AtStart bytes not_ef = refl
 none_left _ bytes not_ef = refl
 

@@ -19,6 +19,15 @@ use Rattle.enc_stream.specs.Decoding.{DecoderState, remaining_sequences}
 use Rattle.enc_decoder.proofs.SegmentationLemmas.{sequences_of-nil}
 use Rattle.enc_stream.proofs.UnmarkedTextLemmas.{marked_sequences}
 use Rattle.enc_stream.proofs.FoundMarkLemmas.{EachMark, found_has}
+use Rattle.enc_units.proofs.LengthLemmas.{lengths}
+use Rattle.enc_stream.specs.LifeCycle.{encoding_of_mark_or}
+use Rattle.enc_stream.specs.MarkLaws.{bytes_after_mark}
+use Rattle.enc_stream.proofs.FoundMarkLemmas.{by_mark}
+use Rattle.enc_decoder.proofs.RuleLemmas.{has_bytes}
+use Rattle.enc_decoder.specs.Sequence.{sequence_bytes}
+use Rattle.std.proofs.Common.{◌++◌, length, arith}
+use Rattle.std.proofs.Common.{◌∷◌}
+use Rattle.enc_stream.specs.declared.life_cycle.LifeCycle.TheVariants.{AtStart}
 
 -- the sequences of some bytes by a rule with a property
 pub record ByRule (Has : Rule → Type 0) (sequences : List Sequence) : Type 0 where
@@ -39,34 +48,25 @@ module _ (Has : Rule → Type 0) (utf_8 : Has utf_8_rule) (utf_16be : Has (utf_1
   PhaseHas Ended = Unit {0}
 
   phase_has : (life : LifeCycle) → PhaseHas (phase_of life)
-  phase_has AtUtf8Start = (utf_8, tt)
-  phase_has AtUtf16BeStart = (utf_16be, tt)
-  phase_has AtUtf16LeStart = (utf_16le, tt)
-  phase_has ConvertingWithPendingBb = tt
-  phase_has Converting = tt
-  phase_has Finished = tt
-  phase_has _ = (utf_8, (utf_16be, (utf_16le, tt)))
+  phase_has AtStart = search (utf_8, utf_16be, utf_16le, tt)
+  phase_has _ = search (utf_8, utf_16be, utf_16le, tt)
 
   by_phase : (p : Phase) (e : Encoding) (set : ℕ) (x : List ℕ) → PhaseHas p → Has (rule_of e)
       → ByRule Has (sequences_in p e set x)
-  by_phase (InFront looked_for) e set x each own = by_mark (find_mark looked_for x) refl
+  by_phase (InFront looked_for) e set x each own =
+      let found = find_mark looked_for x in
+      record {
+        rule = rule_of (encoding_of_mark_or found e);
+        set = 0;
+        bytes = bytes_after_mark found x;
+        same = by_mark found e x;
+        holds = of_mark found refl;
+      }
     where
-      by_mark : (found : Option Mark) → find_mark looked_for x ≡ found
-          → ByRule Has (sequences_in (InFront looked_for) e set x)
-      by_mark None found_is = record {
-        rule = rule_of e;
-        set = 0;
-        bytes = x;
-        same = ap (λ o. sequences_by_mark o e x) found_is;
-        holds = own;
-      }
-      by_mark (Some m) found_is = record {
-        rule = rule_of m.encoding;
-        set = 0;
-        bytes = drop (length m.bytes) x;
-        same = marked_sequences (InFront looked_for) e set m x found_is;
-        holds = found_has MarkHas looked_for x m each found_is;
-      }
+      of_mark : (found : Option Mark) → find_mark looked_for x ≡ found
+          → Has (rule_of (encoding_of_mark_or found e))
+      of_mark None at_front = own
+      of_mark (Some m) at_front = found_has MarkHas looked_for x m each at_front
   by_phase Within e set x each own =
       record { rule = rule_of e; set = set; bytes = x; same = refl; holds = own }
   by_phase Ended e set x each own = record {
@@ -81,3 +81,10 @@ module _ (Has : Rule → Type 0) (utf_8 : Has utf_8_rule) (utf_16be : Has (utf_1
       → ByRule Has (remaining_sequences d y)
   by_rule d y own = by_phase (phase_of d.life) d.encoding d.set (d.pending ++ y) (phase_has d.life)
       own
+
+-- sequences without a byte are none
+pub none_without_bytes : (rule : Rule) (set : ℕ) (bytes : List ℕ) (ss rest : List Sequence)
+    → sequences_of rule set bytes ≡ ss ++ rest → length (sequence_bytes ss) ≡ 0 → ss ≡ []
+none_without_bytes rule set bytes [] rest cut no_byte = refl
+none_without_bytes rule set bytes (s ∷ ss) rest cut no_byte =
+    absurd (omega (arith, lengths, no_byte, has_bytes rule set bytes [] s (ss ++ rest) cut))

@@ -45,6 +45,13 @@ reaches_itself life = record {
   stays = λ f. refl;
 }
 
+-- what agrees on the bytes after those held, agrees after more of them
+agree_after : {A : Type 0} (f g : List ℕ → A) (held more : List ℕ) {whole : List ℕ}
+    → held ++ more ≡ whole
+    → ((y : List ℕ) → f (held ++ y) ≡ g (held ++ y)) → (z : List ℕ) → f (whole ++ z) ≡ g (whole ++ z)
+agree_after f g held more whole_is agree z =
+    rw (← whole_is, append_assoc held more z) (agree (more ++ z))
+
 -- one extension of the held bytes after another is one of both
 pub reaches_then : (a b c : LifeCycle) (x y : List ℕ) → ExtendsHeldMark a b x
     → ExtendsHeldMark b c y
@@ -53,18 +60,10 @@ reaches_then a b c x y first_extends then_extends = record {
   held = sym (append_assoc (held_mark_bytes a) x y) ∙ ap (λ t. t ++ y) first_extends.held
       ∙ then_extends.held;
   awaits = then_extends.awaits ∙ first_extends.awaits;
-  marks =
-      λ z. let joined : held_mark_bytes c ++ z ≡ held_mark_bytes b ++ (y ++ z) =
-      ap (λ t. t ++ z) (sym then_extends.held) ∙ append_assoc (held_mark_bytes b) y z in
-      ap (mark_in (phase_of a)) joined ∙ first_extends.marks (y ++ z)
-      ∙ ap (mark_in (phase_of b)) (sym joined)
-      ∙ then_extends.marks z;
-  states =
-      λ z. let joined : held_mark_bytes c ++ z ≡ held_mark_bytes b ++ (y ++ z) =
-      ap (λ t. t ++ z) (sym then_extends.held) ∙ append_assoc (held_mark_bytes b) y z in
-      ap (life_at_prefix (mark_prefixes a)) joined ∙ first_extends.states (y ++ z)
-      ∙ ap (life_at_prefix (mark_prefixes b)) (sym joined)
-      ∙ then_extends.states z;
+  marks = λ z. agree_after (mark_in (phase_of a)) (mark_in (phase_of b)) _ _ then_extends.held
+      first_extends.marks z ∙ then_extends.marks z;
+  states = λ z. agree_after (life_at_prefix (mark_prefixes a)) (life_at_prefix (mark_prefixes b))
+      _ _ then_extends.held first_extends.states z ∙ then_extends.states z;
   stays = λ awaited. then_extends.stays (first_extends.awaits ∙ awaited)
       ∙ first_extends.stays awaited;
 }
@@ -78,18 +77,10 @@ ends_after a b x y e extends completes = record {
   is_encoding = completes.is_encoding;
   whole = sym (append_assoc (held_mark_bytes a) x y) ∙ ap (λ t. t ++ y) extends.held
       ∙ completes.whole;
-  found =
-      λ z. let joined : completes.mark.bytes ++ z ≡ held_mark_bytes b ++ (y ++ z) =
-      ap (λ t. t ++ z) (sym completes.whole) ∙ append_assoc (held_mark_bytes b) y z in
-      ap (mark_in (phase_of a)) joined ∙ extends.marks (y ++ z)
-      ∙ ap (mark_in (phase_of b)) (sym joined)
-      ∙ completes.found z;
-  no_front =
-      λ z. let joined : completes.mark.bytes ++ z ≡ held_mark_bytes b ++ (y ++ z) =
-      ap (λ t. t ++ z) (sym completes.whole) ∙ append_assoc (held_mark_bytes b) y z in
-      ap (life_at_prefix (mark_prefixes a)) joined ∙ extends.states (y ++ z)
-      ∙ ap (life_at_prefix (mark_prefixes b)) (sym joined)
-      ∙ completes.no_front z;
+  found = λ z. agree_after (mark_in (phase_of a)) (mark_in (phase_of b)) _ _ completes.whole
+      extends.marks z ∙ completes.found z;
+  no_front = λ z. agree_after (life_at_prefix (mark_prefixes a)) (life_at_prefix (mark_prefixes b))
+      _ _ completes.whole extends.states z ∙ completes.no_front z;
   awaits = sym extends.awaits ∙ completes.awaits;
 }
 

@@ -1,6 +1,6 @@
 -- The rest of a text in UTF-8 that a call of an encoder leaves unread.
 use Rattle.std.proofs.Common.{◌≡◌, ℕ, Bool, true, List, [], ◌∷◌, ◌++◌, ◌≤◌, length, drop, refl, ap, ◌∙◌, sym, arith}
-use Rattle.std.proofs.Common.{length-append, chars, IsUtf8}
+use Rattle.std.proofs.Common.{chars, IsUtf8}
 use Rattle.std.proofs.lemmas.Str.{encodes-chars, chars-encodes, chars_from_encodes, IsCharBoundary-at_seam}
 use Rattle.std.proofs.Math.Seq.{drop-append_seam}
 use Rattle.std.specs.Str.{all_scalars, IsCharBoundary}
@@ -15,10 +15,11 @@ use Rattle.enc_units.proofs.Utf8CharsLemmas.{their_units}
 use Rattle.enc_units.proofs.CharsLemmas.{AreUnits, utf16_length, lossy_after}
 use Rattle.enc_decoder.proofs.SequenceLemmas.{units_of_text-append}
 use Rattle.enc_encoder.specs.EncoderRule.{RawEncoderState}
-use Rattle.enc_encoder.specs.Steps.{step_chars}
-use Rattle.enc_encoder.specs.ErrorMode.{CallInMode, is_nothing_left}
+use Rattle.enc_encoder.specs.ErrorMode.{CallInMode}
 use Rattle.enc_units.specs.Results.{encoder_result_of}
 use Rattle.enc_stream.specs.Encoder.{EncoderState, EncodesChunk, raw_state, html_mode}
+use Rattle.enc_units.proofs.LengthLemmas.{lengths}
+use Rattle.enc_encoder.proofs.ReferenceStopLemmas.{rest_is_read}
 
 -- no bytes are no characters
 pub no_chars : (text : List ℕ) → text ≡ [] → chars text ≡ []
@@ -45,6 +46,7 @@ module _ (text front rest : List ℕ) (n : ℕ) (is_utf_8 : IsUtf8 text)
   rest_utf_8 : IsUtf8 (units_of_text encode_utf8 rest)
   rest_utf_8 = (rest, (rest_scalars, sym (their_units rest)))
 
+  -- a call that reads these bytes ends between two characters, and leaves the others unread
   pub boundary : IsCharBoundary text n
   boundary =
       rw size (IsCharBoundary-at_seam text (units_of_text encode_utf8 front)
@@ -60,47 +62,25 @@ module _ (text front rest : List ℕ) (n : ℕ) (is_utf_8 : IsUtf8 text)
       ∙ chars-encodes rest rest_scalars
 
 -- Where a call has come to the end of a text, no character is unread.
-none_left : (v : RawEncoderState) (rest : List ℕ) (last : Bool) → is_nothing_left v rest last ≡ true
-    → [] ≡ rest
-none_left v [] last h = refl
-none_left v (c ∷ rest) last h = cc
-
 pub all_read : (result : CoderResult) → result ≡ InputEmpty
     → {old new : EncoderState} {c : CallInMode} → c.mode ≡ html_mode old
     → c.result ≡ encoder_result_of result → (encodes : EncodesChunk encode_utf8 old new c)
     → [] ≡ encodes.rest
 all_read InputEmpty at_end {new = new} {c} is_html is_empty encodes =
-    none_left (raw_state new) encodes.rest c.last (rw (is_html, is_empty) at encodes.call.stops)
+    rest_is_read (raw_state new) encodes.rest c.last (rw (is_html, is_empty) at encodes.call.stops)
 all_read OutputFull at_end is_html is_full encodes = cc
 
--- A call reads UTF-8 up to a boundary between two characters. Those of the rest are unread.
-module _ {text : List ℕ} (is_utf_8 : IsUtf8 text) {old new : EncoderState} {c : CallInMode}
-    (src_is : c.src ≡ chars text) (encodes : EncodesChunk encode_utf8 old new c) where
-  pub ends_between : IsCharBoundary text c.read
-  ends_between =
-      boundary text (step_chars encodes.call.done) encodes.rest c.read is_utf_8
-      (sym src_is ∙ encodes.call.reads) encodes.call.units
-
-  pub chars_unread : chars (drop c.read text) ≡ encodes.rest
-  chars_unread =
-      chars_after text (step_chars encodes.call.done) encodes.rest c.read is_utf_8
-      (sym src_is ∙ encodes.call.reads) encodes.call.units
-
--- A call reads no more UTF-16 than there is. The characters of the rest are unread.
-module _ (text : List ℕ) (are_units : AreUnits text) {old new : EncoderState} {c : CallInMode}
-    (src_is : c.src ≡ utf16_lossy_chars text) (encodes : EncodesChunk encode_utf16 old new c) where
-  pub ends_within : c.read ≤ length text
+-- The same in UTF-16, of which a call reads no more than there is.
+module _ (text front rest : List ℕ) (n : ℕ) (are_units : AreUnits text)
+    (parts : utf16_lossy_chars text ≡ front ++ rest)
+    (size : n ≡ length (units_of_text encode_utf16 front)) where
+  pub ends_within : n ≤ length text
   ends_within =
       let all = utf16_length text are_units
-      ∙ ap (λ t. length (units_of_text encode_utf16 t)) (sym src_is ∙ encodes.call.reads)
-      ∙ ap length (units_of_text-append encode_utf16 (step_chars encodes.call.done) encodes.rest) in
-      let parts = length-append (units_of_text encode_utf16 (step_chars encodes.call.done))
-      (units_of_text encode_utf16 encodes.rest) in
-      let units_read = encodes.call.units in
-      omega (arith, all, parts, units_read)
+      ∙ ap (λ t. length (units_of_text encode_utf16 t)) parts
+      ∙ ap length (units_of_text-append encode_utf16 front rest) in
+      omega (arith, lengths, all, size)
 
-  pub lossy_unread : utf16_lossy_chars (drop c.read text) ≡ encodes.rest
-  lossy_unread =
-      ap (λ n. utf16_lossy_chars (drop n text)) encodes.call.units
-      ∙ lossy_after text are_units (step_chars encodes.call.done) encodes.rest
-      (sym src_is ∙ encodes.call.reads)
+  pub lossy_unread : utf16_lossy_chars (drop n text) ≡ rest
+  lossy_unread = ap (λ k. utf16_lossy_chars (drop k text)) size
+      ∙ lossy_after text are_units front rest parts

@@ -11,6 +11,8 @@ use Rattle.enc_stream.specs.LifeCycle.{mark_bytes, encoding_of_mark_or}
 use Rattle.enc_stream.specs.MarkLaws.{bytes_after_mark}
 use Rattle.enc_stream.specs.Decoding.{whole_sequences}
 use Rattle.enc_stream.proofs.FoundMarkLemmas.{found_is}
+use Rattle.enc_stream.proofs.FoundMarkLemmas.{by_mark}
+use Rattle.std.proofs.Common.{sym}
 
 pub joined_by : (found : Option Mark) (e : Encoding) (x : List ℕ)
     → ((m : Mark) → found ≡ Some m → m.bytes ++ drop (length m.bytes) x ≡ x)
@@ -30,27 +32,15 @@ joined handling e bytes =
 
 -- is_segmented by the rule, each at its place, and no others are
 
-is_segmented_by : (found : Option Mark) (e : Encoding) (x : List ℕ)
-    → IsSegmentation (rule_of (encoding_of_mark_or found e)) 0 (bytes_after_mark found x)
-    (sequences_by_mark found e x)
-is_segmented_by None e x = sequences_are_segmentation (rule_of e) 0 x
-is_segmented_by (Some m) e x =
-    sequences_are_segmentation (rule_of m.encoding) 0 (drop (length m.bytes) x)
-
-one_by : (found : Option Mark) (e : Encoding) (x : List ℕ) (ss : List Sequence)
-    → IsSegmentation (rule_of (encoding_of_mark_or found e)) 0 (bytes_after_mark found x) ss
-    → ss ≡ sequences_by_mark found e x
-one_by None e x ss segmented = is_one (rule_of e) 0 x ss segmented
-one_by (Some m) e x ss segmented =
-    is_one (rule_of m.encoding) 0 (drop (length m.bytes) x) ss segmented
-
 pub is_segmented : (handling : BomHandling) (e : Encoding) (bytes : List ℕ)
     → IsSegmentation (rule_of
     (encoding_of_mark_or (find_mark (marks_looked_for handling e) bytes) e)) 0
     (bytes_after_mark (find_mark (marks_looked_for handling e) bytes) bytes)
     (whole_sequences handling e bytes)
 is_segmented handling e bytes =
-    is_segmented_by (find_mark (marks_looked_for handling e) bytes) e bytes
+    let found = find_mark (marks_looked_for handling e) bytes in
+    rw (by_mark found e bytes) (sequences_are_segmentation (rule_of (encoding_of_mark_or found e)) 0
+    (bytes_after_mark found bytes))
 
 pub one : (handling : BomHandling) (e : Encoding) (bytes : List ℕ) (ss : List Sequence)
     → IsSegmentation (rule_of
@@ -58,4 +48,6 @@ pub one : (handling : BomHandling) (e : Encoding) (bytes : List ℕ) (ss : List 
     (bytes_after_mark (find_mark (marks_looked_for handling e) bytes) bytes) ss
     → ss ≡ whole_sequences handling e bytes
 one handling e bytes ss segmented =
-    one_by (find_mark (marks_looked_for handling e) bytes) e bytes ss segmented
+    let found = find_mark (marks_looked_for handling e) bytes in
+    is_one (rule_of (encoding_of_mark_or found e)) 0 (bytes_after_mark found bytes) ss segmented
+    ∙ sym (by_mark found e bytes)

@@ -27,20 +27,11 @@ unreachable-requires c =
 
 pub returns-in-InputEmpty-clause-text : goal.returns-in-InputEmpty-clause-text
 returns-in-InputEmpty-clause-text c =
-    let none_so_far : HasDecoded Off c.args.encoding c.args.bytes.now c.args.bytes.now true
-    c.start-decoder.result
-    (string_bytes c.in_ok-text.text) false =
-    rw (c.in_ok-text.ensures.bytes, c.start-decoder.ensures)
-    (none_decoded Off c.args.encoding c.args.bytes.now) in
     let decoded = c.decode_to_string_without_replacement-stop.ensures in
-    strict_end _ none_so_far decoded.call.decodes decoded.appended c.in-InputEmpty.is
+    strict_end c.start-decoder.ensures _ c.in_ok-text.ensures.bytes decoded.call.decodes
+    decoded.appended c.in-InputEmpty.is
 
 pub returns-in-Malformed-clause-text : goal.returns-in-Malformed-clause-text
 returns-in-Malformed-clause-text c =
-    let none_so_far : HasDecoded Off c.args.encoding c.args.bytes.now c.args.bytes.now true
-    c.start-decoder.result
-    (string_bytes c.in_ok-text.text) false =
-    rw (c.in_ok-text.ensures.bytes, c.start-decoder.ensures)
-    (none_decoded Off c.args.encoding c.args.bytes.now) in
-    strict_report _ none_so_far c.decode_to_string_without_replacement-stop.ensures.call.decodes
-    c.in-Malformed.is
+    strict_report c.start-decoder.ensures _
+    c.decode_to_string_without_replacement-stop.ensures.call.decodes c.in-Malformed.is

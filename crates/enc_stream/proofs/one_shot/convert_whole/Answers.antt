@@ -9,9 +9,9 @@ use Rattle.enc_decoder.specs.Remainder.{AreBytes}
 use Rattle.enc_decoder.proofs.ByteLemmas.{bytes_of_slice}
 use Rattle.enc_stream.specs.declared.lengths.Query.TheVariants.{Utf8Reporting}
 use Rattle.enc_stream.specs.Lengths.{max_length}
-use Rattle.enc_stream.proofs.EndOfInputLemmas.{whole_text, whole_flag}
+use Rattle.enc_stream.proofs.EndOfInputLemmas.{whole_text, whole_flag, finishes}
 use Rattle.enc_decoder.proofs.ByteLemmas.{bytes-drop}
-use Rattle.enc_stream.proofs.OneShotDecodeLemmas.{nothing, none_whole, first_call, next_call, still_open, now_finished}
+use Rattle.enc_stream.proofs.OneShotDecodeLemmas.{nothing, none_whole, first_call, next_call, still_open}
 use Rattle.enc_stream.proofs.OneShotDecodeLemmas.{never_full, too_long_after, asks_for_memory, there_is_a_length}
 use Rattle.enc_stream.proofs.one_shot.convert_whole.Goals as goal
 
@@ -48,7 +48,7 @@ returns-then-eq-clause-text c =
     let decoded =
     first_call _ c.start-decoder.ensures c.in_ok-text.ensures.bytes decodes
     c.decode_to_string-stop.ensures.appended in
-    whole_text decoded (now_finished _ decodes at_end)
+    whole_text decoded (rw at_end at (finishes decodes))
 
 pub returns-then-eq-clause-flag : goal.returns-then-eq-clause-flag
 returns-then-eq-clause-flag c =
@@ -57,7 +57,7 @@ returns-then-eq-clause-flag c =
     let decoded =
     first_call _ c.start-decoder.ensures c.in_ok-text.ensures.bytes decodes
     c.decode_to_string-stop.ensures.appended in
-    whole_flag decoded (now_finished _ decodes at_end)
+    whole_flag decoded (rw at_end at (finishes decodes))
 
 pub max_utf8_buffer_length-length-requires : goal.max_utf8_buffer_length-length-requires
 max_utf8_buffer_length-length-requires c =
@@ -105,7 +105,7 @@ returns-clause-text c =
     let both =
     next_call _ first c.split_at.ensures.back c.in_ok-make_room.ensures.bytes decodes_rest
     c.decode_to_string.ensures.appended in
-    whole_text both (now_finished _ decodes_rest c.in-InputEmpty-default-default.is-0)
+    whole_text both (rw c.in-InputEmpty-default-default.is-0 at (finishes decodes_rest))
 
 pub returns-clause-flag : goal.returns-clause-flag
 returns-clause-flag c =
@@ -117,4 +117,4 @@ returns-clause-flag c =
     let both =
     next_call _ first c.split_at.ensures.back c.in_ok-make_room.ensures.bytes decodes_rest
     c.decode_to_string.ensures.appended in
-    whole_flag both (now_finished _ decodes_rest c.in-InputEmpty-default-default.is-0)
+    whole_flag both (rw c.in-InputEmpty-default-default.is-0 at (finishes decodes_rest))

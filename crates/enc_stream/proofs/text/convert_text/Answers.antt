@@ -3,19 +3,34 @@ use Rattle.enc_decoder.proofs.ByteLemmas.{bytes_of_slice}
 use Rattle.enc_stream.proofs.HeldMarkLemmas.{ends, stays, goes_on, stays_bb, both_equal}
 use Rattle.enc_stream.proofs.HeldMarkLemmas.{not_both_equal, all_equal, not_all_equal}
 use Rattle.enc_stream.proofs.PendingBbLemmas.{leaves_bb, holds_bb}
+use Rattle.std.proofs.Common.{ℕ, Bool, false, List}
+use Rattle.enc_stream.specs.declared.encoding.Encoding.{Encoding}
+use Rattle.enc_stream.specs.declared.life_cycle.LifeCycle.{LifeCycle}
+use Rattle.enc_decoder.specs.CodecState.{CodecState}
+use Rattle.enc_decoder.specs.Remainder.{AreBytes}
+use Rattle.enc_stream.specs.Encodings.{rule_of}
+use Rattle.enc_stream.specs.Decoding.{has_ended, HeldBytesMatchCodec}
+use Rattle.enc_stream.specs.Sniffing.{HasNoMark}
+use Rattle.enc_stream.proofs.UnmarkedTextLemmas.{ReadsText}
 use Rattle.enc_stream.proofs.text.convert_text.Goals as goal
+
+reads_text : {e : Encoding} {life : LifeCycle} {v : CodecState} {src : List ℕ} {last : Bool}
+    → AreBytes src → rule_of e ≡ v.rule → has_ended life ≡ false → HasNoMark life src last
+    → HeldBytesMatchCodec life v → ReadsText e life v src last
+reads_text bytes same_rule going no_mark holds = record {
+  bytes = bytes;
+  same_rule = same_rule;
+  going = going;
+  no_mark = no_mark;
+  holds = holds;
+}
 
 pub returns-then-reaches_end-clause-call : goal.returns-then-reaches_end-clause-call
 returns-then-reaches_end-clause-call g c = λ e same.
     let made = rw (c.unread-held.ensures, c.held.ensures.count) at c.convert-done.ensures.call in
     let reads = rw (c.unread-held.ensures, c.held.ensures.count) at c.convert-done.ensures.reads in
-    rw c.shift_malformed.ensures (ends (record {
-      bytes = bytes_of_slice _ c.type_inv.src;
-      same_rule = same;
-      going = c.requires.open;
-      no_mark = c.requires.text;
-      holds = c.requires.holds;
-    }) reads c.convert-done.ensures.rule made
+    rw c.shift_malformed.ensures (ends (reads_text (bytes_of_slice _ c.type_inv.src) same
+    c.requires.open c.requires.text c.requires.holds) reads c.convert-done.ensures.rule made
     (sym c.reaches_end.ensures ∙ c.if-reaches_end.true))
 
 pub returns-then-untouched-clause-call : goal.returns-then-untouched-clause-call
@@ -24,13 +39,8 @@ returns-then-untouched-clause-call g c = λ e same.
     let reads = rw (c.unread-held.ensures, c.held.ensures.count) at c.convert-done.ensures.reads in
     let equal = both_equal _ _ _ c.if-untouched.true in
     let held = ap length (rw c.held.ensures.count at c.unread-held.ensures) in
-    rw c.shift_malformed.ensures (stays (record {
-      bytes = bytes_of_slice _ c.type_inv.src;
-      same_rule = same;
-      going = c.requires.open;
-      no_mark = c.requires.text;
-      holds = c.requires.holds;
-    }) reads c.convert-done.ensures.rule made
+    rw c.shift_malformed.ensures (stays (reads_text (bytes_of_slice _ c.type_inv.src) same
+    c.requires.open c.requires.text c.requires.holds) reads c.convert-done.ensures.rule made
     (sym c.reaches_end.ensures ∙ c.if-reaches_end.false) equal.0 (let u = equal.1 in
     omega (arith, c.held-2.ensures.count, c.held.ensures.count)))
 
@@ -40,13 +50,8 @@ returns-then-leaves_bb-clause-call g c = λ e same.
     let reads = rw (c.unread-held.ensures, c.held.ensures.count) at c.convert-done.ensures.reads in
     let equal = all_equal _ _ _ _ _ c.if-leaves_bb.true in
     let held = ap length (rw c.held.ensures.count at c.unread-held.ensures) in
-    rw c.shift_malformed.ensures (stays_bb (record {
-      bytes = bytes_of_slice _ c.type_inv.src;
-      same_rule = same;
-      going = c.requires.open;
-      no_mark = c.requires.text;
-      holds = c.requires.holds;
-    }) reads c.convert-done.ensures.rule made
+    rw c.shift_malformed.ensures (stays_bb (reads_text (bytes_of_slice _ c.type_inv.src) same
+    c.requires.open c.requires.text c.requires.holds) reads c.convert-done.ensures.rule made
     (sym c.reaches_end.ensures ∙ c.if-reaches_end.false) equal.0 (sym held ∙ equal.1)
     (let u = equal.2 in
     omega (arith, c.held-2.ensures.count)))
@@ -69,13 +74,8 @@ returns-clause-call g c = λ e same.
     let made = rw (c.unread-held.ensures, c.held.ensures.count) at c.convert-done.ensures.call in
     let reads = rw (c.unread-held.ensures, c.held.ensures.count) at c.convert-done.ensures.reads in
     let held = ap length (rw c.held.ensures.count at c.unread-held.ensures) in
-    rw c.shift_malformed.ensures (goes_on (record {
-      bytes = bytes_of_slice _ c.type_inv.src;
-      same_rule = same;
-      going = c.requires.open;
-      no_mark = c.requires.text;
-      holds = c.requires.holds;
-    }) reads c.convert-done.ensures.rule made
+    rw c.shift_malformed.ensures (goes_on (reads_text (bytes_of_slice _ c.type_inv.src) same
+    c.requires.open c.requires.text c.requires.holds) reads c.convert-done.ensures.rule made
     (sym c.reaches_end.ensures ∙ c.if-reaches_end.false)
     (λ z n. not_both_equal _ _ _ c.if-untouched.false z
     (omega (arith, c.held-2.ensures.count, c.held.ensures.count)))

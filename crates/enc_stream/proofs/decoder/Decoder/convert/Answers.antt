@@ -10,7 +10,7 @@ use Rattle.enc_stream.specs.Encodings.{rule_of}
 use Rattle.enc_stream.proofs.PendingBytesLemmas.{shows_held}
 use Rattle.enc_stream.proofs.OutputFullLemmas.{converts_into}
 use Rattle.enc_stream.proofs.LifeCycleLemmas.{awaiting_goes_on, own_stays}
-use Rattle.enc_stream.proofs.AfterMarkLemmas.{all_held, after_a_mark, after_text}
+use Rattle.enc_stream.proofs.AfterMarkLemmas.{all_held, after_prefix, goes_on_after_mark, after_text}
 use Rattle.enc_stream.proofs.decoder.Decoder.convert.Goals as goal
 use Rattle.enc_stream.proofs.decoder.Decoder.convert.Goals.{in-Mark, in-Text}
 
@@ -77,9 +77,8 @@ returns g c =
           let completes = rw w.in-Mark.is at c.sniff-sniffed.ensures.sniffed in
           let rest = rw w.self-inside-is at (c.convert_text-of_text.ensures.call
           w.self-in-Mark.inside.encoding (rw w.self-inside-is w.self-in-Mark.invariant.0.0)) in
-          rw (w.self-inside-is, ← c.self.view_is) (after_a_mark _ _ _ c.self.invariant.0.1
-          c.sniff-sniffed.ensures.within completes
-          (bytes_of_slice _ c.type_inv.src)
+          rw (w.self-inside-is, ← c.self.view_is) (after_prefix (bytes_of_slice _ c.type_inv.src)
+          (goes_on_after_mark _ _ _ c.self.invariant.0.1 c.sniff-sniffed.ensures.within completes)
           (rw (c.split_at.ensures.back, w.self-in-Mark.view_is, w.start.ensures) at rest))
       | in-Text w ↦
           let sniffed = rw w.in-Text.is at c.sniff-sniffed.ensures.sniffed in

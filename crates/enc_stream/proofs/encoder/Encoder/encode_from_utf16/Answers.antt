@@ -1,6 +1,7 @@
-use Rattle.std.proofs.Common.{◌∙◌, ap, refl}
+use Rattle.std.proofs.Common.{◌∙◌, ap}
 use Rattle.enc_encoder.specs.ErrorMode.{mode_of}
 use Rattle.enc_encoder.proofs.NeedInModeLemmas.{goes_on}
+use Rattle.enc_encoder.specs.Steps.{step_chars}
 use Rattle.enc_stream.proofs.EncoderLemmas.{html_mode_is, encodes_by, may_keep_none, never_reported}
 use Rattle.enc_stream.proofs.UnreadTextLemmas.{ends_within, lossy_unread}
 use Rattle.enc_stream.proofs.EncoderProgressLemmas.{beside_ten, beside_none, not_ended}
@@ -9,9 +10,7 @@ use Rattle.enc_stream.proofs.encoder.Encoder.encode_from_utf16.Goals as goal
 
 pub encode_in_mode-outcome-requires : goal.encode_in_mode-outcome-requires
 encode_in_mode-outcome-requires c =
-    let encoder = c.self.inside in
-    may_keep_none encoder.barred.now encoder.encoding c.self.invariant
-    (rw (← c.self.view_is) at c.html_mode-mode.ensures)
+    may_keep_none _ _ c.self.invariant (rw (← c.self.view_is) at c.html_mode-mode.ensures)
 
 pub stop-requires : goal.stop-requires
 stop-requires c =
@@ -22,20 +21,24 @@ pub returns-clause-call : goal.returns-clause-call
 returns-clause-call c =
     let made = c.encode_in_mode-outcome.ensures in
     rw (← c.self.view_is, c.stop.ensures) (encodes_by _ _ c.self.invariant (rw c.new-units.ensures at made.call)
-    (ap mode_of (rw (← c.self.view_is) at c.html_mode-mode.ensures) ∙ html_mode_is _))
+          (ap mode_of (rw (← c.self.view_is) at c.html_mode-mode.ensures) ∙ html_mode_is _))
 
 pub returns-clause-read : goal.returns-clause-read
 returns-clause-read c =
-    ends_within _ (λ i. (c.type_inv.src i).fits) refl (returns-clause-call c)
+    let encodes = (returns-clause-call c) in
+    ends_within c.args.src.now (step_chars encodes.call.done) encodes.rest _
+    (λ i. (c.type_inv.src i).fits) encodes.call.reads encodes.call.units
 
 pub returns-clause-progress : goal.returns-clause-progress
 returns-clause-progress c = λ on room.
     let encodes = (returns-clause-call c) in
-    rw (lossy_unread _ (λ i. (c.type_inv.src i).fits) refl encodes)
+    rw (lossy_unread c.args.src.now (step_chars encodes.call.done) encodes.rest _
+    (λ i. (c.type_inv.src i).fits) encodes.call.reads encodes.call.units)
     (goes_on encodes.call (lawful_of _ _) (beside_ten room _) (not_ended _ on))
 
 pub returns-clause-progress_if_none_kept : goal.returns-clause-progress_if_none_kept
 returns-clause-progress_if_none_kept c = λ on none_kept room.
     let encodes = (returns-clause-call c) in
-    rw (lossy_unread _ (λ i. (c.type_inv.src i).fits) refl encodes)
+    rw (lossy_unread c.args.src.now (step_chars encodes.call.done) encodes.rest _
+    (λ i. (c.type_inv.src i).fits) encodes.call.reads encodes.call.units)
     (goes_on encodes.call (lawful_of _ _) (beside_none none_kept room) (not_ended _ on))

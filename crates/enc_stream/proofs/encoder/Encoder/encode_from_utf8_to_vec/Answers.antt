@@ -11,12 +11,5 @@ returns-clause-call c =
     let written : made.result.2 ≤ length made.new.dst = search rules in
     let within : c.len-len.result + made.result.2 ≤ c.resize.new.self.len = search rules in
     let tail = tail_of _ made.new.dst _ _ _ _ front written within c.truncate.ensures.items in
-    let encodes = made.ensures.call in
-    record {
-      encoding = encodes.encoding;
-      barred = encodes.barred;
-      rest = encodes.rest;
-      call = in_tail (search rules) (tail ∙ ap (λ n. drop n c.truncate.new.self.items) len)
-          encodes.call;
-      ended = encodes.ended;
-    }
+    in_tail (search rules) (tail ∙ ap (λ n. drop n c.truncate.new.self.items) len)
+    made.ensures.call

@@ -2,7 +2,7 @@ use Rattle.std.proofs.Common.{◌≤◌, length, refl, arith, length-take, rules
 use Rattle.enc_encoder.proofs.NeedInModeLemmas.{goes_on}
 use Rattle.enc_stream.proofs.EncoderLemmas.{encodes_by}
 use Rattle.enc_stream.proofs.NeedLemmas.{by_need}
-use Rattle.enc_stream.proofs.UnreadTextLemmas.{ends_between, chars_unread}
+use Rattle.enc_stream.proofs.UnreadTextLemmas.{boundary, chars_after}
 use Rattle.enc_stream.proofs.ReferenceLemmas.{lawful_of}
 use Rattle.enc_stream.proofs.encoder.Encoder.encode_from_utf8_without_replacement.Goals as goal
 
@@ -10,7 +10,7 @@ pub returns-clause-call : goal.returns-clause-call
 returns-clause-call c =
     let made = c.encode_in_mode-outcome.ensures in
     rw (← c.self.view_is) (encodes_by _ _ c.self.invariant
-    (rw (c.new-chars.ensures, made.call.flag) at made.call) refl)
+          (rw (c.new-chars.ensures, made.call.flag) at made.call) refl)
 
 pub returns-clause-need : goal.returns-clause-need
 returns-clause-need c =
@@ -21,7 +21,8 @@ returns-clause-need c =
 
 pub returns-clause-boundary : goal.returns-clause-boundary
 returns-clause-boundary c =
-    ends_between c.utf8.src refl (returns-clause-call c)
+    let call = (returns-clause-call c).call in
+    boundary _ _ _ _ c.utf8.src call.reads call.units
 
 pub returns-clause-read : goal.returns-clause-read
 returns-clause-read c = (returns-clause-boundary c).0
@@ -29,4 +30,4 @@ returns-clause-read c = (returns-clause-boundary c).0
 pub returns-clause-progress : goal.returns-clause-progress
 returns-clause-progress c = λ on room.
     let encodes = (returns-clause-call c) in
-    rw (chars_unread c.utf8.src refl encodes) (goes_on encodes.call (lawful_of _ _) room on)
+    rw (chars_after _ _ _ _ c.utf8.src encodes.call.reads encodes.call.units) (goes_on encodes.call (lawful_of _ _) room on)

@@ -7,9 +7,5 @@ use Rattle.enc_stream.proofs.encoder.Encoder.max_buffer_length_from_utf8_without
 
 pub returns-clause-enough : goal.returns-clause-enough
 returns-clause-enough c =
-    let state = c.args.self.now in
-    enough_from_utf_8 (output_lengths state.encoding) state c.byte_lengths.ensures.enough
-    c.args.byte_length
-    c.from_utf8.result (c.from_utf8.ensures
-    ∙ ap (λ (l : ByteLengths). from_utf_8_length l c.args.byte_length)
-    c.byte_lengths.ensures.lengths)
+    enough_from_utf_8 _ c.args.self.now c.byte_lengths.ensures.enough c.args.byte_length _
+    (rw c.byte_lengths.ensures.lengths at c.from_utf8.ensures)
