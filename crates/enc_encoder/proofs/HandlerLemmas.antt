@@ -2,7 +2,7 @@
 use Rattle.std.proofs.Common.{◌≡◌, ℕ, Bool, true, false, Option, Some, None, List, [], ◌∷◌, refl, ap, ◌∙◌, sym}
 use Rattle.enc_units.specs.declared.bytes.Bytes.{Bytes}
 use Rattle.enc_encoder.specs.declared.character_set.CharacterSet.{CharacterSet}
-use Rattle.enc_encoder.specs.declared.character_set.CharacterSet.TheVariants.{Ascii, Roman, Jis0208}
+use Rattle.enc_encoder.specs.declared.character_set.CharacterSet.TheVariants.{Ascii}
 use Rattle.enc_encoder.specs.EncoderRule.{EncoderRule, RawEncoderState, is_escape_due}
 use Rattle.enc_encoder.specs.Text.{escape_sequence}
 use Rattle.enc_encoder.specs.Steps.{Step, steps_of, char_step, escape_step, first_written_char, steps_at_end}
@@ -98,8 +98,7 @@ ends e state x y s l state_is next_is b g = record {
 
 last_is : (s : CharacterSet) → is_escape_due s ≡ true → steps_at_end s ≡ escape_step Ascii ∷ []
 last_is Ascii h = cc
-last_is Roman h = refl
-last_is Jis0208 h = refl
+last_is _ h = refl
 
 pub ends_pending : {E : Type 0} (state : E → RawEncoderState) (x n : E)
     → IsEscapeAtEnd state x (Some n) → (b : Bytes) → byte_list b ≡ escape_sequence Ascii

@@ -15,7 +15,7 @@ use Rattle.enc_encoder.specs.Unmappable.{any_unmappable}
 use Rattle.enc_encoder.proofs.LeavesLemmas.{leaves_in_mode}
 use Rattle.enc_encoder.proofs.NeedLemmas.{meets_need, need_left, at_next}
 use Rattle.enc_encoder.proofs.StepCountLemmas.{first_bytes, first_few}
-use Rattle.enc_encoder.proofs.StepLemmas.{or_true}
+use Rattle.std.proofs.Math.Bool.{or-true}
 use Rattle.enc_encoder.proofs.TextLemmas.{unreferred}
 use Rattle.enc_encoder.proofs.UnmappableLemmas.{any_reported_is, any_unmappable-append}
 
@@ -40,7 +40,7 @@ reporting_meets_need {c = c} call is_fatal =
 one_reported : (ps : List Step) → ends_in_report ps ≡ true → any_reported ps ≡ true
 one_reported [] ends = absurd (false≢true ends)
 one_reported (p ∷ []) ends = rw ends refl
-one_reported (p ∷ q ∷ ps) ends = rw (one_reported (q ∷ ps) ends) (or_true (is_some p.report))
+one_reported (p ∷ q ∷ ps) ends = rw (one_reported (q ∷ ps) ends) (or-true (is_some p.report))
 
 -- A call that puts references: where no character is unmappable, and the room has the need and the
 -- bytes that are kept back, it reads all.

@@ -12,7 +12,8 @@ use Rattle.enc_encoder.specs.Steps.{Step, any_reported, bytes_with_references}
 use Rattle.enc_encoder.specs.Writes.{Leaves, Adds, Place, place}
 use Rattle.enc_encoder.specs.Call.{EncoderCall, EncoderCallInto}
 use Rattle.enc_encoder.specs.ErrorMode.{StepFits, StepsFit, ends_in_report}
-use Rattle.enc_encoder.proofs.StepLemmas.{any_reported-append, or_true, or_false}
+use Rattle.std.proofs.Math.Bool.{or-true, or-false}
+use Rattle.enc_encoder.proofs.StepLemmas.{any_reported-append}
 use Rattle.enc_encoder.proofs.LeavesLemmas.{no_step, leaves_of, leaves_on, adds_none, adds_on, same_length}
 use Rattle.enc_encoder.proofs.TextLemmas.{bytes_with_references-append, unreferred, done_is, reported_bytes}
 use Rattle.enc_encoder.proofs.TextLemmas.{is_reported}
@@ -126,7 +127,7 @@ module _ {last : Bool} {limit : ℕ} {from now next : Place} {replaced : Bool}
       join (rw no_reference (adds_none next.slice next.written
       (omega (arith, encodes.adds.fits, same_length encodes.adds))))
       (all_fit limit now.written encodes.call.done fits)
-      (rw none_reported (sym (or_false replaced)))
+      (rw none_reported (sym (or-false replaced)))
 
 -- the last step says whether a report is the last
 ends_in_report-one : (ps : List Step) (q : Step) → ends_in_report (ps ++ q ∷ []) ≡ is_some q.report
@@ -175,7 +176,7 @@ module _ {last : Bool} {limit : ℕ} {from now next : Place} {replaced : Bool}
       (omega (arith, in_limit turns encodes, reference_begins, ap length stops.none_written)) in
       join turns encodes adds
       (rw stops.then_report (fits-append limit now.written before (report ∷ []) fits_before_report
-      (report_fits, tt))) (rw (is_reported stops) (sym (or_true replaced)))
+      (report_fits, tt))) (rw (is_reported stops) (sym (or-true replaced)))
 
   pub ends_here : {slice : List ℕ} {written : ℕ}
       (adds : Adds next.slice slice next.written written (reference k))
