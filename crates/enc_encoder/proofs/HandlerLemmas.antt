@@ -38,23 +38,14 @@ module _ (e : EncoderRule) (s : CharacterSet) (c d : ℕ)
   written : e.has s d ≡ true → (last : Bool) (z : List ℕ)
       → steps_of e last s (c ∷ z) ≡ char_step e s c (e.bytes c) ∷ steps_of e last s z
   unfolding steps_of
-  written h last z =
-      let has_first : e.has s (first_written_char c (e.bytes c)) ≡ true =
-      ap (e.has s) (sym is_first) ∙ h in
-      rw has_first refl
+  written h last z = rw (sym is_first, h) refl
 
   -- it lacks it, and then an escape comes first
   escaped : e.has (e.designated d) d ≡ true → e.has s d ≡ false → (last : Bool) (z : List ℕ)
       → steps_of e last s (c ∷ z) ≡ escape_step (e.designated d)
       ∷ steps_of e last (e.designated d) (c ∷ z)
   unfolding steps_of
-  escaped j h last z =
-      let lacks_first : e.has s (first_written_char c (e.bytes c)) ≡ false =
-      ap (e.has s) (sym is_first) ∙ h in
-      let designated_has : e.has (e.designated (first_written_char c (e.bytes c)))
-      (first_written_char c (e.bytes c)) ≡ true =
-      ap (λ x. e.has (e.designated x) x) (sym is_first) ∙ j in
-      rw (is_first, lacks_first, designated_has) refl
+  escaped j h last z = rw (sym is_first, h, j) refl
 
   module _ {E : Type 0} (state : E → RawEncoderState) (x : E)
       (state_is : state x ≡ record { rule = e; set = s }) where

@@ -25,12 +25,9 @@ few_steps e last (c ∷ t) s =
     let first_char = first_written_char c (e.bytes c) in
     let others = char_step e (set_for e s first_char) c (e.bytes c)
     ∷ steps_of e last (set_for e s first_char) t in
-    omega (
-      arith,
-      one_before (e.has s first_char) (e.designated first_char),
-      length-append (escape_steps_before e s first_char) others,
-      few_steps e last t (set_for e s first_char),
-    )
+    let escape = one_before (e.has s first_char) (e.designated first_char) in
+    let all = length-append (escape_steps_before e s first_char) others in
+    omega (arith, escape, all, few_steps e last t (set_for e s first_char))
 
 -- the bytes of the first step
 abbrev pub first_bytes : List Step → ℕ

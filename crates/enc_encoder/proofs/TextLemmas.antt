@@ -167,12 +167,8 @@ reported_bytes at =
 
 pub is_reported : {done : List Step} {c : ℕ} → AtUnmappable done c → any_reported done ≡ true
 is_reported at =
-    rw (
-      at.then_report,
-      any_reported-append at.before (at.report ∷ []),
-      at.none_reported,
-      at.reported,
-    ) refl
+    let parts = any_reported-append at.before (at.report ∷ []) in
+    rw (at.then_report, parts, at.none_reported, at.reported) refl
 
 -- the bytes of the steps that a call took, with the reference that its caller writes
 bytes_by_result : (new : RawEncoderState) (rest : List ℕ) (last : Bool) (room : ℕ)
@@ -183,16 +179,11 @@ bytes_by_result new rest last room done InputEmpty stops =
 bytes_by_result new rest last room done OutputFull stops =
     unreferred done stops.none_reported ∙ sym (append-nil (step_bytes done))
 bytes_by_result new rest last room done (Unmappable c) stops =
-    let before = step_bytes stops.before in
+    let plain = unreferred stops.before stops.none_reported in
     ap bytes_with_references stops.then_report
-    ∙ rw (
-      bytes_with_references-append stops.before (stops.report ∷ []),
-      unreferred stops.before stops.none_reported,
-      stops.none_written,
-      stops.reported,
-      append-nil (reference c),
-    ) refl
-    ∙ ap (λ t. t ++ reference c) (sym (reported_bytes stops))
+    ∙ bytes_with_references-append stops.before (stops.report ∷ [])
+    ∙ rw (plain, stops.none_written, stops.reported, append-nil (reference c), reported_bytes stops)
+    refl
 
 pub done_is : {old new : RawEncoderState} {src rest : List ℕ} {last : Bool} {room : ℕ}
     {result : EncoderResult} {wrote : List ℕ}

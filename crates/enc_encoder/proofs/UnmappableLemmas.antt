@@ -58,11 +58,10 @@ steps_report e last s (c ∷ t) =
     let others = char_step e (set_for e s first_char) c (e.bytes c)
     ∷ steps_of e last (set_for e s first_char) t in
     reports_in-append (escape_steps_before e s first_char) others
-    ∙ rw (
-      none_escaping (e.has s first_char) (e.designated first_char),
-      one_reported e (set_for e s first_char) c (e.bytes c),
-      steps_report e last (set_for e s first_char) t,
-    ) refl
+    ∙ ap (λ x. x ++ reports_in others)
+    (none_escaping (e.has s first_char) (e.designated first_char))
+    ∙ rw (one_reported e (set_for e s first_char) c (e.bytes c)) (ap (λ x. report_for e c (e.bytes c)
+    ++ x) (steps_report e last (set_for e s first_char) t))
 
 -- of steps that a call took
 pub reports_are : {last : Bool} {old new : RawEncoderState} {src rest : List ℕ} {done : List Step}
