@@ -191,12 +191,12 @@ module _ (lengths : ByteLengths) (e : EncoderRule) (Comes : CharacterSet → Typ
       → (s : CharacterSet) → Comes s
       → AreEnoughForEncoder lengths (record { rule = e; set = s })
   enough each_of_8 each_of_16 s it_comes = record {
-    from_utf_8 = λ src last q is.
-        let need = bounded encode_utf8 (max_bytes_per_utf_8_unit lengths) each_of_8 last src s it_comes in
-        omega (arith, utf_8_length_is lengths (length (units_of_text encode_utf8 src)) q is, need);
-    from_utf_16 = λ src last q is.
-        let need = bounded encode_utf16 (max_bytes_per_utf_16_unit lengths) each_of_16 last src s it_comes in
-        omega (arith, utf_16_length_is lengths (length (units_of_text encode_utf16 src)) q is, need);
+    from_utf_8 = λ t last q is.
+        let need = bounded encode_utf8 _ each_of_8 last t s it_comes in
+        omega (arith, utf_8_length_is lengths (length (units_of_text encode_utf8 t)) q is, need);
+    from_utf_16 = λ t last q is.
+        let need = bounded encode_utf16 _ each_of_16 last t s it_comes in
+        omega (arith, utf_16_length_is lengths (length (units_of_text encode_utf16 t)) q is, need);
   }
 
 -- without escape sequences

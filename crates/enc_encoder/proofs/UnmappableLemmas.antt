@@ -55,13 +55,13 @@ unfolding steps_of
 steps_report e last s [] = none_at_end last s
 steps_report e last s (c ∷ t) =
     let first_char = first_written_char c (e.bytes c) in
-    let others = char_step e (set_for e s first_char) c (e.bytes c)
-    ∷ steps_of e last (set_for e s first_char) t in
+    let set_now = set_for e s first_char in
+    let others = char_step e set_now c (e.bytes c) ∷ steps_of e last set_now t in
     reports_in-append (escape_steps_before e s first_char) others
     ∙ ap (λ x. x ++ reports_in others)
     (none_escaping (e.has s first_char) (e.designated first_char))
-    ∙ rw (one_reported e (set_for e s first_char) c (e.bytes c)) (ap (λ x. report_for e c (e.bytes c)
-    ++ x) (steps_report e last (set_for e s first_char) t))
+    ∙ rw (one_reported e set_now c (e.bytes c))
+    (ap (λ x. report_for e c (e.bytes c) ++ x) (steps_report e last set_now t))
 
 -- of steps that a call took
 pub reports_are : {last : Bool} {old new : RawEncoderState} {src rest : List ℕ} {done : List Step}

@@ -55,9 +55,9 @@ module _ (kind : ℕ → ℕ → Bool) (shape : Shape) (ts gs : List ℕ)
             let column : ℕ = cell % (shape.width + 1) in
             let in_row : column < shape.width + 1 =
             mod-lt cell {m = shape.width + 1} (omega arith) in
+            let split = div-add-mod' cell (shape.width + 1) in
             let entry = row_entry kind shape.planes shape.width ts 256 gs ok row column place
-            (omega arith) (omega (arith, div-add-mod' cell (shape.width + 1),
-            mul-add row shape.width 1)) some in
+            (omega arith) (omega (arith, split, mul-add row shape.width 1)) some in
             let char = grid_char-of_cell shape cell place (omega arith)
             ∙ cond-true _ _ _ (lt-ltb column shape.width entry.0)
             ∙ sym (table (row * shape.width + column)) in

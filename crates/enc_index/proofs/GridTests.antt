@@ -59,10 +59,9 @@ module _ (fits : ℕ → ℕ → Bool) (width : ℕ) where
       rows_ok-at gs width ts i p r c (and_parts _ _ ok).1 (omega arith)
       (omega (arith, suc-mul r width)) l some
   rows_ok-at (g ∷ gs) (suc left) ts zero p r c ok is_place is_pointer l some =
-      let first_pointer : 0 ≡ p = omega arith in
+      let first_pointer : p ≡ 0 = omega arith in
       let first_row : r ≡ 0 = omega arith in
-      (omega (arith, ap (λ k. k * width) first_row),
-      subst (λ k. fits (get_or ts k 0) g ≡ true) first_pointer (and_parts _ _ ok).0)
+      (omega (arith, ap (λ k. k * width) first_row), rw first_pointer (and_parts _ _ ok).0)
   rows_ok-at (g ∷ gs) (suc left) ts (suc i) zero r c ok is_place is_pointer l some =
       let all_last : r ≡ suc i = omega arith in
       absurd (omega (arith, ap (λ k. k * width) all_last, suc-mul i width))

@@ -139,7 +139,8 @@ module _ (planes : Planes) where
       → (p : ℕ) → entry_character planes (get_or table p 0) ≡ index_at planes runs p
   agrees-true runs table ok p =
       let parts = and_parts _ _ ok in
-      entry_character-index_at table 0 runs (ascending-going 0 runs parts.0) parts.1 p p (omega arith)
+      entry_character-index_at table 0 runs (ascending-going 0 runs parts.0) parts.1 p p
+      (omega arith)
 
 -- past the end of a table no pointer has a character
 pub entry_character-past : (planes : Planes) (ts : List ℕ) (character : Option ℕ) (p : ℕ)

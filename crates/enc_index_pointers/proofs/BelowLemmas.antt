@@ -12,15 +12,17 @@ module _ (test : ℕ → Bool) (p : ℕ) where
   unfolding first_below
   first_below-is zero passes is_first = sym (cond-false _ _ _ (le-ltb p 0 (omega arith)))
   first_below-is (suc n) passes is_first =
-      let below_n = first_below-is n (λ l. passes (omega arith)) (λ q l. is_first q (omega arith)) in
+      let earlier = first_below-is n (λ l. passes (omega arith))
+      (λ q l. is_first q (omega arith)) in
       elim (cases_order p n) [
         | inl here ↦
-            rw (below_n, le-ltb p n (omega arith), lt-ltb p (suc n) (omega arith), ← here)
+            rw (earlier, le-ltb p n (omega arith), lt-ltb p (suc n) (omega arith), ← here)
             (rw (passes (omega arith)) refl)
-        | inr (inl before) ↦ rw (below_n, lt-ltb p n before, lt-ltb p (suc n) (omega arith)) refl
+        | inr (inl before) ↦ rw (earlier, lt-ltb p n before, lt-ltb p (suc n) (omega arith)) refl
         | inr (inr after) ↦
-            let fails = false_from_ne_true (test n) (λ t. omega (arith, is_first n (omega arith) t)) in
-            rw (below_n, le-ltb p n (omega arith), le-ltb p (suc n) (omega arith), fails) refl
+            let fails = false_from_ne_true (test n)
+            (λ t. omega (arith, is_first n (omega arith) t)) in
+            rw (earlier, le-ltb p n (omega arith), le-ltb p (suc n) (omega arith), fails) refl
       ]
 
   pub last_below-is : (n : ℕ) → (p < n → test p ≡ true)

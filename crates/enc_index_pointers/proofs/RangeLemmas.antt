@@ -142,9 +142,9 @@ module _ (low : ℕ) (run : Run) (rest : List Run) (c q : ℕ)
       let begins : run.2 ≤ c = omega arith in
       let ends : c ≤ run.2 + (run.1 - run.0) = omega arith in
       let same : run.0 + (c - run.2) ≡ q = omega arith in
+      let inside = and_from _ _ (le-leb run.2 c begins) (le-leb c _ ends) in
       let parts = ascending_parts low (turned run) rest up in (
-        ap (pointer_in_run c) (cond-true _ _ _ (and_from _ _ (le-leb run.2 c begins) (le-leb c _ ends)))
-            ∙ ap Some same,
+        ap (pointer_in_run c) (cond-true _ _ _ inside) ∙ ap Some same,
         omega (arith, parts.0),
       )
 

@@ -208,7 +208,7 @@ char_read s c has_char = elim (true_or_false (nat_lt c 0x80)) [
 read_in : (s : CharacterSet) (c : ℕ) → has s c ≡ true → is_some (iso_2022_jp_bytes c) ≡ true
     → IsReadIn s (list_or_empty (iso_2022_jp_bytes c)) (lookup_char c)
 read_in s c has_char =
-    of_bytes {P = λ b. IsReadIn s b (lookup_char c)} (iso_2022_jp_bytes c) (char_read s c has_char)
+    of_bytes (λ b. IsReadIn s b (lookup_char c)) (iso_2022_jp_bytes c) (char_read s c has_char)
 
 char_then : (s : CharacterSet) (b y t : List ℕ) (c : ℕ) → IsReadIn s b c
     → IsReadAs jp_rule (number s) y t → IsReadAs jp_rule (number s) (b ++ y) (c ∷ t)

@@ -50,10 +50,10 @@ pub record IsReadBack (rule : Rule) (bytes : ℕ → Option (List ℕ)) (back : 
   pub each : (c : ℕ) → IsScalar c → IfSome (bytes c) (λ b. IsWholeChar rule 0 b (back c))
 
 -- what holds of the bytes of a character, if it has any, holds of those that it has
-pub of_bytes : {P : List ℕ → Type 0} (b : Option (List ℕ)) → IfSome b P → is_some b ≡ true
+pub of_bytes : (P : List ℕ → Type 0) (b : Option (List ℕ)) → IfSome b P → is_some b ≡ true
     → P (list_or_empty b)
-of_bytes None holds some = cc
-of_bytes (Some b) holds some = holds
+of_bytes P None holds some = cc
+of_bytes P (Some b) holds some = holds
 
 module _ (rule : Rule) (bytes : ℕ → Option (List ℕ)) (back : ℕ → ℕ) (h : IsReadBack rule bytes back)
   where
@@ -64,7 +64,7 @@ module _ (rule : Rule) (bytes : ℕ → Option (List ℕ)) (back : ℕ → ℕ) 
         let both = first_mapped (stateless_rule bytes) c t m in
         read_more rule 0 (list_or_empty (bytes c)) (back c)
         (bytes_after_text (stateless_rule bytes) Ascii (u ++ c ∷ []) t) (map back t)
-        (of_bytes {P = λ b. IsWholeChar rule 0 b (back c)} (bytes c)
+        (of_bytes (λ b. IsWholeChar rule 0 b (back c)) (bytes c)
         (h.each c (first_so _ _ scalars)) both.0)
         (suffix_is_read (u ++ c ∷ []) t (second_so _ _ scalars) both.1)
 
