@@ -14,44 +14,29 @@ use Rattle.enc_encoder.proofs.SizeLemmas.{size}
 use Rattle.enc_encode.proofs.Iso2022JpLemmas.{most_iso_2022_jp, most_ascii_iso_2022_jp}
 use Rattle.enc_encoder.specs.Barring.{barring_rule}
 use Rattle.enc_encoder.proofs.BarringLemmas.{fewer}
-use Rattle.enc_encoder.proofs.EnoughLemmas.{within_utf_8, within_utf_16, bounded, three_before}
-use Rattle.enc_encoder.proofs.EnoughLemmas.{utf_8_length_is, utf_16_length_is, three_at_end}
+use Rattle.enc_encoder.proofs.EnoughLemmas.{within_utf_8, within_utf_16, cost, enough, three_before}
+use Rattle.enc_encoder.proofs.EnoughLemmas.{three_at_end}
 
 -- of a character, where these are barred
 module _ (b : List ℕ) where
   abbrev rule : EncoderRule
   rule = barring_rule b iso_2022_jp_encoder_rule
 
-  abbrev cost : CharacterSet → ℕ → ℕ
-  cost s c = length (escape_before rule s (first_written_char c (rule.bytes c)))
-      + size (rule.bytes c)
-
   before_char : (s : CharacterSet) (c : ℕ)
       → length (escape_before rule s (first_written_char c (rule.bytes c))) ≤ 3
   before_char s c = three_before (rule.has s (first_written_char c (rule.bytes c)))
       (rule.designated (first_written_char c (rule.bytes c)))
 
-  five : (s : CharacterSet) (c : ℕ) → cost s c ≤ 5
+  five : (s : CharacterSet) (c : ℕ) → cost rule s c ≤ 5
   five s c = omega (arith, before_char s c, fewer b iso_2022_jp_bytes c, most_iso_2022_jp c)
 
-  four_in_ascii : (s : CharacterSet) (c : ℕ) → c < 0x80 → cost s c ≤ 4
+  four_in_ascii : (s : CharacterSet) (c : ℕ) → c < 0x80 → cost rule s c ≤ 4
   four_in_ascii s c l = omega
       (arith, before_char s c, fewer b iso_2022_jp_bytes c, most_ascii_iso_2022_jp c l)
 
   pub iso_2022_jp_enough : (set : CharacterSet)
       → AreEnoughForEncoder Iso2022Jp (iso_2022_jp_encoder_state b set)
-  iso_2022_jp_enough set = record {
-    from_utf_8 = λ src last q e. omega (
-      arith,
-      utf_8_length_is Iso2022Jp (length (units_of_text encode_utf8 src)) q e,
-      bounded rule encode_utf8 4 3 (λ s. Unit {0}) (λ s c _. tt) (λ s _. three_at_end s)
-          (λ s c _. within_utf_8 (cost s c) 4 c (four_in_ascii s c) (omega (arith, five s c))) last
-          src set tt,
-    );
-    from_utf_16 = λ src last q e. omega (
-      arith,
-      utf_16_length_is Iso2022Jp (length (units_of_text encode_utf16 src)) q e,
-      bounded rule encode_utf16 5 3 (λ s. Unit {0}) (λ s c _. tt) (λ s _. three_at_end s)
-          (λ s c _. within_utf_16 (cost s c) 5 c (five s c)) last src set tt,
-    );
-  }
+  iso_2022_jp_enough set =
+      enough Iso2022Jp rule (λ s. Unit {0}) (λ s c _. tt) (λ s _. three_at_end s)
+      (λ s c _. within_utf_8 (cost rule s c) 4 c (four_in_ascii s c) (omega (arith, five s c)))
+      (λ s c _. within_utf_16 (cost rule s c) 5 c (five s c)) set tt

@@ -27,61 +27,33 @@ for_class s k = if has_class s k then s else set_of_class k
 none_is : (s : CharacterSet) → is_roman s ≡ stays_in_roman s None
 unfolding is_roman
 none_is Ascii = refl
-none_is Roman = refl
-none_is Jis0208 = refl
+none_is _ = refl
 
 set_by_is : (s : CharacterSet) (k : CharClass) (o : Option CharClass)
     → is_roman (set_after_class k (stays_in_roman s (last_class_after k o)))
     ≡ stays_in_roman s (last_class_after k o)
 unfolding is_roman
+set_by_is Ascii class.Latin o = refl
 set_by_is s class.Neutral o =
     elim (stays_in_roman s o) as
     (λ b. is_roman (if b then Roman else Ascii) ≡ b) [ true ↦ refl | false ↦ refl ]
-set_by_is s class.Latin o =
-    elim s as (λ s. is_roman (if stays_in_roman s (Some class.Latin) then Roman else Ascii)
-    ≡ stays_in_roman s (Some class.Latin)) [ Ascii ↦ refl | Roman ↦ refl | Jis0208 ↦ refl ]
-set_by_is s class.Roman o =
-    elim s as (λ s. is_roman (if stays_in_roman s (Some class.Roman) then Roman else Ascii)
-    ≡ stays_in_roman s (Some class.Roman)) [ Ascii ↦ refl | Roman ↦ refl | Jis0208 ↦ refl ]
-set_by_is s class.Kanji o =
-    elim s as (λ s. is_roman Jis0208 ≡ stays_in_roman s (Some class.Kanji))
-    [ Ascii ↦ refl | Roman ↦ refl | Jis0208 ↦ refl ]
+set_by_is _ _ o = refl
 
 -- Roman is in force where it was left on
 roman_is : (s : CharacterSet) (u : List ℕ)
     → is_roman (set_after_reversed s u) ≡ stays_in_roman s (last_non_neutral_class u)
 roman_is s [] = none_is s
-roman_is s (c ∷ u) =
-    set_by_is s (class_of c) (last_non_neutral_class u)
+roman_is s (c ∷ u) = set_by_is s (class_of c) (last_non_neutral_class u)
 
 carried : (s t : CharacterSet) (k : CharClass) (o : Option CharClass)
     → is_roman t ≡ stays_in_roman s o
     → set_after_class k (stays_in_roman s (last_class_after k o)) ≡ for_class t k
 unfolding is_roman for_class
+carried Ascii Ascii class.Latin o e = refl
 carried s Ascii class.Neutral o e = rw (sym e) refl
 carried s Roman class.Neutral o e = rw (sym e) refl
 carried s Jis0208 class.Neutral o e = rw (sym e) refl
-carried Ascii Ascii class.Latin o e = refl
-carried Roman Ascii class.Latin o e = refl
-carried Jis0208 Ascii class.Latin o e = refl
-carried Ascii Roman class.Latin o e = refl
-carried Roman Roman class.Latin o e = refl
-carried Jis0208 Roman class.Latin o e = refl
-carried Ascii Jis0208 class.Latin o e = refl
-carried Roman Jis0208 class.Latin o e = refl
-carried Jis0208 Jis0208 class.Latin o e = refl
-carried Ascii Ascii class.Roman o e = refl
-carried Roman Ascii class.Roman o e = refl
-carried Jis0208 Ascii class.Roman o e = refl
-carried Ascii Roman class.Roman o e = refl
-carried Roman Roman class.Roman o e = refl
-carried Jis0208 Roman class.Roman o e = refl
-carried Ascii Jis0208 class.Roman o e = refl
-carried Roman Jis0208 class.Roman o e = refl
-carried Jis0208 Jis0208 class.Roman o e = refl
-carried s Ascii class.Kanji o e = refl
-carried s Roman class.Kanji o e = refl
-carried s Jis0208 class.Kanji o e = refl
+carried _ _ _ o e = refl
 
 -- one character more
 read_back-cons : (s : CharacterSet) (c : ℕ) (u : List ℕ)
@@ -98,9 +70,7 @@ set_after_more s t c = ap (set_after_reversed s) (reverse-append t (c ∷ []))
 
 own : (k : CharClass) → has_class (set_of_class k) k ≡ true
 own class.Neutral = refl
-own class.Latin = refl
-own class.Roman = refl
-own class.Kanji = refl
+own _ = refl
 
 neutral : (c : ℕ) → IsReferenceCharacter c → class_of c ≡ class.Neutral
 neutral c r =

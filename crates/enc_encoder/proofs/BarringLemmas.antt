@@ -1,26 +1,22 @@
 -- Encodings from which characters are barred keep their laws.
-use Rattle.std.proofs.Common.{◌≡◌, ℕ, ◌<◌, ◌≤◌, Bool, true, false, ◌==◌, ◌||◌, ◌&&◌, nat_le, Option, None, List, []}
-use Rattle.std.proofs.Common.{◌∷◌, length, refl, ap, ◌∙◌, sym, subst, arith, eqb-true, if◌then◌else◌}
+use Rattle.std.proofs.Common.{◌≡◌, ℕ, ◌<◌, ◌≤◌, Bool, true, false, ◌==◌, ◌&&◌, nat_le, Option, None, List, []}
+use Rattle.std.proofs.Common.{◌∷◌, length, refl, sym, subst, arith, eqb-true, if◌then◌else◌, inl, inr}
 use Rattle.std.specs.Cmp.{first_so, second_so}
+use Rattle.std.proofs.lemmas.Bool.{and_right, or_cases}
 use Rattle.std.proofs.lemmas.Bool.Decides.{nat_tests}
 use Rattle.enc_encoder.specs.declared.byte_lengths.ByteLengths.{ByteLengths}
 use Rattle.enc_encoder.specs.declared.character_set.CharacterSet.TheVariants.{Ascii}
 use Rattle.enc_encoder.specs.EncoderRule.{EncoderRule, RawEncoderState, IsLawfulEncoderRule, AreAtMostFour}
-use Rattle.enc_encoder.specs.Stateless.{WritesAscii, WritesAtMostFour, KeepsLengths, IsLawfulRepertoire}
+use Rattle.enc_encoder.specs.Stateless.{WritesAscii, KeepsLengths, IsLawfulRepertoire}
 use Rattle.enc_encoder.specs.Stateless.{stateless_rule, stateless_state}
 use Rattle.enc_encoder.specs.Barring.{contains_char, is_barred, are_beyond_ascii, bytes_unless_barred, barring_rule}
 use Rattle.enc_encoder.proofs.SizeLemmas.{size}
 use Rattle.enc_encoder.proofs.StatelessLemmas.{of_references_is_ascii}
 
-and_false : (a : Bool) → (a && false) ≡ false
-and_false true = refl
-and_false false = refl
-
 -- ASCII is not barred
 not_barred : (b : List ℕ) (c : ℕ) → c < 0x80 → is_barred b c ≡ false
 not_barred b c l =
-    let low : nat_le 0x80 c ≡ false = grind (arith, nat_tests) in
-    ap (λ t. contains_char b c && t) low ∙ and_false (contains_char b c)
+    let low : nat_le 0x80 c ≡ false = grind (arith, nat_tests) in and_right _ _ low
 
 few_if : (t : Bool) (x : Option (List ℕ)) → AreAtMostFour x → AreAtMostFour (if t then None else x)
 few_if true x h = tt
@@ -39,10 +35,6 @@ pub except_writes_ascii : (b : List ℕ) (bytes : ℕ → Option (List ℕ)) →
     → WritesAscii (bytes_unless_barred b bytes)
 except_writes_ascii b bytes w c is_ascii = rw (not_barred b c is_ascii) (w c is_ascii)
 
-pub except_writes_few : (b : List ℕ) (bytes : ℕ → Option (List ℕ)) → WritesAtMostFour bytes
-    → WritesAtMostFour (bytes_unless_barred b bytes)
-except_writes_few b bytes w = record { few = λ c. few_if (is_barred b c) (bytes c) (w.few c) }
-
 pub except_keeps : (b : List ℕ) (lengths : ByteLengths) (bytes : ℕ → Option (List ℕ))
     → KeepsLengths lengths bytes → KeepsLengths lengths (bytes_unless_barred b bytes)
 except_keeps b lengths bytes keeps_lengths = record {
@@ -54,7 +46,7 @@ pub except_is_lawful : (b : List ℕ) (lengths : ByteLengths) (bytes : ℕ → O
     → IsLawfulRepertoire lengths bytes → IsLawfulRepertoire lengths (bytes_unless_barred b bytes)
 except_is_lawful b lengths bytes laws = record {
   ascii = except_writes_ascii b bytes laws.ascii;
-  few = except_writes_few b bytes laws.few;
+  few = record { few = λ c. few_if (is_barred b c) (bytes c) (laws.few.few c) };
   lengths = except_keeps b lengths bytes laws.lengths;
 }
 
@@ -74,20 +66,16 @@ barring_is_lawful b e lawful = record {
 
 -- a list that callers may name
 
-by_first : (x c : ℕ) (first later all : Bool) → (x == c) ≡ first → (nat_le 0x80 x && all) ≡ true
-    → (first || later) ≡ true → (all ≡ true → later ≡ true → nat_le 0x80 c ≡ true)
-    → nat_le 0x80 c ≡ true
-by_first x c true later all e h s by_later =
-    let beyond_ascii = first_so (nat_le 0x80 x) all h in
-    grind (arith, nat_tests, e, beyond_ascii)
-by_first x c false later all e h s by_later = by_later (second_so (nat_le 0x80 x) all h) s
-
 -- a character of a list that has no ASCII is beyond ASCII
 beyond : (b : List ℕ) (c : ℕ) → are_beyond_ascii b ≡ true → contains_char b c ≡ true
     → nat_le 0x80 c ≡ true
-beyond [] c h s = cc
-beyond (x ∷ b) c h s =
-    by_first x c (x == c) (contains_char b c) (are_beyond_ascii b) refl h s (beyond b c)
+beyond [] c all_beyond among = cc
+beyond (x ∷ b) c all_beyond among = elim (or_cases (x == c) (contains_char b c) among) [
+  | inl here ↦
+      let first_beyond = first_so (nat_le 0x80 x) (are_beyond_ascii b) all_beyond in
+      grind (arith, nat_tests, here, first_beyond)
+  | inr later ↦ beyond b c (second_so (nat_le 0x80 x) (are_beyond_ascii b) all_beyond) later
+]
 
 and_if : (s t : Bool) → (s ≡ true → t ≡ true) → (s && t) ≡ s
 and_if true t h = h refl

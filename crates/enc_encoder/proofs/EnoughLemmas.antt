@@ -13,7 +13,7 @@ use Rattle.enc_units.specs.Checked.{checked_usize, checked_add, checked_mul}
 use Rattle.enc_encoder.specs.declared.byte_lengths.ByteLengths.{ByteLengths}
 use Rattle.enc_encoder.specs.declared.byte_lengths.ByteLengths.TheVariants.{Utf8, OneByte, TwoBytes, Gb18030, Iso2022Jp}
 use Rattle.enc_encoder.specs.declared.character_set.CharacterSet.{CharacterSet}
-use Rattle.enc_encoder.specs.declared.character_set.CharacterSet.TheVariants.{Ascii, Roman, Jis0208}
+use Rattle.enc_encoder.specs.declared.character_set.CharacterSet.TheVariants.{Ascii}
 use Rattle.enc_encoder.specs.EncoderRule.{EncoderRule, set_for}
 use Rattle.enc_encoder.specs.Text.{escape_sequence, escape_before}
 use Rattle.enc_encoder.specs.Steps.{Step, char_step, escape_step, first_written_char, steps_at_end, steps_of}
@@ -65,18 +65,12 @@ from_utf_16_to_8 c = (units_by c (nat_lt c 0x1_0000) refl).1
 
 pub within_utf_8 : (a k c : ℕ) → (c < 0x80 → a ≤ k) → a ≤ 2 * k → a ≤ k * length (encode_utf8 c)
 within_utf_8 a k c low all = elim (cases_lt c 0x80) [
-  | inl l ↦ omega (
-    arith,
-    low l,
-    mul-le k 1 k (length (encode_utf8 c)) (omega arith)
-        (some_of_utf_8 c),
-  )
-  | inr h ↦ omega (
-    arith,
-    all,
-    mul-le k 2 k (length (encode_utf8 c)) (omega arith)
-        (beyond_ascii c h),
-  )
+  | inl l ↦
+      let one = mul-le k 1 k (length (encode_utf8 c)) (omega arith) (some_of_utf_8 c) in
+      omega (arith, low l, one)
+  | inr h ↦
+      let two = mul-le k 2 k (length (encode_utf8 c)) (omega arith) (beyond_ascii c h) in
+      omega (arith, all, two)
 ]
 
 pub within_utf_16 : (a k c : ℕ) → a ≤ k → a ≤ k * length (encode_utf16 c)
@@ -117,33 +111,6 @@ count_char : (e : EncoderRule) (s : CharacterSet) (c : ℕ) (b : Option (List �
 count_char e s c None ps = omega arith
 count_char e s c (Some b) ps = omega (arith, length-append b (step_bytes (steps_before_report ps)))
 
--- Where the bytes of each character, with the escape sequence before it, are at most k for each
--- code unit, and the escape sequence at the end has at most m bytes, so it is of the whole: in sets
--- that are designated one after another.
-module _ (e : EncoderRule) (units_of : ℕ → List ℕ) (k m : ℕ) (Comes : CharacterSet → Type 0)
-    (comes : (s : CharacterSet) (c : ℕ) → Comes s → Comes (set_for e s c))
-    (ends : (s : CharacterSet) → Comes s → count (steps_at_end s) ≤ m)
-    (each : (s : CharacterSet) (c : ℕ) → Comes s
-    → length (escape_before e s (first_written_char c (e.bytes c))) + size (e.bytes c)
-    ≤ k * length (units_of c)) where
-  pub bounded : (last : Bool) (t : List ℕ) (s : CharacterSet) → Comes s
-      → count (steps_of e last s t) ≤ k * length (units_of_text units_of t) + m
-  unfolding steps_of
-  bounded true [] s it_comes = omega (arith, ends s it_comes)
-  bounded false [] s it_comes = omega arith
-  bounded last (c ∷ t) s it_comes =
-      let first_char = first_written_char c (e.bytes c) in
-      let rest = steps_of e last (set_for e s first_char) t in
-      let front =
-      count_escaping (e.has s first_char) (e.designated first_char)
-      (char_step e (set_for e s first_char) c (e.bytes c) ∷ rest) in
-      let char = count_char e (set_for e s first_char) c (e.bytes c) rest in
-      let others = bounded last t (set_for e s first_char) (comes s first_char it_comes) in
-      let one = each s c it_comes in
-      let units = length-append (units_of c) (units_of_text units_of t) in
-      let parts = mul-add k (length (units_of c)) (length (units_of_text units_of t)) in
-      omega (arith, front, char, others, one, ap (λ n. k * n) units, parts)
-
 -- the values of the formulas
 
 fits_is : (n q : ℕ) (b : Bool) → (if b then Some n else None) ≡ Some q → n ≡ q
@@ -158,17 +125,15 @@ pub plus_is : (o : Option ℕ) (b q : ℕ) → checked_add o b ≡ Some q → (a
 plus_is None b q e = cc
 plus_is (Some a) b q e = (a, (refl, fitting_is (a + b) q e))
 
-abbrev ending : ByteLengths → ℕ
-ending Utf8 = 0
-ending OneByte = 0
-ending TwoBytes = 0
-ending Gb18030 = 0
+-- the bytes that they have for the end
+abbrev pub ending : ByteLengths → ℕ
 ending Iso2022Jp = 3
+ending _ = 0
 
 some_is : (n q : ℕ) → Some n ≡ Some q → n ≡ q
 some_is n q e = cc
 
-pub utf_8_length_is : (lengths : ByteLengths) (n q : ℕ) → from_utf_8_length lengths n ≡ Some q
+utf_8_length_is : (lengths : ByteLengths) (n q : ℕ) → from_utf_8_length lengths n ≡ Some q
     → max_bytes_per_utf_8_unit lengths * n + ending lengths ≡ q
 utf_8_length_is Utf8 n q e = omega (arith, some_is n q e)
 utf_8_length_is OneByte n q e = omega (arith, some_is n q e)
@@ -178,7 +143,7 @@ utf_8_length_is Iso2022Jp n q e =
     let sum = plus_is (checked_mul (Some n) 4) 3 q e in
     omega (arith, fitting_is (n * 4) sum.0 sum.1.0, sum.1.1)
 
-pub utf_16_length_is : (lengths : ByteLengths) (n q : ℕ) → from_utf_16_length lengths n ≡ Some q
+utf_16_length_is : (lengths : ByteLengths) (n q : ℕ) → from_utf_16_length lengths n ≡ Some q
     → max_bytes_per_utf_16_unit lengths * n + ending lengths ≡ q
 utf_16_length_is Utf8 n q e = omega (arith, fitting_is (n * 3) q e)
 utf_16_length_is OneByte n q e = omega (arith, some_is n q e)
@@ -188,43 +153,70 @@ utf_16_length_is Iso2022Jp n q e =
     let sum = plus_is (checked_mul (Some n) 5) 3 q e in
     omega (arith, fitting_is (n * 5) sum.0 sum.1.0, sum.1.1)
 
+-- the bytes of a character, with the escape sequence before it
+abbrev pub cost : EncoderRule → CharacterSet → ℕ → ℕ
+cost e s c = length (escape_before e s (first_written_char c (e.bytes c))) + size (e.bytes c)
+
+-- Where the bytes of each character, with the escape sequence before it, and of the escape sequence
+-- at the end are no more than the formulas have for them, so it is of the whole: in sets that are
+-- designated one after another.
+module _ (lengths : ByteLengths) (e : EncoderRule) (Comes : CharacterSet → Type 0)
+    (comes : (s : CharacterSet) (c : ℕ) → Comes s → Comes (set_for e s c))
+    (ends : (s : CharacterSet) → Comes s → count (steps_at_end s) ≤ ending lengths) where
+  bounded : (units_of : ℕ → List ℕ) (k : ℕ)
+      → ((s : CharacterSet) (c : ℕ) → Comes s → cost e s c ≤ k * length (units_of c))
+      → (last : Bool) (t : List ℕ) (s : CharacterSet) → Comes s
+      → count (steps_of e last s t) ≤ k * length (units_of_text units_of t) + ending lengths
+  unfolding steps_of
+  bounded units_of k each true [] s it_comes = omega (arith, ends s it_comes)
+  bounded units_of k each false [] s it_comes = omega arith
+  bounded units_of k each last (c ∷ t) s it_comes =
+      let first_char = first_written_char c (e.bytes c) in
+      let rest = steps_of e last (set_for e s first_char) t in
+      let front =
+      count_escaping (e.has s first_char) (e.designated first_char)
+      (char_step e (set_for e s first_char) c (e.bytes c) ∷ rest) in
+      let char = count_char e (set_for e s first_char) c (e.bytes c) rest in
+      let others = bounded units_of k each last t (set_for e s first_char)
+      (comes s first_char it_comes) in
+      let one = each s c it_comes in
+      let units = length-append (units_of c) (units_of_text units_of t) in
+      let parts = mul-add k (length (units_of c)) (length (units_of_text units_of t)) in
+      omega (arith, front, char, others, one, ap (λ n. k * n) units, parts)
+
+  pub enough : ((s : CharacterSet) (c : ℕ) → Comes s
+      → cost e s c ≤ max_bytes_per_utf_8_unit lengths * length (encode_utf8 c))
+      → ((s : CharacterSet) (c : ℕ) → Comes s
+      → cost e s c ≤ max_bytes_per_utf_16_unit lengths * length (encode_utf16 c))
+      → (s : CharacterSet) → Comes s
+      → AreEnoughForEncoder lengths (record { rule = e; set = s })
+  enough each_of_8 each_of_16 s it_comes = record {
+    from_utf_8 = λ t last q is.
+        let need = bounded encode_utf8 _ each_of_8 last t s it_comes in
+        omega (arith, utf_8_length_is lengths (length (units_of_text encode_utf8 t)) q is, need);
+    from_utf_16 = λ t last q is.
+        let need = bounded encode_utf16 _ each_of_16 last t s it_comes in
+        omega (arith, utf_16_length_is lengths (length (units_of_text encode_utf16 t)) q is, need);
+  }
+
 -- without escape sequences
 
-stays_ascii : (bytes : ℕ → Option (List ℕ)) (s : CharacterSet) (c : ℕ) → s ≡ Ascii
-    → set_for (stateless_rule bytes) s c ≡ Ascii
-stays_ascii bytes s c e = e
-
-none_at_end : (s : CharacterSet) → s ≡ Ascii → count (steps_at_end s) ≤ 0
-none_at_end Ascii e = omega arith
-none_at_end Roman e = cc
-none_at_end Jis0208 e = cc
+none_at_end : (n : ℕ) (s : CharacterSet) → s ≡ Ascii → count (steps_at_end s) ≤ n
+none_at_end n Ascii is_ascii = omega arith
+none_at_end n _ is_ascii = cc
 
 pub stateless_enough : (lengths : ByteLengths) (bytes : ℕ → Option (List ℕ))
     → KeepsLengths lengths bytes → AreEnoughForEncoder lengths (stateless_state bytes)
-stateless_enough lengths bytes keeps_lengths = record {
-  from_utf_8 = λ src last q e. omega (
-    arith,
-    utf_8_length_is lengths (length (units_of_text encode_utf8 src)) q e,
-    bounded (stateless_rule bytes) encode_utf8 (max_bytes_per_utf_8_unit lengths) 0 (λ s. s ≡ Ascii)
-        (stays_ascii bytes)
-        none_at_end (λ s c _. omega (arith, keeps_lengths.by_utf_8 c)) last src Ascii refl,
-  );
-  from_utf_16 = λ src last q e. omega (
-    arith,
-    utf_16_length_is lengths (length (units_of_text encode_utf16 src)) q e,
-    bounded (stateless_rule bytes) encode_utf16 (max_bytes_per_utf_16_unit lengths) 0
-        (λ s. s ≡ Ascii)
-        (stays_ascii bytes) none_at_end (λ s c _. omega (arith, keeps_lengths.by_utf_16 c)) last src
-        Ascii refl,
-  );
-}
+stateless_enough lengths bytes keeps_lengths =
+    enough lengths (stateless_rule bytes) (λ s. s ≡ Ascii) (λ s c is_ascii. is_ascii)
+    (none_at_end (ending lengths)) (λ s c _. omega (arith, keeps_lengths.by_utf_8 c))
+    (λ s c _. omega (arith, keeps_lengths.by_utf_16 c)) Ascii refl
 
 -- an escape sequence has three bytes
 
 three_in : (s : CharacterSet) → length (escape_sequence s) ≡ 3
 three_in Ascii = refl
-three_in Roman = refl
-three_in Jis0208 = refl
+three_in _ = refl
 
 pub three_before : (has : Bool) (x : CharacterSet)
     → length (if has then [] else escape_sequence x) ≤ 3
@@ -233,5 +225,4 @@ three_before false x = omega (arith, three_in x)
 
 pub three_at_end : (s : CharacterSet) → count (steps_at_end s) ≤ 3
 three_at_end Ascii = omega arith
-three_at_end Roman = omega arith
-three_at_end Jis0208 = omega arith
+three_at_end _ = omega arith

@@ -2,7 +2,7 @@
 use Rattle.std.proofs.Common.{◌≡◌, ℕ, Bool, true, false, Option, Some, None, List, [], ◌∷◌, refl, ap, ◌∙◌, sym}
 use Rattle.enc_units.specs.declared.bytes.Bytes.{Bytes}
 use Rattle.enc_encoder.specs.declared.character_set.CharacterSet.{CharacterSet}
-use Rattle.enc_encoder.specs.declared.character_set.CharacterSet.TheVariants.{Ascii, Roman, Jis0208}
+use Rattle.enc_encoder.specs.declared.character_set.CharacterSet.TheVariants.{Ascii}
 use Rattle.enc_encoder.specs.EncoderRule.{EncoderRule, RawEncoderState, is_escape_due}
 use Rattle.enc_encoder.specs.Text.{escape_sequence}
 use Rattle.enc_encoder.specs.Steps.{Step, steps_of, char_step, escape_step, first_written_char, steps_at_end}
@@ -38,23 +38,14 @@ module _ (e : EncoderRule) (s : CharacterSet) (c d : ℕ)
   written : e.has s d ≡ true → (last : Bool) (z : List ℕ)
       → steps_of e last s (c ∷ z) ≡ char_step e s c (e.bytes c) ∷ steps_of e last s z
   unfolding steps_of
-  written h last z =
-      let has_first : e.has s (first_written_char c (e.bytes c)) ≡ true =
-      ap (e.has s) (sym is_first) ∙ h in
-      rw has_first refl
+  written h last z = rw (sym is_first, h) refl
 
   -- it lacks it, and then an escape comes first
   escaped : e.has (e.designated d) d ≡ true → e.has s d ≡ false → (last : Bool) (z : List ℕ)
       → steps_of e last s (c ∷ z) ≡ escape_step (e.designated d)
       ∷ steps_of e last (e.designated d) (c ∷ z)
   unfolding steps_of
-  escaped j h last z =
-      let lacks_first : e.has s (first_written_char c (e.bytes c)) ≡ false =
-      ap (e.has s) (sym is_first) ∙ h in
-      let designated_has : e.has (e.designated (first_written_char c (e.bytes c)))
-      (first_written_char c (e.bytes c)) ≡ true =
-      ap (λ x. e.has (e.designated x) x) (sym is_first) ∙ j in
-      rw (is_first, lacks_first, designated_has) refl
+  escaped j h last z = rw (sym is_first, h, j) refl
 
   module _ {E : Type 0} (state : E → RawEncoderState) (x : E)
       (state_is : state x ≡ record { rule = e; set = s }) where
@@ -98,8 +89,7 @@ ends e state x y s l state_is next_is b g = record {
 
 last_is : (s : CharacterSet) → is_escape_due s ≡ true → steps_at_end s ≡ escape_step Ascii ∷ []
 last_is Ascii h = cc
-last_is Roman h = refl
-last_is Jis0208 h = refl
+last_is _ h = refl
 
 pub ends_pending : {E : Type 0} (state : E → RawEncoderState) (x n : E)
     → IsEscapeAtEnd state x (Some n) → (b : Bytes) → byte_list b ≡ escape_sequence Ascii

@@ -162,9 +162,5 @@ whatever_follows {last = false} {old} {new} {src} {rest} {done} leaves z none =
     set_after_steps-append old.set done remaining
     ∙ ap (λ s. set_after_steps s remaining) (sym leaves.set) in
     steps_of-append old.rule true old.set src z
-    ∙ ap (λ x. x ++ steps_of old.rule true (set_after_steps old.set x) z) leaves.remaining
-    ∙ ap (λ s. (done ++ remaining) ++ steps_of old.rule true s z) set_after
-    ∙ ap (λ e. (done ++ remaining) ++ steps_of e true (set_after_steps new.set remaining) z)
-    (sym leaves.rule)
-    ∙ append_assoc done remaining (steps_of new.rule true (set_after_steps new.set remaining) z)
-    ∙ ap (λ x. done ++ x) (sym (steps_of-append new.rule true new.set rest z))
+    ∙ rw (leaves.remaining, set_after, ← leaves.rule, steps_of-append new.rule true new.set rest z)
+    (append_assoc done remaining (steps_of new.rule true (set_after_steps new.set remaining) z))

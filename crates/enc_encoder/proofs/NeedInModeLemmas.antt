@@ -15,7 +15,7 @@ use Rattle.enc_encoder.specs.Unmappable.{any_unmappable}
 use Rattle.enc_encoder.proofs.LeavesLemmas.{leaves_in_mode}
 use Rattle.enc_encoder.proofs.NeedLemmas.{meets_need, need_left, at_next}
 use Rattle.enc_encoder.proofs.StepCountLemmas.{first_bytes, first_few}
-use Rattle.enc_encoder.proofs.StepLemmas.{or_true}
+use Rattle.std.proofs.Math.Bool.{or-true}
 use Rattle.enc_encoder.proofs.TextLemmas.{unreferred}
 use Rattle.enc_encoder.proofs.UnmappableLemmas.{any_reported_is, any_unmappable-append}
 
@@ -40,7 +40,7 @@ reporting_meets_need {c = c} call is_fatal =
 one_reported : (ps : List Step) → ends_in_report ps ≡ true → any_reported ps ≡ true
 one_reported [] ends = absurd (false≢true ends)
 one_reported (p ∷ []) ends = rw ends refl
-one_reported (p ∷ q ∷ ps) ends = rw (one_reported (q ∷ ps) ends) (or_true (is_some p.report))
+one_reported (p ∷ q ∷ ps) ends = rw (one_reported (q ∷ ps) ends) (or-true (is_some p.report))
 
 -- A call that puts references: where no character is unmappable, and the room has the need and the
 -- bytes that are kept back, it reads all.
@@ -48,14 +48,9 @@ not_full : {last : Bool} {old new : RawEncoderState} {src rest : List ℕ} {done
     → Leaves last old new src rest done → any_reported done ≡ false → (kept room : ℕ)
     → encode_need old last src + kept ≤ room → IsFull kept new rest last room done → ⊥
 not_full {last} {new = new} {rest = rest} {done} leaves none kept room room_is (inl at) =
-    omega (
-      arith,
-      room_is,
-      at.full,
-      at_next at.next at.others (steps_from_state new last rest) at.comes at.not_report,
-      need_left leaves none,
-      ap length (unreferred done none),
-    )
+    let next = at_next at.next at.others (steps_from_state new last rest) at.comes at.not_report in
+    let wrote = ap length (unreferred done none) in
+    omega (arith, room_is, at.full, next, need_left leaves none, wrote)
 not_full {done = done} leaves none kept room room_is (inr (inl at)) =
     false≢true (sym none ∙ one_reported done at.reference)
 not_full leaves none kept room room_is (inr (inr at)) = omega (arith, room_is, at.small)
@@ -104,12 +99,8 @@ module _ (new : RawEncoderState) (lawful : IsLawfulEncoderRule new.rule) (rest :
       → IsFull kept new rest last room done → 1 ≤ length done
   takes_when_full kept l (p ∷ done) f = omega arith
   takes_when_full kept l [] (inl next_step) =
-      absurd (omega (
-        arith,
-        l,
-        next_step.full,
-        too_long new lawful last rest next_step.next next_step.others next_step.comes,
-      ))
+      let few = too_long new lawful last rest next_step.next next_step.others next_step.comes in
+      absurd (omega (arith, l, next_step.full, few))
   takes_when_full kept l [] (inr (inl r)) = absurd (false≢true r.reference)
   takes_when_full kept l [] (inr (inr s)) = absurd (omega (arith, l, s.small))
 
@@ -118,13 +109,8 @@ module _ (new : RawEncoderState) (lawful : IsLawfulEncoderRule new.rule) (rest :
   takes_reporting l done InputEmpty n stops = absurd (n refl)
   takes_reporting l (p ∷ done) OutputFull n stops = omega arith
   takes_reporting l [] OutputFull n stops =
-      absurd (omega (
-        arith,
-        l,
-        stops.full,
-        too_long new lawful last rest stops.next stops.others
-            stops.comes,
-      ))
+      let few = too_long new lawful last rest stops.next stops.others stops.comes in
+      absurd (omega (arith, l, stops.full, few))
   takes_reporting l done (Unmappable c) n stops =
       omega (arith, ap length stops.then_report, length-append stops.before (stops.report ∷ []))
 
@@ -144,9 +130,5 @@ pub goes_on : {units_of : ℕ → List ℕ} {old new : RawEncoderState} {rest : 
 goes_on {new = new} {rest} {c} call lawful enough not_ended =
     let some = takes_step new lawful rest c.last c.room c.mode enough call.done c.result not_ended
     call.stops in
-    omega (
-      arith,
-      some,
-      ap length call.remaining,
-      length-append call.done (steps_from_state new c.last rest),
-    )
+    let all = length-append call.done (steps_from_state new c.last rest) in
+    omega (arith, some, ap length call.remaining, all)

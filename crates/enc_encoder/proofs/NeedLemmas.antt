@@ -59,13 +59,8 @@ module _ {last : Bool} {old new : RawEncoderState} {src rest : List ℕ} {done :
       let parts : steps_from_state old last src ≡ at.before ++ others =
       leaves.remaining ∙ ap (λ x. x ++ remaining) at.then_report
       ∙ append_assoc at.before (at.report ∷ []) remaining in
-      rw (
-        parts,
-        steps_before_report-append at.before others at.none_reported,
-        at.reported,
-        append-nil at.before,
-        reported_bytes at,
-      ) refl
+      let front = steps_before_report-append at.before others at.none_reported in
+      rw (parts, front, at.reported, append-nil at.before, reported_bytes at) refl
 
 module _ {old new : RawEncoderState} {src rest : List ℕ} {last : Bool} {room : ℕ}
     {wrote : List ℕ} where

@@ -6,10 +6,10 @@ use Rattle.std.proofs.lemmas.Bool.{false≢true}
 use Rattle.enc_units.specs.declared.encoder_result.EncoderResult.{EncoderResult}
 use Rattle.enc_units.specs.declared.encoder_result.EncoderResult.TheVariants.{InputEmpty, OutputFull, Unmappable}
 use Rattle.enc_encoder.specs.EncoderRule.{RawEncoderState}
-use Rattle.enc_encoder.specs.Steps.{Step}
-use Rattle.enc_encoder.specs.Steps.{any_reported}
+use Rattle.enc_units.specs.Output.{units_of_text}
+use Rattle.enc_encoder.specs.Steps.{Step, step_chars, any_reported}
 use Rattle.enc_encoder.specs.Text.{KeepsText}
-use Rattle.enc_encoder.specs.Writes.{Place, place}
+use Rattle.enc_encoder.specs.Writes.{Leaves, Adds, Place, place}
 use Rattle.enc_encoder.specs.Call.{EncoderCallInto, EncoderStops}
 use Rattle.enc_encoder.specs.ErrorMode.{EncodeErrorMode, Fatal, Html, EncoderCallInMode, MapsEveryCharacter}
 use Rattle.enc_encoder.specs.ErrorMode.{StopsInHtmlMode, StopsInMode, StepsFitInMode, bytes_in_mode, is_html_mode}
@@ -28,6 +28,38 @@ pub record CallOnto (units_of : ℕ → List ℕ) (mode : EncodeErrorMode) (last
   pub rest_stays : drop to.written to.slice ≡ drop to.written from.slice
   pub call : EncoderCallInMode units_of mode from.state to.state from.rest to.rest last
       (length from.slice) result read (take to.written to.slice) replaced
+
+-- these steps, and the bytes that a call in the mode writes of them
+module _ {last : Bool} {old : RawEncoderState} {src slice : List ℕ} {to : Place}
+    {done : List Step} {wrote : List ℕ} (leaves : Leaves last old to.state src to.rest done)
+    (adds : Adds slice to.slice 0 to.written wrote) where
+  pub onto : {units_of : ℕ → List ℕ} (mode : EncodeErrorMode) (result : EncoderResult) {read : ℕ}
+      {replaced : Bool} → wrote ≡ bytes_in_mode mode done
+      → StepsFitInMode mode (length slice) done
+      → replaced ≡ (is_html_mode mode && any_reported done)
+      → StopsInMode mode to.state to.rest last (length slice) done result
+      → read ≡ length (units_of_text units_of (step_chars done))
+      → KeepsText old to.state src to.rest last result wrote
+      → CallOnto units_of mode last (place old src slice 0) to result read replaced
+  onto mode result bytes fits flag stops units text =
+      let wrote_is = written_bytes adds in
+      record {
+        within = adds.fits;
+        rest_stays = rest_stays adds;
+        call = record {
+          done = done;
+          reads = leaves.reads;
+          remaining = leaves.remaining;
+          rule = leaves.rule;
+          set = leaves.set;
+          bytes = wrote_is ∙ bytes;
+          fits = fits;
+          flag = flag;
+          stops = stops;
+          units = units;
+          text = subst (KeepsText old to.state src to.rest last result) (sym wrote_is) text;
+        };
+      }
 
 -- why a call stops that has none
 html_stops : (new : RawEncoderState) (rest : List ℕ) (last : Bool) (room : ℕ) (done : List Step)
@@ -52,34 +84,11 @@ module _ {units_of : ℕ → List ℕ} {last : Bool} {old : RawEncoderState} {sr
   abbrev done : List Step
   done = encoded.call.done
 
-  in_mode : (mode : EncodeErrorMode) → encoded.wrote ≡ bytes_in_mode mode done
-      → StepsFitInMode mode (length slice) done → false ≡ (is_html_mode mode && any_reported done)
-      → StopsInMode mode to.state to.rest last (length slice) done result
-      → CallOnto units_of mode last (place old src slice 0) to result read false
-  in_mode mode bytes fits flag stops =
-      let wrote_is = written_bytes encoded.adds in
-      record {
-        within = encoded.adds.fits;
-        rest_stays = rest_stays encoded.adds;
-        call = record {
-          done = done;
-          reads = encoded.call.reads;
-          remaining = encoded.call.remaining;
-          rule = encoded.call.rule;
-          set = encoded.call.set;
-          bytes = wrote_is ∙ bytes;
-          fits = fits;
-          flag = flag;
-          stops = stops;
-          units = encoded.units;
-          text = subst (KeepsText old to.state src to.rest last result) (sym wrote_is) encoded.text;
-        };
-      }
-
   reporting_call : CallOnto units_of Fatal last (place old src slice 0) to result read false
   reporting_call =
-      in_mode Fatal encoded.call.bytes
+      onto (leaves_of encoded.call) encoded.adds Fatal result encoded.call.bytes
       (omega (arith, ap length encoded.call.bytes, encoded.call.fits)) refl encoded.call.stops
+      encoded.units encoded.text
 
   -- where no character is unmappable
   mappable_call : MapsEveryCharacter old.rule
@@ -89,9 +98,11 @@ module _ {units_of : ℕ → List ℕ} {last : Bool} {old : RawEncoderState} {sr
       any_reported_is (leaves_of encoded.call) ∙ none_unmappable old.rule maps_all _ in
       let fits = all_fit (length slice - 0) 0 done (unreported_before (length slice - 0) 0 done none
       (omega (arith, encoded.call.fits, ap length encoded.call.bytes))) in
-      in_mode (Html 0) (encoded.call.bytes ∙ sym (unreferred done none))
+      onto (leaves_of encoded.call) encoded.adds (Html 0) result
+      (encoded.call.bytes ∙ sym (unreferred done none))
       (fits, λ small. absurd (omega (arith, small))) (sym none)
       (html_stops to.state to.rest last (length slice) done result encoded.call.stops none)
+      encoded.units encoded.text
 
   pub unreplaced_call : (mode : ErrorMode) → (mode ≡ code.Fatal) ⊎ (mode ≡ code.HtmlOfMappable)
       → (mode ≡ code.HtmlOfMappable → MapsEveryCharacter old.rule)

@@ -12,7 +12,8 @@ use Rattle.enc_encoder.specs.Steps.{Step, any_reported, bytes_with_references}
 use Rattle.enc_encoder.specs.Writes.{Leaves, Adds, Place, place}
 use Rattle.enc_encoder.specs.Call.{EncoderCall, EncoderCallInto}
 use Rattle.enc_encoder.specs.ErrorMode.{StepFits, StepsFit, ends_in_report}
-use Rattle.enc_encoder.proofs.StepLemmas.{any_reported-append, or_true, or_false}
+use Rattle.std.proofs.Math.Bool.{or-true, or-false}
+use Rattle.enc_encoder.proofs.StepLemmas.{any_reported-append}
 use Rattle.enc_encoder.proofs.LeavesLemmas.{no_step, leaves_of, leaves_on, adds_none, adds_on, same_length}
 use Rattle.enc_encoder.proofs.TextLemmas.{bytes_with_references-append, unreferred, done_is, reported_bytes}
 use Rattle.enc_encoder.proofs.TextLemmas.{is_reported}
@@ -34,8 +35,9 @@ pub record Turns (last : Bool) (limit : ℕ) (from to : Place) (replaced : Bool)
   pub refers : Refers last limit from to replaced
   pub before : AllBefore limit from.written refers.done
   pub below : to.written ≤ limit
+  pub within : limit ≤ length to.slice
 
-unfoldable pub no_turn : (last : Bool) (limit : ℕ) (at : Place) → at.written ≤ limit
+pub no_turn : (last : Bool) (limit : ℕ) (at : Place) → at.written ≤ limit
     → limit ≤ length at.slice → Turns last limit at at false
 no_turn last limit at below within = record {
   refers = record {
@@ -47,6 +49,7 @@ no_turn last limit at below within = record {
   };
   before = tt;
   below = below;
+  within = within;
 }
 
 -- a call of the raw encoder from one place to another
@@ -56,23 +59,22 @@ pub record EncodesTo (last : Bool) (room : ℕ) (from to : Place) (result : Enco
   pub adds : Adds from.slice to.slice from.written to.written wrote
   pub call : EncoderCall from.state to.state from.rest to.rest last room result wrote
 
--- a call of the raw encoder on the part of a slice from `start` to `limit`
-pub encodes_part : {units_of : ℕ → List ℕ} {last : Bool} {from to : Place} {result : EncoderResult}
-    {read : ℕ} → EncoderCallInto units_of last from to result read
-    → (slice : List ℕ) (start limit : ℕ) → from.slice ≡ take (limit - start) (drop start slice)
-    → from.written ≡ 0 → start ≤ limit → limit ≤ length slice
-    → EncodesTo last (limit - start) (place from.state from.rest slice start)
-    (place to.state to.rest (put_mid start (limit - start) slice to.slice) (start + to.written))
+-- a call of the raw encoder on the part of the slice up to the limit
+pub encodes_part : {units_of : ℕ → List ℕ} {last : Bool} {limit : ℕ} {from now to : Place}
+    {replaced : Bool} {result : EncoderResult} {read : ℕ} → Turns last limit from now replaced
+    → EncoderCallInto units_of last (place now.state now.rest
+    (take (limit - now.written) (drop now.written now.slice)) 0) to result read
+    → EncodesTo last (limit - now.written) now (place to.state to.rest
+    (put_mid now.written (limit - now.written) now.slice to.slice) (now.written + to.written))
     result
-encodes_part {last = last} {from} {to} {result} encoded slice start limit part none below within =
-    let room : length from.slice ≡ limit - start =
-    rw (part, length-take, length-drop) (omega (arith, below, within)) in
+encodes_part {last = last} {limit} {now = now} {to} {result = result} turns encoded =
+    let room : length (take (limit - now.written) (drop now.written now.slice))
+    ≡ limit - now.written =
+    rw (length-take, length-drop) (omega (arith, turns.below, turns.within)) in
     record {
       wrote = encoded.wrote;
-      adds = adds_in_part slice start limit below within
-          (subst (λ x. Adds x to.slice 0 to.written encoded.wrote) part
-          (subst (λ n. Adds from.slice to.slice n to.written encoded.wrote) none encoded.adds));
-      call = subst (λ (x : ℕ). EncoderCall from.state to.state from.rest to.rest last x result
+      adds = adds_in_part now.slice now.written limit turns.below turns.within encoded.adds;
+      call = subst (λ (x : ℕ). EncoderCall now.state to.state now.rest to.rest last x result
           encoded.wrote) room encoded.call;
     }
 
@@ -126,7 +128,7 @@ module _ {last : Bool} {limit : ℕ} {from now next : Place} {replaced : Bool}
       join (rw no_reference (adds_none next.slice next.written
       (omega (arith, encodes.adds.fits, same_length encodes.adds))))
       (all_fit limit now.written encodes.call.done fits)
-      (rw none_reported (sym (or_false replaced)))
+      (rw none_reported (sym (or-false replaced)))
 
 -- the last step says whether a report is the last
 ends_in_report-one : (ps : List Step) (q : Step) → ends_in_report (ps ++ q ∷ []) ≡ is_some q.report
@@ -155,13 +157,8 @@ module _ {last : Bool} {limit : ℕ} {from now next : Place} {replaced : Bool}
   fits_before_report =
       let stops = encodes.call.stops in
       unreported_before limit now.written before stops.none_reported
-      (omega (
-        arith,
-        in_limit turns encodes,
-        reference_begins,
-        ap length (unreferred before
-            stops.none_reported),
-      ))
+      (let bytes = ap length (unreferred before stops.none_reported) in
+      omega (arith, in_limit turns encodes, reference_begins, bytes))
 
   -- the steps done, with the reference: the report is the last of them
   pub join_report : {slice : List ℕ} {written : ℕ}
@@ -175,7 +172,7 @@ module _ {last : Bool} {limit : ℕ} {from now next : Place} {replaced : Bool}
       (omega (arith, in_limit turns encodes, reference_begins, ap length stops.none_written)) in
       join turns encodes adds
       (rw stops.then_report (fits-append limit now.written before (report ∷ []) fits_before_report
-      (report_fits, tt))) (rw (is_reported stops) (sym (or_true replaced)))
+      (report_fits, tt))) (rw (is_reported stops) (sym (or-true replaced)))
 
   pub ends_here : {slice : List ℕ} {written : ℕ}
       (adds : Adds next.slice slice next.written written (reference k))
@@ -206,4 +203,5 @@ module _ {last : Bool} {limit : ℕ} {from now next : Place} {replaced : Bool}
             (before-append limit now.written before (report ∷ []) fits_before_report
             (report_fits, tt)));
         below = omega (arith, below);
+        within = omega (arith, turns.within, same_length encodes.adds, same_length adds);
       }

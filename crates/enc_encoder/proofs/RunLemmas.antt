@@ -17,11 +17,8 @@ pub no_more_steps : {last : Bool} {from to : Place} → Writes last from to
     → length (steps_from_state to.state last to.rest)
     ≤ length (steps_from_state from.state last from.rest)
 no_more_steps {last} {to = to} writes =
-    omega (
-      arith,
-      ap length writes.leaves.remaining,
-      length-append writes.done (steps_from_state to.state last to.rest),
-    )
+    let all = length-append writes.done (steps_from_state to.state last to.rest) in
+    omega (arith, ap length writes.leaves.remaining, all)
 
 -- an empty run
 pub writes_none : (v : RawEncoderState) (src before : List ℕ) (at : ℕ) → at ≤ length before

@@ -1,8 +1,6 @@
 -- Encodings that write each character by itself: their laws.
-use Rattle.std.proofs.Common.{◌≡◌, ℕ, ◌<◌, Option, Some, List, [], ◌∷◌, refl, ap, sym, ◌∙◌, arith}
+use Rattle.std.proofs.Common.{ℕ, ◌<◌, Option, List, refl, arith}
 use Rattle.std.proofs.lemmas.Bool.{lt-ltb}
-use Rattle.enc_units.specs.declared.bytes.Bytes.{Bytes}
-use Rattle.enc_units.specs.Bytes.{byte_list}
 use Rattle.enc_encoder.specs.EncoderRule.{IsLawfulEncoderRule, IsReferenceCharacter}
 use Rattle.enc_encoder.specs.Stateless.{stateless_rule, with_ascii, WritesAscii, WritesAtMostFour}
 
@@ -23,7 +21,3 @@ stateless_is_lawful bytes h few = record {
   one_set = λ s c r. refl;
   few = few.few;
 }
-
-pub writes_one : (bytes : ℕ → Option (List ℕ)) (c : ℕ) (b : Bytes) → WritesAscii bytes → c < 0x80
-    → byte_list b ≡ c ∷ [] → bytes c ≡ Some (byte_list b)
-writes_one bytes c b h l e = h c l ∙ ap Some (sym e)

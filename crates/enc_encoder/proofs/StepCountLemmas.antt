@@ -2,15 +2,14 @@
 use Rattle.std.proofs.Common.{ℕ, ◌+◌, ◌*◌, ◌≤◌, Bool, true, false, Option, Some, None, List, [], ◌∷◌, ◌++◌, length}
 use Rattle.std.proofs.Common.{arith, length-append, if◌then◌else◌}
 use Rattle.enc_encoder.specs.declared.character_set.CharacterSet.{CharacterSet}
-use Rattle.enc_encoder.specs.declared.character_set.CharacterSet.TheVariants.{Ascii, Roman, Jis0208}
+use Rattle.enc_encoder.specs.declared.character_set.CharacterSet.TheVariants.{Ascii}
 use Rattle.enc_encoder.specs.EncoderRule.{EncoderRule, IsLawfulEncoderRule, AreAtMostFour, set_for}
 use Rattle.enc_encoder.specs.Steps.{Step, escape_step, char_step, first_written_char, escape_steps_before, steps_at_end}
 use Rattle.enc_encoder.specs.Steps.{steps_of}
 
 one_at_end : (s : CharacterSet) → length (steps_at_end s) ≤ 1
 one_at_end Ascii = omega arith
-one_at_end Roman = omega arith
-one_at_end Jis0208 = omega arith
+one_at_end _ = omega arith
 
 one_before : (has : Bool) (x : CharacterSet) → length (if has then [] else escape_step x ∷ []) ≤ 1
 one_before true x = omega arith
@@ -26,12 +25,9 @@ few_steps e last (c ∷ t) s =
     let first_char = first_written_char c (e.bytes c) in
     let others = char_step e (set_for e s first_char) c (e.bytes c)
     ∷ steps_of e last (set_for e s first_char) t in
-    omega (
-      arith,
-      one_before (e.has s first_char) (e.designated first_char),
-      length-append (escape_steps_before e s first_char) others,
-      few_steps e last t (set_for e s first_char),
-    )
+    let escape = one_before (e.has s first_char) (e.designated first_char) in
+    let all = length-append (escape_steps_before e s first_char) others in
+    omega (arith, escape, all, few_steps e last t (set_for e s first_char))
 
 -- the bytes of the first step
 abbrev pub first_bytes : List Step → ℕ
@@ -40,13 +36,11 @@ first_bytes (p ∷ ps) = length p.bytes
 
 few_at_end : (s : CharacterSet) → first_bytes (steps_at_end s) ≤ 4
 few_at_end Ascii = omega arith
-few_at_end Roman = omega arith
-few_at_end Jis0208 = omega arith
+few_at_end _ = omega arith
 
 few_in_escape : (x : CharacterSet) → first_bytes (escape_step x ∷ []) ≤ 4
 few_in_escape Ascii = omega arith
-few_in_escape Roman = omega arith
-few_in_escape Jis0208 = omega arith
+few_in_escape _ = omega arith
 
 few_in_first : (e : EncoderRule) (s x : CharacterSet) (c : ℕ) (has : Bool) (b : Option (List ℕ))
     (ps : List Step)

@@ -1,33 +1,25 @@
 -- Lists of steps, one after another.
-use Rattle.std.proofs.Common.{◌≡◌, ℕ, Bool, true, false, ◌||◌, is_some, List, [], ◌∷◌, ◌++◌, refl, ap, ◌∙◌, sym}
+use Rattle.std.proofs.Common.{◌≡◌, ℕ, ◌||◌, is_some, List, [], ◌∷◌, ◌++◌, refl, ap, ◌∙◌, sym}
 use Rattle.std.proofs.Common.{append_assoc, append-nil}
+use Rattle.std.proofs.Math.Bool.{or_assoc}
 use Rattle.enc_units.specs.Output.{units_of_text}
 use Rattle.enc_encoder.specs.declared.character_set.CharacterSet.{CharacterSet}
 use Rattle.enc_encoder.specs.Steps.{Step, step_chars, step_bytes, any_reported, set_after_steps}
 
+-- What a list has is joined from what each element has, so of two lists it is joined too.
+pub joined-append : {X : Type 0} (each : X → List ℕ) (all : List X → List ℕ) → all [] ≡ []
+    → ((x : X) (xs : List X) → all (x ∷ xs) ≡ each x ++ all xs)
+    → (xs ys : List X) → all (xs ++ ys) ≡ all xs ++ all ys
+joined-append each all none more [] ys = rw none refl
+joined-append each all none more (x ∷ xs) ys =
+    rw (more x (xs ++ ys), more x xs, joined-append each all none more xs ys)
+    (sym (append_assoc (each x) (all xs) (all ys)))
+
 pub step_chars-append : (ps qs : List Step) → step_chars (ps ++ qs) ≡ step_chars ps ++ step_chars qs
-step_chars-append [] qs = refl
-step_chars-append (p ∷ ps) qs =
-    ap (λ t. p.reads ++ t) (step_chars-append ps qs)
-    ∙ sym (append_assoc p.reads (step_chars ps) (step_chars qs))
+step_chars-append = joined-append (λ (p : Step). p.reads) step_chars refl (λ p ps. refl)
 
 pub step_bytes-append : (ps qs : List Step) → step_bytes (ps ++ qs) ≡ step_bytes ps ++ step_bytes qs
-step_bytes-append [] qs = refl
-step_bytes-append (p ∷ ps) qs =
-    ap (λ t. p.bytes ++ t) (step_bytes-append ps qs)
-    ∙ sym (append_assoc p.bytes (step_bytes ps) (step_bytes qs))
-
-pub or_assoc : (a b c : Bool) → ((a || b) || c) ≡ (a || (b || c))
-or_assoc true b c = refl
-or_assoc false b c = refl
-
-pub or_true : (a : Bool) → (a || true) ≡ true
-or_true true = refl
-or_true false = refl
-
-pub or_false : (a : Bool) → (a || false) ≡ a
-or_false true = refl
-or_false false = refl
+step_bytes-append = joined-append (λ (p : Step). p.bytes) step_bytes refl (λ p ps. refl)
 
 pub any_reported-append : (ps qs : List Step)
     → any_reported (ps ++ qs) ≡ (any_reported ps || any_reported qs)
@@ -50,7 +42,5 @@ step_bytes-one ps q = step_bytes-append ps (q ∷ [])
 
 pub units_of_text-append : (units_of : ℕ → List ℕ) (a b : List ℕ)
     → units_of_text units_of (a ++ b) ≡ units_of_text units_of a ++ units_of_text units_of b
-units_of_text-append units_of [] b = refl
-units_of_text-append units_of (c ∷ cs) b =
-    ap (λ t. units_of c ++ t) (units_of_text-append units_of cs b)
-    ∙ sym (append_assoc (units_of c) (units_of_text units_of cs) (units_of_text units_of b))
+units_of_text-append units_of =
+    joined-append units_of (units_of_text units_of) refl (λ c cs. refl)

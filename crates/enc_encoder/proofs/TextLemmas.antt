@@ -6,7 +6,7 @@ use Rattle.std.specs.Fmt.{digits, digits_onto, digit_glyph}
 use Rattle.std.proofs.lemmas.Bool.{false≢true}
 use Rattle.std.proofs.lemmas.Bool.Decides.{nat_tests}
 use Rattle.enc_encoder.specs.declared.character_set.CharacterSet.{CharacterSet}
-use Rattle.enc_encoder.specs.declared.character_set.CharacterSet.TheVariants.{Ascii, Roman, Jis0208}
+use Rattle.enc_encoder.specs.declared.character_set.CharacterSet.TheVariants.{Ascii}
 use Rattle.enc_units.specs.declared.encoder_result.EncoderResult.{EncoderResult}
 use Rattle.enc_units.specs.declared.encoder_result.EncoderResult.TheVariants.{InputEmpty, OutputFull, Unmappable}
 use Rattle.enc_encoder.specs.EncoderRule.{EncoderRule, RawEncoderState, IsLawfulEncoderRule, IsReferenceCharacter}
@@ -18,7 +18,7 @@ use Rattle.enc_encoder.specs.Steps.{Step, escape_step, char_step, first_written_
 use Rattle.enc_encoder.specs.Steps.{steps_of, steps_from_state, step_bytes, any_reported, bytes_with_references}
 use Rattle.enc_encoder.specs.Steps.{reference_for_report}
 use Rattle.enc_encoder.specs.Call.{EncoderCall, EncoderStops, AtUnmappable}
-use Rattle.enc_encoder.proofs.StepLemmas.{step_bytes-one, any_reported-append}
+use Rattle.enc_encoder.proofs.StepLemmas.{joined-append, step_bytes-one, any_reported-append}
 use Rattle.enc_encoder.specs.Writes.{Leaves}
 use Rattle.enc_encoder.proofs.LeavesLemmas.{whatever_follows}
 
@@ -116,11 +116,7 @@ module _ (e : EncoderRule) (lawful : IsLawfulEncoderRule e) where
   step_is s c t (Some b) q h =
       escaped (e.has s c) (e.designated c)
       (char_step e (set_for e s c) c (Some b) ∷ steps_of e true (set_for e s c) t)
-      ∙ ap (λ x. escape_before e s c
-      ++ (x ++ bytes_with_references (steps_of e true (set_for e s c) t))) (append-nil b)
-      ∙ ap (λ x. escape_before e s c ++ (b ++ x)) (h (set_for e s c))
-      ∙ ap (λ x. escape_before e s c
-      ++ (list_or_empty x ++ forward e (set_for e s c) (with_references e t))) (sym q)
+      ∙ rw (append-nil b, h (set_for e s c), q) refl
   step_is s c t None q h =
       escaped (e.has s 0x26) (e.designated 0x26)
       (char_step e (set_for e s 0x26) c None ∷ steps_of e true (set_for e s 0x26) t)
@@ -129,8 +125,7 @@ module _ (e : EncoderRule) (lawful : IsLawfulEncoderRule e) where
 
   last_is : (s : CharacterSet) → bytes_with_references (steps_at_end s) ≡ escape_at_end s
   last_is Ascii = refl
-  last_is Roman = refl
-  last_is Jis0208 = refl
+  last_is _ = refl
 
   steps_are_carried : (s : CharacterSet) (t : List ℕ)
       → bytes_with_references (steps_of e true s t) ≡ forward e s (with_references e t)
@@ -145,11 +140,9 @@ module _ (e : EncoderRule) (lawful : IsLawfulEncoderRule e) where
 
 pub bytes_with_references-append : (ps qs : List Step)
     → bytes_with_references (ps ++ qs) ≡ bytes_with_references ps ++ bytes_with_references qs
-bytes_with_references-append [] qs = refl
-bytes_with_references-append (p ∷ ps) qs =
-    ap (λ t. (p.bytes ++ reference_for_report p.report) ++ t) (bytes_with_references-append ps qs)
-    ∙ sym (append_assoc (p.bytes ++ reference_for_report p.report) (bytes_with_references ps)
-    (bytes_with_references qs))
+bytes_with_references-append =
+    joined-append (λ (p : Step). p.bytes ++ reference_for_report p.report) bytes_with_references
+    refl (λ p ps. refl)
 
 pub parted : (r : Option ℕ) (x : Bool) → (is_some r || x) ≡ false → (r ≡ None) × (x ≡ false)
 parted None x h = (refl, h)
@@ -174,12 +167,8 @@ reported_bytes at =
 
 pub is_reported : {done : List Step} {c : ℕ} → AtUnmappable done c → any_reported done ≡ true
 is_reported at =
-    rw (
-      at.then_report,
-      any_reported-append at.before (at.report ∷ []),
-      at.none_reported,
-      at.reported,
-    ) refl
+    let parts = any_reported-append at.before (at.report ∷ []) in
+    rw (at.then_report, parts, at.none_reported, at.reported) refl
 
 -- the bytes of the steps that a call took, with the reference that its caller writes
 bytes_by_result : (new : RawEncoderState) (rest : List ℕ) (last : Bool) (room : ℕ)
@@ -190,16 +179,11 @@ bytes_by_result new rest last room done InputEmpty stops =
 bytes_by_result new rest last room done OutputFull stops =
     unreferred done stops.none_reported ∙ sym (append-nil (step_bytes done))
 bytes_by_result new rest last room done (Unmappable c) stops =
-    let before = step_bytes stops.before in
+    let plain = unreferred stops.before stops.none_reported in
     ap bytes_with_references stops.then_report
-    ∙ rw (
-      bytes_with_references-append stops.before (stops.report ∷ []),
-      unreferred stops.before stops.none_reported,
-      stops.none_written,
-      stops.reported,
-      append-nil (reference c),
-    ) refl
-    ∙ ap (λ t. t ++ reference c) (sym (reported_bytes stops))
+    ∙ bytes_with_references-append stops.before (stops.report ∷ [])
+    ∙ rw (plain, stops.none_written, stops.reported, append-nil (reference c), reported_bytes stops)
+    refl
 
 pub done_is : {old new : RawEncoderState} {src rest : List ℕ} {last : Bool} {room : ℕ}
     {result : EncoderResult} {wrote : List ℕ}

@@ -1,16 +1,17 @@
 -- Steps report the unmappable characters among those that they read, each as its reported
 -- character.
 use Rattle.std.proofs.Common.{◌≡◌, ℕ, Bool, true, false, not, ◌||◌, Option, Some, None, is_some, List, [], ◌∷◌, ◌++◌}
-use Rattle.std.proofs.Common.{refl, ap, ◌∙◌, sym, append_assoc, if◌then◌else◌}
+use Rattle.std.proofs.Common.{refl, ap, ◌∙◌, sym, if◌then◌else◌}
 use Rattle.std.proofs.lemmas.List.{append_cancel_right}
 use Rattle.enc_encoder.specs.declared.character_set.CharacterSet.{CharacterSet}
-use Rattle.enc_encoder.specs.declared.character_set.CharacterSet.TheVariants.{Ascii, Roman, Jis0208}
+use Rattle.enc_encoder.specs.declared.character_set.CharacterSet.TheVariants.{Ascii}
 use Rattle.enc_encoder.specs.EncoderRule.{EncoderRule, RawEncoderState, set_for}
 use Rattle.enc_encoder.specs.Steps.{Step, steps_of, steps_from_state, step_chars, any_reported, escape_steps_before}
 use Rattle.enc_encoder.specs.Steps.{escape_step, char_step, first_written_char, steps_at_end}
 use Rattle.enc_encoder.specs.Writes.{Leaves}
 use Rattle.enc_encoder.specs.ErrorMode.{CallInMode, IsCallInMode, Html, MapsEveryCharacter}
-use Rattle.enc_encoder.proofs.StepLemmas.{or_assoc}
+use Rattle.std.proofs.Math.Bool.{or_assoc}
+use Rattle.enc_encoder.proofs.StepLemmas.{joined-append}
 use Rattle.enc_encoder.proofs.LeavesLemmas.{leaves_in_mode}
 use Rattle.enc_encoder.specs.Unmappable.{any_unmappable, report_for, reports_of}
 
@@ -24,17 +25,13 @@ reports_in [] = []
 reports_in (p ∷ ps) = reports_by p.report ++ reports_in ps
 
 pub reports_in-append : (ps qs : List Step) → reports_in (ps ++ qs) ≡ reports_in ps ++ reports_in qs
-reports_in-append [] qs = refl
-reports_in-append (p ∷ ps) qs =
-    ap (λ t. reports_by p.report ++ t) (reports_in-append ps qs)
-    ∙ sym (append_assoc (reports_by p.report) (reports_in ps) (reports_in qs))
+reports_in-append =
+    joined-append (λ (p : Step). reports_by p.report) reports_in refl (λ p ps. refl)
 
 pub reports_of-append : (e : EncoderRule) (a b : List ℕ)
     → reports_of e (a ++ b) ≡ reports_of e a ++ reports_of e b
-reports_of-append e [] b = refl
-reports_of-append e (c ∷ a) b =
-    ap (λ t. report_for e c (e.bytes c) ++ t) (reports_of-append e a b)
-    ∙ sym (append_assoc (report_for e c (e.bytes c)) (reports_of e a) (reports_of e b))
+reports_of-append e =
+    joined-append (λ c. report_for e c (e.bytes c)) (reports_of e) refl (λ c cs. refl)
 
 none_escaping : (b : Bool) (s : CharacterSet)
     → reports_in (if b then [] else escape_step s ∷ []) ≡ []
@@ -45,8 +42,7 @@ none_at_end : (last : Bool) (s : CharacterSet)
     → reports_in (if last then steps_at_end s else []) ≡ []
 none_at_end false s = refl
 none_at_end true Ascii = refl
-none_at_end true Roman = refl
-none_at_end true Jis0208 = refl
+none_at_end true _ = refl
 
 one_reported : (e : EncoderRule) (s : CharacterSet) (c : ℕ) (b : Option (List ℕ))
     → reports_by (char_step e s c b).report ≡ report_for e c b
@@ -59,14 +55,13 @@ unfolding steps_of
 steps_report e last s [] = none_at_end last s
 steps_report e last s (c ∷ t) =
     let first_char = first_written_char c (e.bytes c) in
-    let others = char_step e (set_for e s first_char) c (e.bytes c)
-    ∷ steps_of e last (set_for e s first_char) t in
+    let set_now = set_for e s first_char in
+    let others = char_step e set_now c (e.bytes c) ∷ steps_of e last set_now t in
     reports_in-append (escape_steps_before e s first_char) others
     ∙ ap (λ x. x ++ reports_in others)
     (none_escaping (e.has s first_char) (e.designated first_char))
-    ∙ ap (λ x. x ++ reports_in (steps_of e last (set_for e s first_char) t))
-    (one_reported e (set_for e s first_char) c (e.bytes c))
-    ∙ ap (λ x. report_for e c (e.bytes c) ++ x) (steps_report e last (set_for e s first_char) t)
+    ∙ rw (one_reported e set_now c (e.bytes c))
+    (ap (λ x. report_for e c (e.bytes c) ++ x) (steps_report e last set_now t))
 
 -- of steps that a call took
 pub reports_are : {last : Bool} {old new : RawEncoderState} {src rest : List ℕ} {done : List Step}

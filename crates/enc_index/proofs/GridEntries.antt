@@ -1,12 +1,12 @@
 -- The entries of grids: the word of a character's UTF-8, and its UTF-16 unit.
 use Rattle.std.proofs.Common.{◌≡◌, ℕ, ◌/◌, Bool, true, false, refl, ◌&&◌, ◌==◌, nat_le, List, [], ◌∷◌, take, eqb-true}
-use Rattle.std.proofs.Common.{leb-true, Option, Some, subst, sym}
+use Rattle.std.proofs.Common.{leb-true, Option, Some}
 use Rattle.std.proofs.Math.Utf8.{scalar}
 use Rattle.std.proofs.lemmas.Bool.{and_parts}
 use Rattle.std.specs.Char.{IsScalar, encode_utf8}
 use Rattle.std.specs.Int.{to_le_bytes, w32}
 use Rattle.enc_index.specs.Grid.{IsUtf8Word, HasWord}
-use Rattle.enc_index.proofs.GridTests.{rows_ok, entry_ok, byte_ok, places_ok, Found}
+use Rattle.enc_index.proofs.GridTests.{all_at, rows_ok, entry_ok, byte_ok, places_ok, Found}
 
 unfoldable pub same_bytes : List ℕ → List ℕ → Bool
 same_bytes [] [] = true
@@ -21,9 +21,7 @@ same_bytes-true [] (b ∷ bs) h = cc
 same_bytes-true (a ∷ rest) [] h = cc
 same_bytes-true (a ∷ rest) (b ∷ bs) h =
     let parts = and_parts (a == b) (same_bytes rest bs) h in
-    let same_first : a ≡ b = eqb-true a b parts.0 in
-    let same_rest : rest ≡ bs = same_bytes-true rest bs parts.1 in
-    cc
+    cc (eqb-true a b parts.0, same_bytes-true rest bs parts.1)
 
 unfoldable pub is_word : ℕ → ℕ → Bool
 is_word c word =
@@ -54,12 +52,9 @@ pub unit_found : (character : Option ℕ) (unit : ℕ) → Found is_unit charact
 unfolding is_unit
 unit_found character unit found =
     let parts = and_parts (scalar found.0) (unit == found.0) found.2 in
-    let same_unit : unit ≡ found.0 = eqb-true unit found.0 parts.1 in
-    let is : character ≡ Some found.0 = found.1 in
-    let is_scalar : IsScalar found.0 = parts.0 in
-    (cc, subst IsScalar (sym same_unit) is_scalar)
+    rw (eqb-true unit found.0 parts.1) (found.1, parts.0)
 
 -- `unfolding grid_tests` opens the tests of grids
 unfoldable pub grid_tests : Unit {0}
-unfolding encode_utf8 same_bytes is_word is_unit rows_ok entry_ok byte_ok places_ok
+unfolding encode_utf8 same_bytes is_word is_unit all_at rows_ok entry_ok byte_ok places_ok
 grid_tests = tt

@@ -3,7 +3,7 @@ pub mod ByteEntries
 pub mod GridEntries
 pub mod GridLemmas
 pub mod PlaceLemmas
-mod GridTests
+pub mod GridTests
 pub mod RangesAscend
 pub mod RunSearchLemmas
 mod RunLemmas

@@ -1,13 +1,19 @@
 -- The places of two bytes in the grids have their characters.
 use Rattle.std.proofs.Common.{◌≡◌, ◌∙◌, ℕ, ◌+◌, ◌*◌, ◌<◌, ◌≤◌, Bool, true, false, cond, Option, Some, None, refl}
-use Rattle.std.proofs.Common.{ap, sym, arith, inl, inr}
-use Rattle.std.proofs.lemmas.Bool.{cond-true, cases_lt}
+use Rattle.std.proofs.Common.{ap, sym, arith, inl, inr, nat_lt}
+use Rattle.std.proofs.lemmas.Bool.{cond-true, cases_lt, ltb-true}
 use Rattle.std.proofs.Math.Nat.{mul-le-mul_right}
 use Rattle.enc_index.specs.Grid.{Shape, HasNoMore, IsPlaceOf, pointer_char, grid_char}
-use Rattle.enc_index.proofs.GridLemmas.{grid_char-of_column, grid_char-of_last, grid_char-of_empty}
+use Rattle.enc_index.proofs.GridLemmas.{grid_char-of_place}
 
 pub same_some : (b c : ℕ) → Some b ≡ Some c → b ≡ c
 same_some b c e = cc
+
+-- a choice that is there was taken
+pub some_of_cond : (t : Bool) (o : Option ℕ) (c : ℕ) → cond t o None ≡ Some c
+    → (t ≡ true) × (o ≡ Some c)
+some_of_cond true o c h = (refl, h)
+some_of_cond false o c h = cc
 
 pub some_none : (A : Option ℕ) (c : ℕ) → A ≡ None → A ≡ Some c → ⊥
 some_none A c e f = cc
@@ -32,23 +38,20 @@ module _ (shape : Shape) (no_more : HasNoMore shape) where
       → grid_char shape (256 + row * (shape.width + 1) + column) ≡ Some c
       → Stands shape row column c
   stands row column c l has_char =
-      elim (cases_lt row shape.rows) [
-        | inr past ↦
-            absurd
-            (some_none _ c (grid_char-of_empty shape no_more row column past l) has_char)
-        | inl r ↦ elim (cases_lt column shape.width) [
-          | inl within_width ↦ record {
-            in_rows = r;
-            in_columns = within_width;
-            is = sym (grid_char-of_column shape row column within_width) ∙ has_char;
-          }
+      let there = some_of_cond (nat_lt column shape.width)
+      (pointer_char shape (row * shape.width + column)) c
+      (sym (grid_char-of_place shape row column l) ∙ has_char) in
+      record {
+        in_rows = elim (cases_lt row shape.rows) [
+          | inl within ↦ within
           | inr past ↦
-              let last : column ≡ shape.width = omega arith in
-              absurd (some_none _ c
-              (ap (λ k. grid_char shape (256 + row * (shape.width + 1) + k)) last
-              ∙ grid_char-of_last shape row) has_char)
-        ]
-      ]
+              let after_rows = mul-le-mul_right shape.width past in
+              let none = no_more (row * shape.width + column) (omega (arith, after_rows)) in
+              absurd (some_none _ c none there.1)
+        ];
+        in_columns = ltb-true column shape.width there.0;
+        is = there.1;
+      }
 
   -- The place at a row and a column. Each may be one after the last, and a row two.
   pub place_at : {P : ℕ → Type 0} (row column : ℕ) {place : ℕ}
@@ -83,10 +86,7 @@ module _ (shape : Shape) (no_more : HasNoMore shape) where
       let trail = below trails y shape.width (omega (arith, column_is, at.in_columns)) in
       let row_of_lead : row ≡ x = row_is ∙ cond-true leads x shape.rows lead in
       let column_of_trail : column ≡ y = column_is ∙ cond-true trails y shape.width trail in
-      means c lead trail
-      (sym (ap (λ r. pointer_char shape (r * shape.width + column)) row_of_lead
-      ∙ ap (λ k. pointer_char shape (x * shape.width + k)) column_of_trail)
-      ∙ at.is))
+      means c lead trail (rw (row_of_lead, column_of_trail) at at.is))
 
 -- places of a property are places of one that follows from it
 pub places_of : {shape : Shape} {P Q : ℕ → Type 0} {place : ℕ} → IsPlaceOf shape P place

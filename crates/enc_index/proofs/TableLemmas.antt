@@ -35,27 +35,6 @@ ascending-going p [] h = tt
 ascending-going p (r ∷ rs) h =
     let parts = ascending_parts p r rs h in (omega (arith, parts.0, parts.1), parts.1, parts.2)
 
--- the three cases of the test
-module _ (p : ℕ) (r : Run) (rs : List Run) (t : ℕ) (ts : List ℕ)
-    (ok : table_ok p (r ∷ rs) (t ∷ ts) ≡ true) where
-  table_ok-before : p < r.0 → (t == 0 ≡ true) × (table_ok (p + 1) (r ∷ rs) ts ≡ true)
-  unfolding table_ok
-  table_ok-before l = and_parts _ _ (sym (cond-true _ _ _ (lt-ltb p r.0 l)) ∙ ok)
-
-  table_ok-within : r.0 ≤ p → p < r.1 → (t == r.2 + (p - r.0) ≡ true)
-      × (table_ok (p + 1) (r ∷ rs) ts ≡ true)
-  unfolding table_ok
-  table_ok-within l m =
-      and_parts _ _ (sym (cond-true _ _ _ (lt-ltb p r.1 m))
-      ∙ sym (cond-false _ _ _ (le-ltb p r.0 l)) ∙ ok)
-
-  table_ok-ends : r.0 ≤ p → r.1 ≤ p → (t == r.2 + (p - r.0) ≡ true)
-      × (table_ok (p + 1) rs ts ≡ true)
-  unfolding table_ok
-  table_ok-ends l m =
-      and_parts _ _ (sym (cond-false _ _ _ (le-ltb p r.1 m))
-      ∙ sym (cond-false _ _ _ (le-ltb p r.0 l)) ∙ ok)
-
 module _ (planes : Planes) where
   pub index_at-before : (r : Run) (rs : List Run) (q : ℕ) → q < r.0
       → index_at planes (r ∷ rs) q ≡ index_at planes rs q
@@ -79,80 +58,89 @@ module _ (planes : Planes) where
       index_at-before r rs q (omega (arith, parts.0))
       ∙ index_at-below (r.1 + 1) rs q parts.2 (omega (arith, parts.0, parts.1))
 
-  none : (t : ℕ) → t == 0 ≡ true → entry_character planes t ≡ None
-  none t h = ap (entry_character planes) (eqb-true t 0 h)
+  -- What the test of an entry says: it has the character of its pointer p, and the entries after
+  -- it pass with the runs that are left, which have the characters of the pointers after p.
+  record Passes (p t : ℕ) (runs : List Run) (ts : List ℕ) : Type 0 where
+    has : entry_character planes t ≡ index_at planes runs p
+    left : List Run
+    going : Going (p + 1) left
+    ok : table_ok (p + 1) left ts ≡ true
+    same : (q : ℕ) → p < q → index_at planes runs q ≡ index_at planes left q
 
-  some : (t u : ℕ) → t == u ≡ true → entry_character planes t ≡ entry_character planes u
-  some t u h = ap (entry_character planes) (eqb-true t u h)
+  same_entry : (t u : ℕ) → t == u ≡ true → entry_character planes t ≡ entry_character planes u
+  same_entry t u h = ap (entry_character planes) (eqb-true t u h)
 
-  at_zero : (runs : List Run) (p : ℕ) → index_at planes runs p ≡ index_at planes runs (p + 0)
-  at_zero runs p = ap (index_at planes runs) (omega arith)
-
-  at_suc : (runs : List Run) (p i : ℕ)
-      → index_at planes runs (p + 1 + i) ≡ index_at planes runs (p + suc i)
-  at_suc runs p i = ap (index_at planes runs) (omega arith)
-
-  entry_character-head : (t : ℕ) (ts : List ℕ) (p : ℕ) (r : Run) (rs : List Run) → Going p (r ∷ rs)
-      → table_ok p (r ∷ rs) (t ∷ ts) ≡ true
-      → entry_character planes t ≡ index_at planes (r ∷ rs) p
-  entry_character-head t ts p r rs going ok =
-      elim (cases_lt p r.0) [
-        | inl before ↦
-            none t (table_ok-before p r rs t ts ok before).0
-            ∙ sym (index_at-before r rs p before
-            ∙ index_at-below (r.1 + 1) rs p going.2 (omega (arith, going.1)))
-        | inr from ↦
-            elim (cases_lt p r.1) [
-              | inl within ↦
-                  some t _ (table_ok-within p r rs t ts ok from within).0
-                  ∙ sym (index_at-within r rs p from going.0)
-              | inr ends ↦
-                  some t _ (table_ok-ends p r rs t ts ok from ends).0
-                  ∙ sym (index_at-within r rs p from going.0)
-            ]
-      ]
-
-  pub entry_character-index_at : (ts : List ℕ) (p : ℕ) (runs : List Run) → Going p runs
-      → table_ok p runs ts ≡ true
-      → (i : ℕ) → entry_character planes (get_or ts i 0) ≡ index_at planes runs (p + i)
+  passes : (p t : ℕ) (runs : List Run) (ts : List ℕ) → Going p runs
+      → table_ok p runs (t ∷ ts) ≡ true → Passes p t runs ts
   unfolding table_ok
-  entry_character-index_at [] p [] going ok i = refl
-  entry_character-index_at [] p (r ∷ rs) going ok i = cc
-  entry_character-index_at (t ∷ ts) p [] going ok zero =
-      none t (and_parts (t == 0) (table_ok (p + 1) [] ts) ok).0
-  entry_character-index_at (t ∷ ts) p [] going ok (suc i) =
-      entry_character-index_at ts (p + 1) [] tt (and_parts (t == 0) (table_ok (p + 1) [] ts) ok).1 i
-  entry_character-index_at (t ∷ ts) p (r ∷ rs) going ok zero =
-      entry_character-head t ts p r rs going ok ∙ at_zero (r ∷ rs) p
-  entry_character-index_at (t ∷ ts) p (r ∷ rs) going ok (suc i) =
-      elim (cases_lt p r.0) [
-        | inl before ↦
-            entry_character-index_at ts (p + 1) (r ∷ rs) (omega (arith, going.1), going.1, going.2)
-            (table_ok-before p r rs t ts ok before).1 i
-            ∙ at_suc (r ∷ rs) p i
-        | inr from ↦
-            elim (cases_lt p r.1) [
-              | inl within ↦
-                  entry_character-index_at ts (p + 1) (r ∷ rs) (omega arith, going.1, going.2)
-                  (table_ok-within p r rs t ts ok from within).1 i
-                  ∙ at_suc (r ∷ rs) p i
-              | inr ends ↦
-                  let here : r.1 ≡ p = omega (arith, going.0) in
-                  entry_character-index_at ts (p + 1) rs
-                  (ascending-going (p + 1) rs
-                  (subst (λ k. are_ascending_runs (k + 1) rs ≡ true) here going.2))
-                  (table_ok-ends p r rs t ts ok from ends).1 i
-                  ∙ at_suc rs p i ∙ sym (index_at-after r rs (p + suc i) (omega arith))
-            ]
-      ]
+  passes p t [] ts going ok =
+      let parts = and_parts _ _ ok in
+      record {
+        has = same_entry t 0 parts.0;
+        left = [];
+        going = tt;
+        ok = parts.1;
+        same = λ q l. refl;
+      }
+  passes p t (r ∷ rs) ts going ok = elim (cases_lt p r.0) [
+    | inl before ↦
+        let parts = and_parts _ _ (sym (cond-true _ _ _ (lt-ltb p r.0 before)) ∙ ok) in
+        record {
+          has = same_entry t 0 parts.0
+              ∙ sym (index_at-before r rs p before
+              ∙ index_at-below (r.1 + 1) rs p going.2 (omega (arith, going.1)));
+          left = r ∷ rs;
+          going = (omega (arith, going.1), going.1, going.2);
+          ok = parts.1;
+          same = λ q l. refl;
+        }
+    | inr from ↦
+        let from_on = sym (cond-false _ _ _ (le-ltb p r.0 from)) ∙ ok in
+        elim (cases_lt p r.1) [
+          | inl within ↦
+              let parts = and_parts _ _ (sym (cond-true _ _ _ (lt-ltb p r.1 within)) ∙ from_on) in
+              record {
+                has = same_entry t _ parts.0 ∙ sym (index_at-within r rs p from going.0);
+                left = r ∷ rs;
+                going = (omega arith, going.1, going.2);
+                ok = parts.1;
+                same = λ q l. refl;
+              }
+          | inr ends ↦
+              let last : r.1 ≡ p = omega (arith, going.0) in
+              let parts = and_parts _ _ (sym (cond-false _ _ _ (le-ltb p r.1 ends)) ∙ from_on) in
+              record {
+                has = same_entry t _ parts.0 ∙ sym (index_at-within r rs p from going.0);
+                left = rs;
+                going = ascending-going (p + 1) rs
+                    (subst (λ k. are_ascending_runs (k + 1) rs ≡ true) last going.2);
+                ok = parts.1;
+                same = λ q l. index_at-after r rs q (omega arith);
+              }
+        ]
+  ]
+
+  entry_character-index_at : (ts : List ℕ) (p : ℕ) (runs : List Run) → Going p runs
+      → table_ok p runs ts ≡ true → (i q : ℕ) → q ≡ p + i
+      → entry_character planes (get_or ts i 0) ≡ index_at planes runs q
+  unfolding table_ok
+  entry_character-index_at [] p [] going ok i q is_pointer = refl
+  entry_character-index_at [] p (r ∷ rs) going ok i q is_pointer = cc
+  entry_character-index_at (t ∷ ts) p runs going ok zero q is_pointer =
+      let here : p ≡ q = omega arith in
+      (passes p t runs ts going ok).has ∙ ap (index_at planes runs) here
+  entry_character-index_at (t ∷ ts) p runs going ok (suc i) q is_pointer =
+      let first = passes p t runs ts going ok in
+      entry_character-index_at ts (p + 1) first.left first.going first.ok i q (omega arith)
+      ∙ sym (first.same q (omega arith))
 
   -- a table that passes has the characters of the runs
   pub agrees-true : (runs : List Run) (table : List ℕ) → agrees runs table ≡ true
       → (p : ℕ) → entry_character planes (get_or table p 0) ≡ index_at planes runs p
   agrees-true runs table ok p =
-      let parts = and_parts (are_ascending_runs 0 runs) (table_ok 0 runs table) ok in
-      entry_character-index_at table 0 runs (ascending-going 0 runs parts.0) parts.1 p
-      ∙ ap (index_at planes runs) (omega arith)
+      let parts = and_parts _ _ ok in
+      entry_character-index_at table 0 runs (ascending-going 0 runs parts.0) parts.1 p p
+      (omega arith)
 
 -- past the end of a table no pointer has a character
 pub entry_character-past : (planes : Planes) (ts : List ℕ) (character : Option ℕ) (p : ℕ)

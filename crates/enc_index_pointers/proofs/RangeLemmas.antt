@@ -1,15 +1,15 @@
 -- Index gb18030 ranges by code point.
-use Rattle.std.proofs.Common.{◌≡◌, ℕ, ◌+◌, ◌-◌, ◌<◌, ◌≤◌, Bool, true, false, refl, sym, ap, ◌∙◌, subst, cond, ◌&&◌}
+use Rattle.std.proofs.Common.{◌≡◌, ℕ, ◌+◌, ◌-◌, ◌<◌, ◌≤◌, Bool, true, false, sym, ap, ◌∙◌, subst, cond, ◌&&◌}
 use Rattle.std.proofs.Common.{◌||◌, ◌==◌, nat_lt, nat_le, List, [], ◌∷◌, Option, Some, None, arith, inl, inr, le-leb}
-use Rattle.std.specs.Prelude.{◌⊎◌}
-use Rattle.std.proofs.lemmas.Bool.{cond-true, cond-false, cases_Bool, and_parts, and_from, cases_lt, true≢false}
+use Rattle.std.proofs.lemmas.Bool.{cond-true, cond-false, cases_Bool, and_parts, and_from, leb-true, true≢false}
 use Rattle.std.proofs.lemmas.Bool.Decides.{nat_tests}
 use Rattle.enc_index.specs.declared.table.Planes.TheVariants.{All}
 use Rattle.enc_index.specs.Index.{Run, entry_character, is_entry_code_point, index_at}
 use Rattle.enc_index.specs.Search.{are_ascending_runs, run_with_pointer}
 use Rattle.enc_index_pointers.specs.Pointers.{is_ranges_pointer}
 use Rattle.enc_index.proofs.RunSearchLemmas.{ascending_parts, outside}
-use Rattle.enc_index.proofs.TableLemmas.{index_at-before, index_at-after, index_at-within}
+use Rattle.enc_index.proofs.PlaceLemmas.{same_some, some_of_cond}
+use Rattle.enc_index.proofs.TableLemmas.{index_at-after, index_at-within}
 
 -- a run the other way: first code point, last code point, and the pointer of the first
 abbrev pub turned : Run → Run
@@ -54,25 +54,6 @@ module _ (a b v : ℕ) (h : is_range (a, b, v) ≡ true) where
   is_alone : (a == 7457) ≡ true → (q : ℕ) → a ≤ q → q ≤ b → is_ranges_pointer q ≡ false
   unfolding is_range
   is_alone same q from to = grind (arith, nat_tests)
-
-by_code_point-alone : (run : Run) (runs : List Run) → (run.0 == 7457) ≡ true
-    → by_code_point (run ∷ runs) ≡ by_code_point runs
-unfolding by_code_point
-by_code_point-alone run runs h = cond-true _ _ _ h
-
-by_code_point-more : (run : Run) (runs : List Run) → (run.0 == 7457) ≡ false
-    → by_code_point (run ∷ runs) ≡ turned run ∷ by_code_point runs
-unfolding by_code_point
-by_code_point-more run runs h = cond-false _ _ _ h
-
-run_with_pointer-here : (run : Run) (runs : List Run) (n : ℕ) → run.0 ≤ n → n ≤ run.1
-    → run_with_pointer (run ∷ runs) n ≡ Some run
-run_with_pointer-here run runs n from to =
-    cond-true _ _ _ (and_from _ _ (le-leb run.0 n from) (le-leb n run.1 to))
-
-run_with_pointer-past : (run : Run) (runs : List Run) (n : ℕ) → (run.1 < n) ⊎ (n < run.0)
-    → run_with_pointer (run ∷ runs) n ≡ run_with_pointer runs n
-run_with_pointer-past run runs n h = cond-false _ _ _ (outside run n h)
 
 -- q is a pointer of the character c: it counts, its entry is c, and it lies below 1237576, and from
 -- `low_pointer` on. The induction needs this: a pointer of a later run lies after the first run.
@@ -121,35 +102,24 @@ pub sound : (low : ℕ) (runs : List Run) (c : ℕ) (found : Run) → are_ascend
 unfolding by_code_point are_ranges
 sound low [] c found up ok is_found = cc
 sound low (run ∷ runs) c found up ok is_found =
-    let tests = and_parts (is_range run) (are_ranges runs) ok in
+    let tests = and_parts _ _ ok in
     let rest_ascends = (ascending_parts low run runs up).2 in
     let in_rest = λ (is_in_rest : run_with_pointer (by_code_point runs) c ≡ Some found).
     later_is_pointer low run runs c up tests.0 (found.2 + (c - found.0))
     (sound (run.1 + 1) runs c found rest_ascends tests.1 is_in_rest) in
     elim (cases_Bool (run.0 == 7457)) [
-      | inl alone ↦
-          in_rest (sym (ap (λ l. run_with_pointer l c) (by_code_point-alone run runs alone))
-          ∙ is_found)
+      | inl alone ↦ in_rest (rw alone at is_found)
       | inr other ↦
-          let is_in_turned : run_with_pointer (turned run ∷ by_code_point runs) c ≡ Some found =
-          sym (ap (λ l. run_with_pointer l c) (by_code_point-more run runs other)) ∙ is_found in
-          elim (cases_lt c run.2) [
-            | inl before ↦ in_rest (sym
-                (run_with_pointer-past (turned run) (by_code_point runs) c (inr before))
-                ∙ is_in_turned)
-            | inr begins ↦
-                elim (cases_lt (run.2 + (run.1 - run.0)) c) [
-                  | inl after ↦
-                      in_rest (sym (run_with_pointer-past (turned run) (by_code_point runs) c
-                      (inl after)) ∙ is_in_turned)
-                  | inr ends ↦
-                      let here : Some (turned run) ≡ Some found =
-                      sym (run_with_pointer-here (turned run) (by_code_point runs) c begins ends)
-                      ∙ is_in_turned in
-                      let same : turned run ≡ found = cc in
-                      subst (λ r. IsPointerOf (run ∷ runs) c (r.2 + (c - r.0)) low) same
-                      (first_is_pointer low run runs c up tests.0 other begins ends)
-                ]
+          let is_in_turned = rw other at is_found in
+          elim (cases_Bool (nat_le run.2 c && nat_le c (run.2 + (run.1 - run.0)))) [
+            | inl inside ↦
+                let here : Some (turned run) ≡ Some found = rw inside at is_in_turned in
+                let same : turned run ≡ found = cc in
+                let bounds = and_parts _ _ inside in
+                subst (λ r. IsPointerOf (run ∷ runs) c (r.2 + (c - r.0)) low) same
+                (first_is_pointer low run runs c up tests.0 other (leb-true _ _ bounds.0)
+                (leb-true _ _ bounds.1))
+            | inr past ↦ in_rest (rw past at is_in_turned)
           ]
     ]
 
@@ -158,22 +128,11 @@ abbrev pub pointer_in_run : ℕ → Option Run → Option ℕ
 pointer_in_run c None = None
 pointer_in_run c (Some run) = Some (run.2 + (c - run.0))
 
--- an entry that has a character has that of its code point
-entry_code_point : (is_entry : Bool) (d c : ℕ) → cond is_entry (Some d) None ≡ Some c → d ≡ c
-entry_code_point true d c h = cc
-entry_code_point false d c h = cc
-
 -- In runs by code point, the search for c gives the pointer q, and c is at least `low_char`. The
 -- induction needs this: a character of a later run lies after the first run.
 abbrev IsFound : List Run → ℕ → ℕ → ℕ → Type 0
 IsFound runs c q low_char =
     (pointer_in_run c (run_with_pointer runs c) ≡ Some q) × (low_char ≤ c)
-
-turned_ascends : (low : ℕ) (run : Run) (runs : List Run) → (run.0 == 7457) ≡ false
-    → are_ascending_runs low (by_code_point (run ∷ runs)) ≡ true
-    → are_ascending_runs low (turned run ∷ by_code_point runs) ≡ true
-turned_ascends low run runs other up =
-    subst (λ l. are_ascending_runs low l ≡ true) (by_code_point-more run runs other) up
 
 module _ (low : ℕ) (run : Run) (rest : List Run) (c q : ℕ)
     (up : are_ascending_runs low (turned run ∷ rest) ≡ true) where
@@ -183,9 +142,9 @@ module _ (low : ℕ) (run : Run) (rest : List Run) (c q : ℕ)
       let begins : run.2 ≤ c = omega arith in
       let ends : c ≤ run.2 + (run.1 - run.0) = omega arith in
       let same : run.0 + (c - run.2) ≡ q = omega arith in
+      let inside = and_from _ _ (le-leb run.2 c begins) (le-leb c _ ends) in
       let parts = ascending_parts low (turned run) rest up in (
-        ap (pointer_in_run c) (run_with_pointer-here (turned run) rest c begins ends)
-            ∙ ap Some same,
+        ap (pointer_in_run c) (cond-true _ _ _ inside) ∙ ap Some same,
         omega (arith, parts.0),
       )
 
@@ -194,8 +153,7 @@ module _ (low : ℕ) (run : Run) (rest : List Run) (c q : ℕ)
   later_is_found is_later =
       let parts = ascending_parts low (turned run) rest up in
       let past : run.2 + (run.1 - run.0) < c = omega (arith, is_later.1) in (
-        ap (pointer_in_run c) (run_with_pointer-past (turned run) rest c (inl past))
-            ∙ is_later.0,
+        ap (pointer_in_run c) (cond-false _ _ _ (outside (turned run) c (inl past))) ∙ is_later.0,
         omega (arith, parts.0, parts.1, past),
       )
 
@@ -204,40 +162,34 @@ pub complete : (low : ℕ) (runs : List Run) (c q : ℕ)
     → are_ascending_runs low (by_code_point runs) ≡ true → are_ranges runs ≡ true
     → is_ranges_pointer q ≡ true → index_at All runs q ≡ Some c
     → IsFound (by_code_point runs) c q low
-unfolding are_ranges
+unfolding by_code_point are_ranges
 complete low [] c q up ok counted has_char = cc
 complete low (run ∷ runs) c q up ok counted has_char =
-    let tests = and_parts (is_range run) (are_ranges runs) ok in
-    let in_rest : index_at All runs q ≡ Some c → IsFound (by_code_point (run ∷ runs)) c q low =
-    λ has_it. elim (cases_Bool (run.0 == 7457)) [
-      | inl alone ↦
-          let same = by_code_point-alone run runs alone in
-          subst (λ l. IsFound l c q low) (sym same)
-          (complete low runs c q (subst (λ l. are_ascending_runs low l ≡ true) same up) tests.1
-          counted has_it)
-      | inr other ↦
-          let ascends = turned_ascends low run runs other up in
-          let rest_ascends = (ascending_parts low (turned run) (by_code_point runs) ascends).2 in
-          subst (λ l. IsFound l c q low) (sym (by_code_point-more run runs other))
-          (later_is_found low run (by_code_point runs) c q ascends
-          (complete (run.2 + (run.1 - run.0) + 1) runs c q rest_ascends tests.1 counted has_it))
-    ] in
-    elim (cases_lt q run.0) [
-      | inl before ↦ in_rest (sym (index_at-before All run runs q before) ∙ has_char)
-      | inr from ↦
-          elim (cases_lt run.1 q) [
-            | inl after ↦ in_rest (sym (index_at-after All run runs q after) ∙ has_char)
-            | inr to ↦
-                elim (cases_Bool (run.0 == 7457)) [
-                  -- 7457 doesn't count
-                  | inl alone ↦ absurd (true≢false
-                      (sym counted ∙ is_alone run.0 run.1 run.2 tests.0 alone q from to))
-                  | inr other ↦
-                      let has_code_point = entry_code_point _ _ _
-                      (sym (index_at-within All run runs q from to) ∙ has_char) in
-                      subst (λ l. IsFound l c q low) (sym (by_code_point-more run runs other))
-                      (first_is_found low run (by_code_point runs) c q
-                      (turned_ascends low run runs other up) from to has_code_point)
-                ]
+    let tests = and_parts _ _ ok in
+    elim (cases_Bool (nat_le run.0 q && nat_le q run.1)) [
+      | inl inside ↦
+          let bounds = and_parts _ _ inside in
+          let from = leb-true run.0 q bounds.0 in
+          let to = leb-true q run.1 bounds.1 in
+          elim (cases_Bool (run.0 == 7457)) [
+            -- 7457 doesn't count
+            | inl alone ↦ absurd (true≢false
+                (sym counted ∙ is_alone run.0 run.1 run.2 tests.0 alone q from to))
+            | inr other ↦
+                let entry = some_of_cond _ _ _ (rw inside at has_char) in
+                rw other (first_is_found low run (by_code_point runs) c q (rw other at up) from to
+                (same_some _ _ entry.1))
+          ]
+      | inr past ↦
+          let has_it = rw past at has_char in
+          elim (cases_Bool (run.0 == 7457)) [
+            | inl alone ↦
+                rw alone (complete low runs c q (rw alone at up) tests.1 counted has_it)
+            | inr other ↦
+                let ascends = rw other at up in
+                rw other (later_is_found low run (by_code_point runs) c q ascends
+                (complete (run.2 + (run.1 - run.0) + 1) runs c q
+                (ascending_parts low (turned run) (by_code_point runs) ascends).2 tests.1 counted
+                has_it))
           ]
     ]

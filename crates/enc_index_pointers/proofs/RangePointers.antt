@@ -1,7 +1,7 @@
 -- A search of index gb18030 ranges by code point finds the index gb18030 ranges pointer.
 use Rattle.std.proofs.Common.{◌≡◌, ℕ, ◌+◌, ◌-◌, ◌<◌, Bool, true, refl, sym, ap, ◌∙◌, subst, ◌&&◌, Option, Some, None}
 use Rattle.std.proofs.Common.{arith, eqb-true}
-use Rattle.std.proofs.lemmas.Bool.{cond-false, and_parts, and_from, false_from_ne_true}
+use Rattle.std.proofs.lemmas.Bool.{cond-true, cond-false, and_parts, and_from, false_from_ne_true, lt-ltb}
 use Rattle.std.proofs.lemmas.Bool.Decides.{nat_tests}
 use Rattle.enc_index.specs.declared.list.List.TheVariants.{Gb18030Ranges}
 use Rattle.enc_index_pointers.specs.declared.pages.gb18030_ranges.TheConstants.{GB18030_RANGES_BY_CODE_POINT}
@@ -9,22 +9,21 @@ use Rattle.enc_index.specs.Index.{Run}
 use Rattle.enc_index.specs.Runs.{runs_of, gb18030_ranges_at}
 use Rattle.enc_index.specs.Search.{are_ascending_runs, run_with_pointer}
 use Rattle.enc_index_pointers.specs.Pointers.{first_below, is_character, is_ranges_pointer, gb18030_ranges_pointer}
-use Rattle.enc_index_pointers.proofs.BelowLemmas.{first_below-None, first_below-Some}
+use Rattle.enc_index_pointers.proofs.BelowLemmas.{first_below-is}
 use Rattle.enc_index.proofs.RangesAscend.{gb18030_ranges_ascends}
-use Rattle.enc_index_pointers.proofs.RangeLemmas.{by_code_point, are_ranges, IsPointerOf, pointer_in_run, sound}
+use Rattle.enc_index_pointers.proofs.RangeLemmas.{by_code_point, is_range, are_ranges, IsPointerOf, pointer_in_run, sound}
 use Rattle.enc_index_pointers.proofs.RangeLemmas.{complete}
-use Rattle.enc_index_pointers.proofs.Computing.{tests}
 
 are_all_ranges : are_ranges (runs_of Gb18030Ranges) ≡ true
-unfolding tests
+unfolding runs_of is_range are_ranges
 are_all_ranges = refl
 
 all_by_code_point : by_code_point (runs_of Gb18030Ranges) ≡ GB18030_RANGES_BY_CODE_POINT.now
-unfolding tests
+unfolding runs_of by_code_point
 all_by_code_point = refl
 
 pub by_code_point_ascends : are_ascending_runs 0 GB18030_RANGES_BY_CODE_POINT.now ≡ true
-unfolding tests
+unfolding are_ascending_runs
 by_code_point_ascends = refl
 
 abbrev is_pointer_of : ℕ → ℕ → Bool
@@ -61,19 +60,17 @@ module _ (c : ℕ) where
   first_pointer : (o : Option Run) → run_with_pointer GB18030_RANGES_BY_CODE_POINT.now c ≡ o
       → first_below (is_pointer_of c) 1237576 ≡ pointer_in_run c o
   first_pointer None is_found =
-      first_below-None (is_pointer_of c) 1237576
-      (λ q l. false_from_ne_true _
-      (λ t. let none_is_some = sym (ap (pointer_in_run c) is_found) ∙ pointer_is_found q t in cc))
+      first_below-is (is_pointer_of c) 1237576 1237576 (λ l. absurd (omega arith))
+      (λ q l t. absurd (let none_is_some = sym (ap (pointer_in_run c) is_found)
+      ∙ pointer_is_found q t in cc))
   first_pointer (Some run) is_found =
       let found = found_is_pointer run is_found in
-      first_below-Some (is_pointer_of c) 1237576 (run.2 + (c - run.0)) found.below
-      (and_from _ _ found.is_counted (Some-is_character c _ found.has))
-      (λ q l. false_from_ne_true _
-      (λ t.
+      first_below-is (is_pointer_of c) (run.2 + (c - run.0)) 1237576
+      (λ _. and_from _ _ found.is_counted (Some-is_character c _ found.has))
+      (λ q l t.
       let both_found = sym (ap (pointer_in_run c) is_found) ∙ pointer_is_found q t in
-      let same : run.2 + (c - run.0) ≡ q = cc in
-      let contradiction : ⊥ = omega (arith, same, l) in
-      contradiction))
+      let same : run.2 + (c - run.0) ≡ q = cc in omega (arith, same))
+      ∙ cond-true _ _ _ (lt-ltb _ 1237576 found.below)
 
   pub ranges_pointer : (c ≡ 0xE7C7 → ⊥)
       → pointer_in_run c (run_with_pointer GB18030_RANGES_BY_CODE_POINT.now c)

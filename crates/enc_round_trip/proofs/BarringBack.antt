@@ -16,10 +16,6 @@ not_barred : (t : Bool) (x : Option (List ℕ)) → is_some (if t then None else
 not_barred true x h = cc
 not_barred false x h = refl
 
-same_bytes : (b : List ℕ) (bytes : ℕ → Option (List ℕ)) (c : ℕ)
-    → is_some (bytes_unless_barred b bytes c) ≡ true → bytes_unless_barred b bytes c ≡ bytes c
-same_bytes b bytes c h = not_barred (is_barred b c) (bytes c) h
-
 -- so a text has them
 
 module _ (b : List ℕ) (e : EncoderRule) where
@@ -28,7 +24,7 @@ module _ (b : List ℕ) (e : EncoderRule) where
   still_mapped [] m = refl
   still_mapped (c ∷ t) m =
       let both = first_mapped (barring_rule b e) c t m in
-      let same = same_bytes b e.bytes c both.0 in
+      let same = not_barred (is_barred b c) (e.bytes c) both.0 in
       ap (λ (x : Option (List ℕ)). not (is_some x) || any_unmappable e t) (sym same)
       ∙ ap (λ x. not x || any_unmappable e t) both.0 ∙ still_mapped t both.1
 
@@ -41,6 +37,6 @@ module _ (b : List ℕ) (e : EncoderRule) where
       let front = escape_before e (e.set_after s u) c in
       ap (λ (x : Option (List ℕ)). front
       ++ (list_or_empty x ++ bytes_after_text (barring_rule b e) s (u ++ c ∷ []) t))
-      (same_bytes b e.bytes c both.0)
+      (not_barred (is_barred b c) (e.bytes c) both.0)
       ∙ ap (λ x. front ++ (list_or_empty (e.bytes c) ++ x))
       (same_bytes_after s (u ++ c ∷ []) t both.1)

@@ -10,7 +10,7 @@ use Rattle.enc_decoder_multi_byte.specs.MultiByte.{multi_byte_rule}
 use Rattle.enc_decoder_multi_byte.specs.Big5 as big5
 use Rattle.enc_encode.specs.Big5.{big5_trail_byte, big5_bytes}
 use Rattle.enc_round_trip.proofs.ReadBackLemmas.{IsReadBack}
-use Rattle.enc_round_trip.proofs.PointerLemmas.{IsPointer, is_pointer}
+use Rattle.enc_round_trip.proofs.PointerLemmas.{is_pointer}
 use Rattle.enc_round_trip.proofs.DoubleByteBack.{within, IsPair, by_pairs}
 
 -- the trail of a cell determines the cell
@@ -36,21 +36,17 @@ text_at p o h e =
     cond-false _ _ _ not_1133 ∙ cond-false _ _ _ not_1135 ∙ cond-false _ _ _ not_1164
     ∙ cond-false _ _ _ not_1166 ∙ ap text_of_char e
 
-big5_pair : (c p : ℕ) → IsPointer big5_at is_big5_pointer 19782 c p
+by_big5_pointer : (c p : ℕ) → big5_pointer c ≡ Some p
     → IsPair big5.is_big5_lead big5.big5_pair_text (p / 157 + 0x81) (big5_trail_byte (p % 157)) c
-big5_pair c p has_pointer =
+unfolding big5_pointer
+by_big5_pointer c p found =
+    let has_pointer = is_pointer big5_at is_big5_pointer is_last_in_big5 19782 c p found in
     let below = has_pointer.below in record {
       leads = within 0x81 0xFE (p / 157 + 0x81) (omega arith) (omega arith);
       has = cond-true _ _ _ (is_trail (p % 157) (omega arith))
           ∙ ap big5.big5_pointer_text (big5_pointer_is p)
           ∙ text_at p (Some c) has_pointer.counted has_pointer.has;
     }
-
-by_big5_pointer : (c p : ℕ) → big5_pointer c ≡ Some p
-    → IsPair big5.is_big5_lead big5.big5_pair_text (p / 157 + 0x81) (big5_trail_byte (p % 157)) c
-unfolding big5_pointer
-by_big5_pointer c p e =
-    big5_pair c p (is_pointer big5_at is_big5_pointer is_last_in_big5 19782 c p e)
 
 pub big5_is_read : IsReadBack (multi_byte_rule big5.big5_prefix) big5_bytes (λ c. c)
 big5_is_read =

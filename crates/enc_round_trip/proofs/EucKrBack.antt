@@ -10,15 +10,17 @@ use Rattle.enc_decoder_multi_byte.specs.MultiByte.{multi_byte_rule}
 use Rattle.enc_decoder_multi_byte.specs.EucKr as euc_kr
 use Rattle.enc_encode.specs.EucKr.{euc_kr_bytes}
 use Rattle.enc_round_trip.proofs.ReadBackLemmas.{IsReadBack}
-use Rattle.enc_round_trip.proofs.PointerLemmas.{IsPointer, is_pointer}
+use Rattle.enc_round_trip.proofs.PointerLemmas.{is_pointer}
 use Rattle.enc_round_trip.proofs.DoubleByteBack.{within, IsPair, by_pairs}
 
 pointer_is : (p : ℕ) → euc_kr.euc_kr_pair_pointer (p / 190 + 0x81) (p % 190 + 0x41) ≡ p
 pointer_is p = omega arith
 
-has_pair : (c p : ℕ) → IsPointer euc_kr_at any_pointer 23940 c p
+has_pair : (c p : ℕ) → euc_kr_pointer c ≡ Some p
     → IsPair euc_kr.is_euc_kr_lead euc_kr.euc_kr_pair_text (p / 190 + 0x81) (p % 190 + 0x41) c
-has_pair c p has_pointer =
+unfolding euc_kr_pointer
+has_pair c p found =
+    let has_pointer = is_pointer euc_kr_at any_pointer no_character 23940 c p found in
     let below = has_pointer.below in record {
       leads = within 0x81 0xFE (p / 190 + 0x81) (omega arith) (omega arith);
       has =
@@ -27,14 +29,8 @@ has_pair c p has_pointer =
           ∙ ap euc_kr_at (pointer_is p) ∙ has_pointer.has);
     }
 
-has_pair_by_pointer : (c p : ℕ) → euc_kr_pointer c ≡ Some p
-    → IsPair euc_kr.is_euc_kr_lead euc_kr.euc_kr_pair_text (p / 190 + 0x81) (p % 190 + 0x41) c
-unfolding euc_kr_pointer
-has_pair_by_pointer c p e =
-    has_pair c p (is_pointer euc_kr_at any_pointer no_character 23940 c p e)
-
 pub euc_kr_is_read : IsReadBack (multi_byte_rule euc_kr.euc_kr_prefix) euc_kr_bytes (λ c. c)
 euc_kr_is_read =
     by_pairs euc_kr.is_euc_kr_lead euc_kr.euc_kr_pair_text (λ p. p / 190 + 0x81)
     (λ p. p % 190 + 0x41) euc_kr_pointer
-    (λ b l. grind (arith, nat_tests)) has_pair_by_pointer
+    (λ b l. grind (arith, nat_tests)) has_pair

@@ -2,7 +2,7 @@
 use Rattle.std.proofs.Common.{◌≡◌, ℕ, ◌+◌, ◌-◌, ◌/◌, ◌%◌, ◌<◌, ◌≤◌, Bool, true, false, cond, nat_lt, ◌&&◌, ◌==◌, Option}
 use Rattle.std.proofs.Common.{Some, None, List, [], ◌∷◌, map, refl, ap, sym, subst, ◌∙◌, arith, if◌then◌else◌, not}
 use Rattle.std.proofs.Common.{nat_le, IfSome, inl, inr}
-use Rattle.std.proofs.lemmas.Bool.{cond-true, cond-false, lt-ltb, or_parts}
+use Rattle.std.proofs.lemmas.Bool.{cond-true, cond-false, lt-ltb, not-true, or_parts}
 use Rattle.std.proofs.lemmas.Bool.Decides.{nat_tests}
 use Rattle.std.specs.Cmp.{first_so, second_so}
 use Rattle.enc_index.specs.Runs.{runs_of, gb18030_at, gb18030_ranges_at}
@@ -81,21 +81,6 @@ two_at c p f = is_pointer gb18030_at any_pointer no_character 23940 c p f
 
 -- four bytes
 
-four_complete : (a b c d ch : ℕ) → 0x81 ≤ a → a ≤ 0xFE → 0x30 ≤ b → b ≤ 0x39 → 0x81 ≤ c → c ≤ 0xFE
-    → 0x30 ≤ d → d ≤ 0x39
-    → decoder.ranges_code_point (decoder.four_byte_pointer a b c d) ≡ Some ch
-    → Piece (a ∷ b ∷ c ∷ d ∷ []) ch
-four_complete a b c d ch al ah bl bh cl ch' dl dh e y =
-    settled_first decoder.gb18030_prefix 0 (a ∷ b ∷ c ∷ []) d y 4 (One ch) Valid (
-      leads a al ah,
-      (
-        cond-true _ _ _ (within 0x30 0x39 b bl bh),
-        (cond-true _ _ _ (within 0x81 0xFE c cl ch'), tt),
-      ),
-    )
-    (settles_complete decoder.gb18030_prefix (a ∷ b ∷ c ∷ d ∷ []) (One ch) (omega arith)
-    (cond-true _ _ _ (within 0x30 0x39 d dl dh) ∙ ap decoder.four_byte_prefix e))
-
 four_pointer : (p : ℕ)
     → decoder.four_byte_pointer (p / 12600 + 0x81) (p % 12600 / 1260 + 0x30) (p % 1260 / 10 + 0x81)
     (p % 10 + 0x30) ≡ p
@@ -103,12 +88,21 @@ four_pointer p = omega arith
 
 four_piece : (c p : ℕ) → p < 1237576 → decoder.ranges_code_point p ≡ Some c
     → Piece (gb18030_four_bytes p) c
-four_piece c p l e =
-    four_complete (p / 12600 + 0x81) (p % 12600 / 1260 + 0x30) (p % 1260 / 10 + 0x81)
-    (p % 10 + 0x30) c
-    (omega arith) (omega arith) (omega arith) (omega arith) (omega arith) (omega arith)
-    (omega arith) (omega arith)
-    (ap decoder.ranges_code_point (four_pointer p) ∙ e)
+four_piece c p below has y =
+    let first = p / 12600 + 0x81 in
+    let second = p % 12600 / 1260 + 0x30 in
+    let third = p % 1260 / 10 + 0x81 in
+    let fourth = p % 10 + 0x30 in
+    settled_first decoder.gb18030_prefix 0 (first ∷ second ∷ third ∷ []) fourth y 4 (One c) Valid (
+      leads first (omega arith) (omega arith),
+      (
+        cond-true _ _ _ (within 0x30 0x39 second (omega arith) (omega arith)),
+        (cond-true _ _ _ (within 0x81 0xFE third (omega arith) (omega arith)), tt),
+      ),
+    )
+    (settles_complete decoder.gb18030_prefix (gb18030_four_bytes p) (One c) (omega arith)
+    (cond-true _ _ _ (within 0x30 0x39 fourth (omega arith) (omega arith))
+    ∙ ap decoder.four_byte_prefix (ap decoder.ranges_code_point (four_pointer p) ∙ has)))
 
 in_ranges : (c p : ℕ) → IsPointer gb18030_ranges_at is_ranges_pointer 1237576 c p
     → decoder.ranges_code_point p ≡ Some c
@@ -165,16 +159,12 @@ same_code : (row : ℕ × ℕ × ℕ) (read : ℕ × ℕ) → is_read_as row rea
 same_code row read h =
     let same : (row.0 == read.0) ≡ true = first_so _ _ (first_so _ _ h) in grind (arith, nat_tests)
 
-is_false : (b : Bool) → not b ≡ true → b ≡ false
-is_false true h = cc
-is_false false h = refl
-
 row_piece : (row : ℕ × ℕ × ℕ) (read : ℕ × ℕ) → is_read_as row read ≡ true
     → Piece (row.1 ∷ row.2 ∷ []) read.1
 row_piece row read h =
     let code_and_trail : (row.0 == read.0 && not (decoder.is_digit row.2)) ≡ true =
     first_so _ _ h in
-    let no_digit = is_false (decoder.is_digit row.2) (second_so _ _ code_and_trail) in
+    let no_digit = not-true (decoder.is_digit row.2) (second_so _ _ code_and_trail) in
     let bytes_match : (decoder.is_gb18030_lead row.1
     && is_character read.1 (decoder.gb18030_pair_char row.1 row.2)) ≡ true = second_so _ _ h in
     complete_two decoder.gb18030_prefix row.1 row.2 read.1
@@ -262,7 +252,7 @@ itself (row ∷ rows) c none =
 
 pub gb18030_keeps : (t : List ℕ) → not (any_read_as_other t) ≡ true
     → map (char_by_rows replaced_characters) t ≡ t
-gb18030_keeps t h = all_itself t (is_false _ h)
+gb18030_keeps t h = all_itself t (not-true _ h)
   where
     all_itself : (t : List ℕ) → any_read_as_other t ≡ false
         → map (char_by_rows replaced_characters) t ≡ t

@@ -28,7 +28,7 @@ use Rattle.enc_encode.specs.Iso2022Jp.{class_of, has_class, set_of_class, is_shi
 use Rattle.enc_encode.specs.Iso2022Jp.{iso_2022_jp_bytes, iso_2022_jp_encoder_rule}
 use Rattle.enc_encode.proofs.Iso2022JpLemmas.{iso_2022_jp_is_lawful}
 use Rattle.enc_encoder.specs.Unmappable.{any_unmappable}
-use Rattle.enc_round_trip.proofs.ReadBackLemmas.{IsReadAs, read_nothing, read_more, first_mapped}
+use Rattle.enc_round_trip.proofs.ReadBackLemmas.{IsReadAs, read_nothing, read_more, first_mapped, of_bytes}
 use Rattle.enc_round_trip.proofs.PointerLemmas.{IsPointer, by_pointer}
 use Rattle.enc_round_trip.proofs.DoubleByteBack.{within}
 use Rattle.enc_round_trip.proofs.JapaneseBack.{at_jis0208_pointer}
@@ -81,8 +81,7 @@ has s c = has_class s (class_of c)
 
 latin_set : (s : CharacterSet) → has_class s (class_of 0x5C) ≡ true → s ≡ Ascii
 latin_set Ascii h = refl
-latin_set Roman h = cc
-latin_set Jis0208 h = cc
+latin_set _ h = cc
 
 neutral_set : (s : CharacterSet) → has_class s (class_of 0x41) ≡ true → (s ≡ Ascii) ⊎ (s ≡ Roman)
 neutral_set Ascii h = inl refl
@@ -90,14 +89,12 @@ neutral_set Roman h = inr refl
 neutral_set Jis0208 h = cc
 
 roman_set : (s : CharacterSet) → has_class s (class_of 0xA5) ≡ true → s ≡ Roman
-roman_set Ascii h = cc
 roman_set Roman h = refl
-roman_set Jis0208 h = cc
+roman_set _ h = cc
 
 kanji_set : (s : CharacterSet) → has_class s (class_of 0x4E00) ≡ true → s ≡ Jis0208
-kanji_set Ascii h = cc
-kanji_set Roman h = cc
 kanji_set Jis0208 h = refl
+kanji_set _ h = cc
 
 -- single bytes
 
@@ -111,18 +108,14 @@ no_escape c n = grind (arith, nat_tests)
 in_ascii : (c : ℕ) → nat_lt c 0x80 ≡ true → is_shift c ≡ false → IsReadIn Ascii (c ∷ []) c
 unfolding one_byte_char is_lead_byte
 in_ascii c l not_shift =
-    let reads_ascii = is_ascii c l not_shift in
-    one_read Ascii c c (rw reads_ascii refl) refl (no_escape c not_shift)
+    one_read Ascii c c (rw (is_ascii c l not_shift) refl) refl (no_escape c not_shift)
 
 in_roman : (c : ℕ) → nat_lt c 0x80 ≡ true → is_shift c ≡ false → (c == 0x5C || c == 0x7E) ≡ false
     → IsReadIn Roman (c ∷ []) c
 unfolding one_byte_char is_lead_byte
 in_roman c l not_shift k =
     let either = or_parts (c == 0x5C) (c == 0x7E) k in
-    let reads_ascii = is_ascii c l not_shift in
-    let not_backslash = either.0 in
-    let not_tilde = either.1 in
-    one_read Roman c c (rw (not_backslash, not_tilde, reads_ascii) refl) refl
+    one_read Roman c c (rw (either.0, either.1, is_ascii c l not_shift) refl) refl
     (no_escape c not_shift)
 
 yen_read : IsReadIn Roman (0x5C ∷ []) 0xA5
@@ -212,11 +205,10 @@ char_read s c has_char = elim (true_or_false (nat_lt c 0x80)) [
 
 -- texts
 
-one : (s : CharacterSet) (c : ℕ) (b : Option (List ℕ))
-    → IfSome b (λ x. IsReadIn s x (lookup_char c))
-    → is_some b ≡ true → IsReadIn s (list_or_empty b) (lookup_char c)
-one s c None read some = cc
-one s c (Some b) read some = read
+read_in : (s : CharacterSet) (c : ℕ) → has s c ≡ true → is_some (iso_2022_jp_bytes c) ≡ true
+    → IsReadIn s (list_or_empty (iso_2022_jp_bytes c)) (lookup_char c)
+read_in s c has_char =
+    of_bytes (λ b. IsReadIn s b (lookup_char c)) (iso_2022_jp_bytes c) (char_read s c has_char)
 
 char_then : (s : CharacterSet) (b y t : List ℕ) (c : ℕ) → IsReadIn s b c
     → IsReadAs jp_rule (number s) y t → IsReadAs jp_rule (number s) (b ++ y) (c ∷ t)
@@ -230,12 +222,10 @@ step : (s : CharacterSet) (c : ℕ) (y t : List ℕ) (is_there : Bool) → has s
     (cond is_there [] (escape_sequence (set_of_class (class_of c)))
     ++ (list_or_empty (iso_2022_jp_bytes c) ++ y)) (lookup_char c ∷ t)
 unfolding has
-step s c y t true e m h =
-    char_then s _ y t (lookup_char c) (one s c (iso_2022_jp_bytes c) (char_read s c e) m) h
+step s c y t true e m h = char_then s _ y t (lookup_char c) (read_in s c e m) h
 step s c y t false e m h =
     let designated = set_of_class (class_of c) in
-    let one_step = one designated c (iso_2022_jp_bytes c)
-    (char_read designated c (iso_2022_jp_is_lawful.designates c)) m in
+    let one_step = read_in designated c (iso_2022_jp_is_lawful.designates c) m in
     after_escape (number s) designated (list_or_empty (iso_2022_jp_bytes c) ++ y)
     (lookup_char c ∷ t) (one_step.plain y)
     (char_then designated _ y t (lookup_char c) one_step h)

@@ -20,18 +20,15 @@ at_jis0208_pointer c p f = is_pointer jis0208_at any_pointer no_character 8836 c
 
 -- the byte of half-width katakana
 
-katakana_is_read : (c : ℕ) → 0xFF61 ≤ c → c ≤ 0xFF9F
-    → (if read.is_katakana_byte (katakana_byte c)
-    then Some (read.katakana_of_byte (katakana_byte c)) else None) ≡ Some c
-katakana_is_read c l h =
-    let is_katakana : read.is_katakana_byte (katakana_byte c) ≡ true = grind (arith, nat_tests) in
-    let read_back : read.katakana_of_byte (katakana_byte c) ≡ c = omega arith in
-    cond-true _ _ _ is_katakana ∙ ap Some read_back
-
 pub katakana_byte_is_read : (c : ℕ) → is_halfwidth_katakana c ≡ true
     → (if read.is_katakana_byte (katakana_byte c)
     then Some (read.katakana_of_byte (katakana_byte c)) else None) ≡ Some c
-katakana_byte_is_read c k = katakana_is_read c (grind (arith, nat_tests)) (grind (arith, nat_tests))
+katakana_byte_is_read c is_katakana =
+    let low : 0xFF61 ≤ c = grind (arith, nat_tests) in
+    let high : c ≤ 0xFF9F = grind (arith, nat_tests) in
+    let is_byte : read.is_katakana_byte (katakana_byte c) ≡ true = grind (arith, nat_tests) in
+    let read_back : read.katakana_of_byte (katakana_byte c) ≡ c = omega arith in
+    cond-true _ _ _ is_byte ∙ ap Some read_back
 
 -- U+00A5 and U+203E are read as `\` and `~`, ASCII as itself, and other characters by `f`
 

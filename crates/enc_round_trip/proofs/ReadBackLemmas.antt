@@ -1,7 +1,7 @@
 -- Texts are read back where each character is, in encodings without escape sequences.
 use Rattle.std.proofs.Common.{◌≡◌, ℕ, ◌<◌, ◌≤◌, Bool, true, false, nat_lt, not, is_some, Option, Some, None, List}
 use Rattle.std.proofs.Common.{[], ◌∷◌, ◌++◌, map, refl, ap, ◌∙◌, arith, IfSome, inl, inr}
-use Rattle.std.proofs.lemmas.Bool.{or_parts}
+use Rattle.std.proofs.lemmas.Bool.{not-false, or_parts}
 use Rattle.std.proofs.lemmas.Bool.Decides.{nat_tests}
 use Rattle.std.specs.Char.{IsScalar}
 use Rattle.std.specs.Cmp.{first_so, second_so}
@@ -39,27 +39,24 @@ read_more rule set b c y t is_whole_char rest_is_read = record {
 
 -- the first character of a text without an unmappable one has bytes, and no later one is unmappable
 
-is_mapped : (b : Bool) → not b ≡ false → b ≡ true
-is_mapped true h = refl
-is_mapped false h = cc
-
 pub first_mapped : (e : EncoderRule) (c : ℕ) (t : List ℕ) → any_unmappable e (c ∷ t) ≡ false
     → (is_some (e.bytes c) ≡ true) × (any_unmappable e t ≡ false)
 first_mapped e c t h =
     let both = or_parts (not (is_some (e.bytes c))) (any_unmappable e t) h in
-    (is_mapped (is_some (e.bytes c)) both.0, both.1)
+    (not-false _ both.0, both.1)
 
 -- the bytes of each character are read as one character, whatever follows them
 pub record IsReadBack (rule : Rule) (bytes : ℕ → Option (List ℕ)) (back : ℕ → ℕ) : Type 0 where
   pub each : (c : ℕ) → IsScalar c → IfSome (bytes c) (λ b. IsWholeChar rule 0 b (back c))
 
+-- what holds of the bytes of a character, if it has any, holds of those that it has
+pub of_bytes : (P : List ℕ → Type 0) (b : Option (List ℕ)) → IfSome b P → is_some b ≡ true
+    → P (list_or_empty b)
+of_bytes P None holds some = cc
+of_bytes P (Some b) holds some = holds
+
 module _ (rule : Rule) (bytes : ℕ → Option (List ℕ)) (back : ℕ → ℕ) (h : IsReadBack rule bytes back)
   where
-    one : (c : ℕ) (b : Option (List ℕ)) → IfSome b (λ x. IsWholeChar rule 0 x (back c))
-        → is_some b ≡ true → IsWholeChar rule 0 (list_or_empty b) (back c)
-    one c None read some = cc
-    one c (Some b) read some = read
-
     suffix_is_read : (u t : List ℕ) → AreScalars t → any_unmappable (stateless_rule bytes) t ≡ false
         → IsReadAs rule 0 (bytes_after_text (stateless_rule bytes) Ascii u t) (map back t)
     suffix_is_read u [] scalars m = read_nothing rule 0
@@ -67,7 +64,8 @@ module _ (rule : Rule) (bytes : ℕ → Option (List ℕ)) (back : ℕ → ℕ) 
         let both = first_mapped (stateless_rule bytes) c t m in
         read_more rule 0 (list_or_empty (bytes c)) (back c)
         (bytes_after_text (stateless_rule bytes) Ascii (u ++ c ∷ []) t) (map back t)
-        (one c (bytes c) (h.each c (first_so _ _ scalars)) both.0)
+        (of_bytes (λ b. IsWholeChar rule 0 b (back c)) (bytes c)
+        (h.each c (first_so _ _ scalars)) both.0)
         (suffix_is_read (u ++ c ∷ []) t (second_so _ _ scalars) both.1)
 
     -- and so is a text

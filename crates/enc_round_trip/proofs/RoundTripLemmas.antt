@@ -1,5 +1,6 @@
 -- What was encoded is read back, whatever is barred.
 use Rattle.std.proofs.Common.{◌≡◌, ℕ, true, false, Some, List, [], ◌∷◌, map, refl, ap, sym, subst, ◌∙◌}
+use Rattle.std.proofs.lemmas.List.{map-id}
 use Rattle.enc_units.specs.Output.{AreScalars}
 use Rattle.enc_decoder.specs.Sequence.{sequence_text}
 use Rattle.enc_decoder.specs.Segmentation.{sequences_of}
@@ -30,18 +31,13 @@ is_read c b e t q s all_mapped =
 
 -- each character is read back as itself, where the codec keeps characters
 
-map_of : (f : ℕ → ℕ) → ((c : ℕ) → f c ≡ c) → (t : List ℕ) → map f t ≡ t
-map_of f same_char [] = refl
-map_of f same_char (c ∷ t) = ap (λ x. x ∷ map f t) (same_char c)
-    ∙ ap (λ x. c ∷ x) (map_of f same_char t)
-
 keeps : (c : Codec) (t : List ℕ) → keeps_characters c t ≡ true → map (char_read_back c) t ≡ t
 keeps ShiftJis t h = cc
 keeps EucJp t h = cc
 keeps Iso2022Jp t h = cc
 keeps Gbk t h = gb18030_keeps t h
 keeps Gb18030 t h = gb18030_keeps t h
-keeps _ t h = map_of _ (λ n. refl) t
+keeps _ t h = map-id t
 
 pub same_text : (c : Codec) (b : List ℕ) (e : EncoderRule) (t : List ℕ) → encoder_rule c ≡ Some e
     → AreScalars t → any_unmappable (barring_rule b e) t ≡ false → keeps_characters c t ≡ true

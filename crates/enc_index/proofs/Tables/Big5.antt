@@ -13,7 +13,7 @@ use Rattle.enc_index.specs.Index.{entry_character}
 use Rattle.enc_index.specs.Runs.{runs_of, big5_at}
 use Rattle.enc_index.proofs.Computing.{tests}
 use Rattle.enc_index.proofs.GridEntries.{grid_tests, is_word, is_unit, word_found, unit_found}
-use Rattle.enc_index.proofs.GridLemmas.{grid_ok, found}
+use Rattle.enc_index.proofs.GridLemmas.{found}
 use Rattle.enc_index.proofs.TableLemmas.{entry_character-past}
 use Rattle.enc_index.proofs.TableLemmas.{agrees, agrees-true}
 
@@ -27,21 +27,15 @@ table = agrees-true All (runs_of Big5) BIG5_TABLE table_agrees
 pub has_no_more : HasNoMore big5_shape
 has_no_more p past = entry_character-past All BIG5_TABLE _ p (table p) past
 
-words_fit : grid_ok is_word big5_shape BIG5_TABLE BIG5_WORDS ≡ true
-unfolding grid_tests
-words_fit = refl
-
 pub word : (place : ℕ) → 0 < get_or BIG5_WORDS place 0
     → HasWord (grid_char big5_shape place) (get_or BIG5_WORDS place 0)
-word place some = word_found _ _
-    (found is_word big5_shape BIG5_TABLE BIG5_WORDS table words_fit place some)
-
-units_fit : grid_ok is_unit big5_shape BIG5_TABLE BIG5_UNITS ≡ true
 unfolding grid_tests
-units_fit = refl
+word place some = word_found _ _
+    (found is_word big5_shape BIG5_TABLE BIG5_WORDS table refl place some)
 
 pub unit : (place : ℕ) → 0 < get_or BIG5_UNITS place 0
     → (grid_char big5_shape place ≡ Some (get_or BIG5_UNITS place 0))
     × IsScalar (get_or BIG5_UNITS place 0)
+unfolding grid_tests
 unit place some = unit_found _ _
-    (found is_unit big5_shape BIG5_TABLE BIG5_UNITS table units_fit place some)
+    (found is_unit big5_shape BIG5_TABLE BIG5_UNITS table refl place some)

@@ -13,7 +13,7 @@ use Rattle.enc_index.specs.Index.{entry_character}
 use Rattle.enc_index.specs.Runs.{runs_of, gb18030_at}
 use Rattle.enc_index.proofs.Computing.{tests}
 use Rattle.enc_index.proofs.GridEntries.{grid_tests, is_word, is_unit, word_found, unit_found}
-use Rattle.enc_index.proofs.GridLemmas.{grid_ok, found}
+use Rattle.enc_index.proofs.GridLemmas.{found}
 use Rattle.enc_index.proofs.TableLemmas.{entry_character-past}
 use Rattle.enc_index.proofs.TableLemmas.{agrees, agrees-true}
 
@@ -27,21 +27,15 @@ table = agrees-true Basic (runs_of Gb18030) GB18030_TABLE table_agrees
 pub has_no_more : HasNoMore gb18030_shape
 has_no_more p past = entry_character-past Basic GB18030_TABLE _ p (table p) past
 
-words_fit : grid_ok is_word gb18030_shape GB18030_TABLE GB18030_WORDS ≡ true
-unfolding grid_tests
-words_fit = refl
-
 pub word : (place : ℕ) → 0 < get_or GB18030_WORDS place 0
     → HasWord (grid_char gb18030_shape place) (get_or GB18030_WORDS place 0)
-word place some = word_found _ _
-    (found is_word gb18030_shape GB18030_TABLE GB18030_WORDS table words_fit place some)
-
-units_fit : grid_ok is_unit gb18030_shape GB18030_TABLE GB18030_UNITS ≡ true
 unfolding grid_tests
-units_fit = refl
+word place some = word_found _ _
+    (found is_word gb18030_shape GB18030_TABLE GB18030_WORDS table refl place some)
 
 pub unit : (place : ℕ) → 0 < get_or GB18030_UNITS place 0
     → (grid_char gb18030_shape place ≡ Some (get_or GB18030_UNITS place 0))
     × IsScalar (get_or GB18030_UNITS place 0)
+unfolding grid_tests
 unit place some = unit_found _ _
-    (found is_unit gb18030_shape GB18030_TABLE GB18030_UNITS table units_fit place some)
+    (found is_unit gb18030_shape GB18030_TABLE GB18030_UNITS table refl place some)

@@ -13,7 +13,7 @@ use Rattle.enc_index.specs.Index.{entry_character}
 use Rattle.enc_index.specs.Runs.{runs_of, jis0208_at}
 use Rattle.enc_index.proofs.Computing.{tests}
 use Rattle.enc_index.proofs.GridEntries.{grid_tests, is_word, is_unit, word_found, unit_found}
-use Rattle.enc_index.proofs.GridLemmas.{grid_ok, found}
+use Rattle.enc_index.proofs.GridLemmas.{found}
 use Rattle.enc_index.proofs.TableLemmas.{entry_character-past}
 use Rattle.enc_index.proofs.TableLemmas.{agrees, agrees-true}
 
@@ -27,21 +27,15 @@ table = agrees-true Basic (runs_of Jis0208) JIS0208_TABLE table_agrees
 pub has_no_more : HasNoMore jis0208_shape
 has_no_more p past = entry_character-past Basic JIS0208_TABLE _ p (table p) past
 
-words_fit : grid_ok is_word jis0208_shape JIS0208_TABLE JIS0208_WORDS ≡ true
-unfolding grid_tests
-words_fit = refl
-
 pub word : (place : ℕ) → 0 < get_or JIS0208_WORDS place 0
     → HasWord (grid_char jis0208_shape place) (get_or JIS0208_WORDS place 0)
-word place some = word_found _ _
-    (found is_word jis0208_shape JIS0208_TABLE JIS0208_WORDS table words_fit place some)
-
-units_fit : grid_ok is_unit jis0208_shape JIS0208_TABLE JIS0208_UNITS ≡ true
 unfolding grid_tests
-units_fit = refl
+word place some = word_found _ _
+    (found is_word jis0208_shape JIS0208_TABLE JIS0208_WORDS table refl place some)
 
 pub unit : (place : ℕ) → 0 < get_or JIS0208_UNITS place 0
     → (grid_char jis0208_shape place ≡ Some (get_or JIS0208_UNITS place 0))
     × IsScalar (get_or JIS0208_UNITS place 0)
+unfolding grid_tests
 unit place some = unit_found _ _
-    (found is_unit jis0208_shape JIS0208_TABLE JIS0208_UNITS table units_fit place some)
+    (found is_unit jis0208_shape JIS0208_TABLE JIS0208_UNITS table refl place some)

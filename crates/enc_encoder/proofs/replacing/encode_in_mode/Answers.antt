@@ -1,4 +1,4 @@
-use Rattle.std.proofs.Common.{◌-◌, length, refl, arith, rules}
+use Rattle.std.proofs.Common.{arith, rules}
 use Rattle.enc_encoder.proofs.LeavesLemmas.{leaves_of, leaves_on}
 use Rattle.enc_encoder.proofs.MachineLemmas.{units_read}
 use Rattle.enc_encoder.proofs.RawCallLemmas.{unreplaced_call}
@@ -22,19 +22,17 @@ loop-c-init g c = no_turn _ _ _ (omega arith) (omega arith)
 
 pub overflow_sub-result : goal.overflow_sub-result
 overflow_sub-result g c =
-    let encoded = encodes_part c.encode-outcome.ensures.call c.loop-c.dst c.loop-c.written
-    (length c.args.dst.now - 10) refl refl c.loop-c.invariant.below (search rules) in
+    let encoded = encodes_part c.loop-c.invariant c.encode-outcome.ensures.call in
     (units_read g.C.Chars.units_of _ _
     (leaves_on c.loop-c.invariant.refers.leaves (leaves_of encoded.call)).reads
     c.unread-unread.ensures c.unread.ensures).0
 
 pub returns-in_default : goal.returns-in_default
 returns-in_default g c =
-    let encoded = encodes_part c.encode-outcome.ensures.call c.loop-c.dst c.loop-c.written
-    (length c.args.dst.now - 10) refl refl c.loop-c.invariant.below (search rules) in
-    let stopped = stop_raw g.C.Chars.units_of 10 c.loop-c.invariant _ c.in_default.not-Unmappable
-    encoded c.if-dst-lt-LONGEST_REFERENCE.false c.encode-outcome.ensures.lawful
-    c.unread-unread.ensures c.unread.ensures in
+    let encoded = encodes_part c.loop-c.invariant c.encode-outcome.ensures.call in
+    let stopped = stop_raw g.C.Chars.units_of 10 c.if-dst-lt-LONGEST_REFERENCE.false
+    c.unread-unread.ensures c.loop-c.invariant c.encode-outcome.ensures.lawful _
+    c.in_default.not-Unmappable encoded c.unread.ensures in
     record {
       within = stopped.within;
       rest = stopped.rest_stays;
@@ -43,23 +41,20 @@ returns-in_default g c =
 
 pub overflow_sub-result-then-written-limit : goal.overflow_sub-result-then-written-limit
 overflow_sub-result-then-written-limit g c =
-    let encoded = encodes_part c.encode-outcome.ensures.call c.loop-c.dst c.loop-c.written
-    (length c.args.dst.now - 10) refl refl c.loop-c.invariant.below (search rules) in
+    let encoded = encodes_part c.loop-c.invariant c.encode-outcome.ensures.call in
     (units_read g.C.Chars.units_of _ _
     (leaves_on c.loop-c.invariant.refers.leaves (leaves_of encoded.call)).reads
     c.unread-unread.ensures c.unread-then-written-limit.ensures).0
 
 pub returns-then-written-limit : goal.returns-then-written-limit
 returns-then-written-limit g c =
-    let encoded = rw c.in-Unmappable.is at (encodes_part c.encode-outcome.ensures.call c.loop-c.dst
-    c.loop-c.written (length c.args.dst.now - 10) refl refl c.loop-c.invariant.below
-    (search rules)) in
+    let encoded = rw c.in-Unmappable.is at
+    (encodes_part c.loop-c.invariant c.encode-outcome.ensures.call) in
     let put = c.put_reference-written.ensures in
-    let stopped = stop_after g.C.Chars.units_of 10 c.loop-c.invariant encoded
+    let stopped = stop_after g.C.Chars.units_of 10 c.if-dst-lt-LONGEST_REFERENCE.false
+    c.unread-unread.ensures c.loop-c.invariant c.encode-outcome.ensures.lawful encoded
     (adds_reference _ put.len put.onto put.bound (search rules)) c.if-written-limit.true
-    c.full_result-then-written-limit.ensures c.if-dst-lt-LONGEST_REFERENCE.false
-    c.encode-outcome.ensures.lawful
-    c.unread-unread.ensures c.unread-then-written-limit.ensures in
+    c.full_result-then-written-limit.ensures c.unread-then-written-limit.ensures in
     record {
       within = stopped.within;
       rest = stopped.rest_stays;
@@ -68,9 +63,8 @@ returns-then-written-limit g c =
 
 pub loop-c-preserved : goal.loop-c-preserved
 loop-c-preserved g c =
-    let encoded = rw c.in-Unmappable.is at (encodes_part c.encode-outcome.ensures.call c.loop-c.dst
-    c.loop-c.written (length c.args.dst.now - 10) refl refl c.loop-c.invariant.below
-    (search rules)) in
+    let encoded = rw c.in-Unmappable.is at
+    (encodes_part c.loop-c.invariant c.encode-outcome.ensures.call) in
     let put = c.put_reference-written.ensures in
     next_turn c.loop-c.invariant encoded
     (adds_reference _ put.len put.onto put.bound (search rules)) c.if-written-limit.false

@@ -1,23 +1,18 @@
 -- Written by scripts/make-sources from data/templates: change the text there, and not this file.
-use Rattle.std.proofs.Common.{◌≡◌, ◌∙◌, true, refl}
+use Rattle.std.proofs.Common.{◌∙◌, refl}
 use Rattle.enc_index.specs.declared.table.Planes.TheVariants.{All}
 use Rattle.enc_index.specs.DoubleByteIndexes.{big5_entries}
 use Rattle.enc_index.specs.Runs.{big5_at}
 use Rattle.enc_index.proofs.Tables.Big5.{table}
 use Rattle.enc_index_pointers.specs.declared.pages.big5.TheConstants.{BIG5_PAGE_OF, BIG5_POINTERS}
 use Rattle.enc_index_pointers.specs.Pointers.{is_big5_pointer, is_last_in_big5, big5_pointer}
-use Rattle.enc_index_pointers.proofs.PageLemmas.{tables_ok, pointer_in_pages-pointer_of}
+use Rattle.enc_index_pointers.proofs.PageLemmas.{pointer_in_pages-pointer_of}
 use Rattle.enc_index_pointers.proofs.Computing.{tests}
 use Rattle.enc_index_pointers.proofs.pointers.big5.big5.Goals as goal
 
-pages_fit : tables_ok All is_big5_pointer is_last_in_big5 19782 15 16 12 big5_entries BIG5_PAGE_OF
-    BIG5_POINTERS ≡ true
-unfolding tests
-pages_fit = refl
-
 pub returns-clause-value : goal.returns-clause-value
-unfolding big5_pointer
+unfolding tests big5_pointer
 returns-clause-value c =
     c.pointer_in.ensures.value
     ∙ pointer_in_pages-pointer_of All is_big5_pointer is_last_in_big5 19782 15 16 12 big5_entries
-    BIG5_PAGE_OF BIG5_POINTERS pages_fit big5_at table c.args.c
+    BIG5_PAGE_OF BIG5_POINTERS refl big5_at table c.args.c

@@ -1,23 +1,18 @@
 -- Written by scripts/make-sources from data/templates: change the text there, and not this file.
-use Rattle.std.proofs.Common.{◌≡◌, ◌∙◌, true, refl}
+use Rattle.std.proofs.Common.{◌∙◌, refl}
 use Rattle.enc_index.specs.declared.table.Planes.TheVariants.{Basic}
 use Rattle.enc_index.specs.DoubleByteIndexes.{jis0208_entries}
 use Rattle.enc_index.specs.Runs.{jis0208_at}
 use Rattle.enc_index.proofs.Tables.Jis0208.{table}
 use Rattle.enc_index_pointers.specs.declared.pages.shift_jis.TheConstants.{SHIFT_JIS_PAGE_OF, SHIFT_JIS_POINTERS}
 use Rattle.enc_index_pointers.specs.Pointers.{is_shift_jis_pointer, no_character, shift_jis_pointer}
-use Rattle.enc_index_pointers.proofs.PageLemmas.{tables_ok, pointer_in_pages-pointer_of}
+use Rattle.enc_index_pointers.proofs.PageLemmas.{pointer_in_pages-pointer_of}
 use Rattle.enc_index_pointers.proofs.Computing.{tests}
 use Rattle.enc_index_pointers.proofs.pointers.shift_jis.shift_jis.Goals as goal
 
-pages_fit : tables_ok Basic is_shift_jis_pointer no_character 11280 14 15 10 jis0208_entries SHIFT_JIS_PAGE_OF
-    SHIFT_JIS_POINTERS ≡ true
-unfolding tests
-pages_fit = refl
-
 pub returns-clause-value : goal.returns-clause-value
-unfolding shift_jis_pointer
+unfolding tests shift_jis_pointer
 returns-clause-value c =
     c.pointer_in.ensures.value
     ∙ pointer_in_pages-pointer_of Basic is_shift_jis_pointer no_character 11280 14 15 10 jis0208_entries
-    SHIFT_JIS_PAGE_OF SHIFT_JIS_POINTERS pages_fit jis0208_at table c.args.c
+    SHIFT_JIS_PAGE_OF SHIFT_JIS_POINTERS refl jis0208_at table c.args.c
