@@ -1,35 +1,23 @@
 -- The code units of a text, and the characters of code units.
 use Rattle.std.proofs.Common.{◌==◌, Option, Some, None, MatchOption, ◌≡◌, ℕ, ◌+◌, zero, suc, ◌<◌, ◌≤◌}
 use Rattle.std.proofs.Common.{false, List, [], ◌∷◌, ◌++◌, length, get_or, drop, refl, ap, ◌∙◌, sym, arith}
-use Rattle.std.proofs.Common.{length-append, map, encode_utf8, chars, IsUtf8, nat_le, nat_lt, ◌&&◌, ◌⊎◌}
+use Rattle.std.proofs.Common.{length-append, encode_utf8, chars, IsUtf8, nat_le, nat_lt, ◌&&◌, ◌⊎◌}
 use Rattle.std.proofs.Common.{inl, inr}
 use Rattle.std.specs.Char.Escape.{encode_utf16}
 use Rattle.std.specs.Char.Utf16.{utf16_lossy_chars, is_high_surrogate, is_low_surrogate, surrogate_pair_char}
-use Rattle.std.proofs.lemmas.Str.{encodes-chars, utf16_chars-nil, utf16_chars_lone, utf16_chars_pair}
+use Rattle.std.proofs.lemmas.Str.{encodes-chars}
 use Rattle.enc_units.proofs.LengthLemmas.{lengths}
 use Rattle.enc_units.specs.Output.{units_of_text}
 use Rattle.enc_units.specs.Surrogates.{lossy_unit_char, IsSurrogatePair, IsFirstUtf16Char}
-use Rattle.std.specs.Option.{unwrap_or}
 use Rattle.std.proofs.lemmas.Bool.{cases_Bool}
 use Rattle.std.proofs.lemmas.Bool.Decides.{nat_tests}
 use Rattle.std.proofs.lemmas.List.{drop-drop}
-use Rattle.enc_units.proofs.UnitsLemmas.{one_unit, two_units}
+use Rattle.enc_units.proofs.UnitsLemmas.{one_unit, two_units, lossy_nil, lossy_lone, lossy_pair}
 use Rattle.enc_units.proofs.Utf8CharsLemmas.{their_units}
 
 pub utf8_length : (bs : List ℕ) → IsUtf8 bs
     → length bs ≡ length (units_of_text encode_utf8 (chars bs))
 utf8_length bs u = sym (ap length (their_units (chars bs) ∙ encodes-chars bs u))
-
-pub lossy_nil : utf16_lossy_chars [] ≡ []
-lossy_nil = ap (map (λ o. unwrap_or o 0xFFFD)) utf16_chars-nil
-
-pub lossy_lone : (u : ℕ) (us : List ℕ) → ¬ (IsSurrogatePair u (get_or us 0 0))
-    → utf16_lossy_chars (u ∷ us) ≡ lossy_unit_char u ∷ utf16_lossy_chars us
-lossy_lone u us n = ap (map (λ o. unwrap_or o 0xFFFD)) (utf16_chars_lone u us n)
-
-pub lossy_pair : (u v : ℕ) (us : List ℕ) → IsSurrogatePair u v
-    → utf16_lossy_chars (u ∷ v ∷ us) ≡ surrogate_pair_char u v ∷ utf16_lossy_chars us
-lossy_pair u v us p = ap (map (λ o. unwrap_or o 0xFFFD)) (utf16_chars_pair u v us p)
 
 lone_narrow : (u : ℕ) → u < 0x1_0000 → lossy_unit_char u < 0x1_0000
 lone_narrow u h =

@@ -101,8 +101,7 @@ pub put_first : (at : ℕ) (dst bytes : List ℕ) (n : ℕ) → n ≡ 1 → 1 �
     → set dst at (get_or bytes 0 0) ≡ take at dst ++ (take n bytes ++ drop (at + 1) dst)
 put_first at dst [] n is some inside = absurd (omega arith)
 put_first at dst (b ∷ bytes) n is some inside =
-    (put_one at b dst inside).onto
-    ∙ ap (λ k. take at dst ++ (take k (b ∷ bytes) ++ drop (at + 1) dst)) (sym is)
+    rw is (put_one at b dst inside).onto
 
 pub put_first_two : (at : ℕ) (dst bytes : List ℕ) (n : ℕ) → n ≡ 2 → 2 ≤ length bytes
     → at + 1 < length dst
@@ -113,5 +112,4 @@ put_first_two at dst (a ∷ []) n is two inside = absurd (omega arith)
 put_first_two at dst (a ∷ b ∷ bytes) n is two inside =
     let first = put_one at a dst (omega arith) in
     let second = put_one (at + 1) b (set dst at a) (omega (arith, put_length first)) in
-    (put_more first second).onto
-    ∙ ap (λ k. take at dst ++ (take k (a ∷ b ∷ bytes) ++ drop (at + 2) dst)) (sym is)
+    rw is (put_more first second).onto

@@ -68,27 +68,18 @@ pub units_further : (src : List ℕ) (from a at b all : ℕ) {before after : Lis
 units_further src from a at b all front stored place count =
     stored ∙ ap (λ z. z ++ units_from src at b) front ∙ units_then src from a b place count
 
-units_parts : (src : List ℕ) (a b : ℕ) → a ≤ b
+pub units_parts : (src : List ℕ) (a b : ℕ) → a ≤ b
     → length (units_from src 0 b) ≡ length (units_from src 0 a) + length (units_from src a (b - a))
 units_parts src a b within =
     let whole = units_then src 0 a (b - a) {place = a} {all = b} (omega arith) (omega arith) in
     omega (arith, lengths, ap length whole)
 
-pub units_grow : (src : List ℕ) (a b : ℕ) → a ≤ b
-    → length (units_from src 0 a) ≤ length (units_from src 0 b)
-units_grow src a b within = omega (arith, units_parts src a b within)
-
-pub units_cover : (src : List ℕ) (a b n : ℕ) → a ≤ b → n ≤ length (units_from src a (b - a))
-    → length (units_from src 0 a) + n ≤ length (units_from src 0 b)
-units_cover src a b n within few = omega (arith, units_parts src a b within)
-
 -- the units at the places that the bits of a mask mark
 
 one_marked : (t : Bool) {bit u v : ℕ} → bit ≡ cond t 1 0 → (t ≡ true → u ≡ v)
     → if_one (bit == 1) u ≡ if_one t v
-one_marked true {u = u} is_bit same =
-    ap (λ b. if_one (b == 1) u) is_bit ∙ ap (λ x. x ∷ []) (same refl)
-one_marked false {u = u} is_bit same = ap (λ b. if_one (b == 1) u) is_bit
+one_marked true is_bit same = rw (is_bit, same refl) refl
+one_marked false is_bit same = rw is_bit refl
 
 unit_of_place : (units : List ℕ) (t : Bool) (place : ℕ)
     → map (λ k. get_or units k 0) (if t then place ∷ [] else []) ≡ if_one t (get_or units place 0)
@@ -152,10 +143,8 @@ eight_marked {src} {units} {taken} {at} {marks} first place some are_marked few 
           let whole : first + k ≡ 0 + (first + k) = omega arith in
           let on : at + (first + k) ≡ place + k = omega arith in
           let lane = ap (λ z. get_or z k 0) taken_is ∙ get_or-chunk first 8 units k 0 below in
-          ap (λ i. if_one (some / 2 ^ k % 2 == 1) (get_or taken i 0)) here
-          ∙ ap (λ u. if_one (some / 2 ^ k % 2 == 1) u) (lane ∙ ap (λ i. get_or units i 0) whole)
-          ∙ ap (λ b. if_one (b % 2 == 1) (get_or units (0 + (first + k)) 0)) bits
-          ∙ are_marked.lane (first + k) (omega arith) ∙ ap (unit_at src) on;
+          rw (here, lane ∙ ap (λ i. get_or units i 0) whole, bits)
+          (are_marked.lane (first + k) (omega arith) ∙ ap (unit_at src) on);
     })
 
 -- sixteen bytes are stored as eight and eight
@@ -175,8 +164,7 @@ stores_sixteen {src} {units} {at = at} {marks = marks} old long are_marked first
     eight_marked 8 (at + 8) (marks / 0x100) are_marked (omega arith) (upper_is units long) refl refl
     in
     second ∙ ap (λ z. z ++ high) first ∙ append_assoc old low high
-    ∙ ap (λ z. old ++ (z ++ high)) low_is ∙ ap (λ z. old ++ (units_from src at 8 ++ z)) high_is
-    ∙ ap (λ z. old ++ z) (units_then src at 8 8 refl refl)
+    ∙ rw (low_is, high_is) (ap (λ z. old ++ z) (units_then src at 8 8 refl refl))
 
 -- sixteen lanes of a load
 
@@ -215,14 +203,11 @@ module _ (src : List ℕ) (at : ℕ) where
         let lane : 0 + k ≡ k = omega arith in
         let next : at + k + 1 ≡ suc (at + k) = omega arith in
         let second : at + k + 2 ≡ suc (suc (at + k)) = omega arith in
-        ap (λ i. if_one (marks / 2 ^ k % 2 == 1) (get_or units i 0)) lane
-        ∙ one_marked (gives_unit_at src (at + k))
-        (bits k below ∙ ap (λ z. cond (gives_unit z (get_or (chunk at 16 src) k 0)) 1 0) before
-        ∙ ap (λ x. cond (gives_unit (byte_two_before src (at + k)) x) 1 0)
-        (get_or-chunk at 16 src k 0 below))
-        (λ is_given. unit_values k below
-        (ap (λ z. gives_unit z (get_or src (at + k) 0)) before ∙ is_given)
-        ∙ rw (next, second) refl);
+        let bit = rw (before, get_or-chunk at 16 src k 0 below) at (bits k below) in
+        let unit = λ (is_given : gives_unit_at src (at + k) ≡ true).
+        unit_values k below (ap (λ z. gives_unit z (get_or src (at + k) 0)) before ∙ is_given)
+        ∙ rw (next, second) refl in
+        rw lane (one_marked (gives_unit_at src (at + k)) bit unit);
   }
 
 pub first_alone : (z a : ℕ) → z < 0xF0 → gives_unit z a ≡ true → gives_unit 0 a ≡ true
