@@ -77,8 +77,7 @@ module _ {units_of : ℕ → List ℕ} {Means : List ℕ → ℕ → Type 0} whe
         scalars = scalars-append first.text then_more.text first.scalars then_more.scalars;
         reads = reads_then first.reads then_more.reads;
         written = then_more.written ∙ ap (λ z. z ++ more_units) first.written
-            ∙ append_assoc before first_units more_units
-            ∙ ap (λ z. before ++ z) (sym (units-append units_of first.text then_more.text));
+            ∙ rw (units-append units_of first.text then_more.text, append_assoc) refl;
       }
 
   -- bytes that are their own characters

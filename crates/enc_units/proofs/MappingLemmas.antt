@@ -7,7 +7,7 @@ use Rattle.std.specs.Char.{encode_utf8}
 use Rattle.std.specs.Prelude.{All}
 use Rattle.enc_units.specs.Mappings.{WritesMapped, AreWrittenAsThemselves, AreWrittenAsUtf8}
 use Rattle.enc_units.specs.Output.{AreScalars, units_of_text}
-use Rattle.enc_units.specs.Pieces.{piece_bytes, piece_chars}
+use Rattle.enc_units.specs.Pieces.{piece_bytes}
 use Rattle.enc_units.proofs.PieceListLemmas.{piece_bytes-append, piece_chars-append, EachMeansChar-append}
 use Rattle.enc_units.proofs.PieceListLemmas.{AreScalars-all, alone, units_alone, pieces_of, bytes_of, chars_of}
 use Rattle.enc_units.proofs.PieceListLemmas.{they_mean}
@@ -41,13 +41,15 @@ module _ {Means : List ℕ → ℕ → Type 0} where
       let put = put_more (put_of first) (put_of then_more) in
       record {
         pieces = first.pieces ++ then_more.pieces;
-        reads = first.reads ∙ ap (λ z. piece_chars first.pieces ++ z) then_more.reads
-            ∙ sym (append_assoc (piece_chars first.pieces) (piece_chars then_more.pieces) rest)
-            ∙ ap (λ z. z ++ rest) (sym (piece_chars-append first.pieces then_more.pieces));
+        reads = first.reads ∙ rw (
+          then_more.reads,
+          piece_chars-append first.pieces then_more.pieces,
+          append_assoc,
+        ) refl;
         mean = EachMeansChar-append Means first.pieces then_more.pieces first.mean then_more.mean;
         count = put.count ∙ ap length (sym both);
         fits = put.fits;
-        onto = put.onto ∙ ap (λ z. take at before ++ (z ++ drop (at + (n + k)) before)) (sym both);
+        onto = rw both put.onto;
       }
 
   -- the slice keeps its length
@@ -67,7 +69,7 @@ module _ {Means : List ℕ → ℕ → Type 0} where
         mean = they_mean code Means text mean;
         count = put.count ∙ ap length bytes_are;
         fits = put.fits;
-        onto = put.onto ∙ ap (λ z. take at before ++ (z ++ drop (at + n) before)) bytes_are;
+        onto = rw (← bytes_are) put.onto;
       }
 
   -- one character

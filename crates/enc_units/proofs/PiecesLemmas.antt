@@ -10,7 +10,7 @@ use Rattle.enc_units.specs.Output.{Output, with_appended, units_of_text}
 use Rattle.enc_units.specs.Validity.{AreAscii}
 use Rattle.enc_units.specs.AsciiRun.{PutsAscii}
 use Rattle.enc_units.specs.Mappings.{AreWrittenAsThemselves, IsWrittenAsItself, KeepsAscii}
-use Rattle.enc_units.specs.Pieces.{Piece, piece_bytes, piece_chars, EachMeansChar, ReadsPieces, PutsPieces}
+use Rattle.enc_units.specs.Pieces.{Piece, EachMeansChar, ReadsPieces, PutsPieces}
 use Rattle.enc_units.proofs.PieceListLemmas.{piece_bytes-append, piece_chars-append, EachMeansChar-append}
 use Rattle.enc_units.proofs.PieceListLemmas.{alone, units_alone, pieces_of, bytes_of, chars_of, they_mean}
 use Rattle.enc_units.proofs.LengthLemmas.{lengths}
@@ -44,11 +44,9 @@ module _ {Means : List ℕ → ℕ → Type 0} where
     pieces = first.pieces ++ then_more.pieces;
     within = omega (arith, first.within, then_more.within, lengths);
     bytes = piece_bytes-append first.pieces then_more.pieces
-        ∙ ap (λ z. z ++ piece_bytes then_more.pieces) first.bytes
-        ∙ ap (λ z. take a src ++ z) then_more.bytes ∙ sym (take-add a n src);
+        ∙ rw (first.bytes, then_more.bytes, take-add a n src) refl;
     chars = piece_chars-append first.pieces then_more.pieces
-        ∙ ap (λ z. z ++ piece_chars then_more.pieces) first.chars
-        ∙ ap (λ z. s ++ z) then_more.chars;
+        ∙ rw (first.chars, then_more.chars) refl;
     mean = EachMeansChar-append Means first.pieces then_more.pieces first.mean then_more.mean;
     none = λ z. ap (λ ps. ps ++ then_more.pieces) (first.none (omega arith))
         ∙ then_more.none (omega arith);

@@ -25,12 +25,9 @@ text_stored {us} {bytes = bytes} {a = a} {n = n} first others stored = record {
   within = omega (arith, lengths, first.within, others.within);
   text = first.text ++ others.text;
   scalars = scalars-append first.text others.text first.scalars others.scalars;
-  reads = first.reads ∙ ap (λ z. first.text ++ z) others.reads
-      ∙ sym (append_assoc first.text others.text (utf16_lossy_chars (drop n (drop a us))))
-      ∙ ap (λ z. (first.text ++ others.text) ++ utf16_lossy_chars z) (drop-drop n a us);
+  reads = first.reads ∙ rw (others.reads, drop-drop n a us, append_assoc) refl;
   written = stored ∙ ap (λ z. z ++ bytes) first.written
-      ∙ ap (λ z. units_of_text encode_utf8 first.text ++ z) others.written
-      ∙ sym (units-append encode_utf8 first.text others.text);
+      ∙ rw (others.written, units-append encode_utf8 first.text others.text) refl;
 }
 
 -- the first n code units, where none is a surrogate
