@@ -93,18 +93,14 @@ pub stored_word : (words : List ℕ) (count : ℕ) → count < length words
     → mid ≡ front ++ bytes_of_words (take count words)
     → after ≡ mid ++ take (get_or words count 0 / 0x100_0000) bytes
     → after ≡ front ++ bytes_of_words (take (count + 1) words)
-stored_word words count inside front {mid} b m a =
+stored_word words count inside front {mid} bytes_are before stored =
     let word = get_or words count 0 in
-    let old = bytes_of_words (take count words) in
-    let new = take (word / 0x100_0000) (to_le_bytes w32 word) in
     let next : count + 1 ≡ suc count = omega arith in
-    let more = ap (λ k. bytes_of_words (take k words)) next
-    ∙ ap bytes_of_words (take-suc words count 0 inside)
-    ∙ bytes-append (take count words) (word ∷ [])
-    ∙ ap (λ z. old ++ z) (append-nil new) in
-    a ∙ ap (λ z. mid ++ take (word / 0x100_0000) z) b ∙ ap (λ z. z ++ new) m
-    ∙ append_assoc front old new
-    ∙ ap (λ z. front ++ z) (sym more)
+    let more = bytes-append (take count words) (word ∷ [])
+    ∙ ap (λ z. bytes_of_words (take count words) ++ z)
+    (append-nil (take (word / 0x100_0000) (to_le_bytes w32 word))) in
+    stored ∙ rw (bytes_are, before, next, take-suc words count 0 inside, more)
+    (append_assoc front _ _)
 
 -- code units that are ASCII, as bytes
 

@@ -43,23 +43,16 @@ units_few src at (suc n) =
 -- the units of a bytes and of b more, at `place`, are those of all
 pub units_then : (src : List ℕ) (at a b : ℕ) {place all : ℕ} → place ≡ at + a → all ≡ a + b
     → units_from src at a ++ units_from src place b ≡ units_from src at all
-units_then src at zero b place_is all_is = rw (place_is, all_is) (rw (here, none) refl)
-  where
-    here : at + 0 ≡ at
-    here = omega arith
-
-    none : 0 + b ≡ b
-    none = omega arith
+units_then src at zero b place_is all_is =
+    let here : at + 0 ≡ at = omega arith in
+    let none : 0 + b ≡ b = omega arith in
+    rw (place_is, all_is, here, none) refl
 units_then src at (suc a) b {place} {all} place_is all_is =
+    let next : place ≡ suc at + a = omega arith in
+    let more : suc (a + b) ≡ all = omega arith in
     append_assoc (unit_at src at) (units_from src (suc at) a) (units_from src place b)
     ∙ ap (λ z. unit_at src at ++ z) (units_then src (suc at) a b {all = a + b} next refl)
     ∙ ap (units_from src at) more
-  where
-    next : place ≡ suc at + a
-    next = omega arith
-
-    more : suc (a + b) ≡ all
-    more = omega arith
 
 -- the same of a buffer
 pub units_further : (src : List ℕ) (from a at b all : ℕ) {before after : List ℕ}
@@ -95,28 +88,23 @@ marked_from : (src units : List ℕ) (n at from marks : ℕ) → AreMarked src a
     → map (λ k. get_or units k 0) (marked_places marks from n) ≡ units_from src at n
 marked_from src units zero at from marks are_marked = refl
 marked_from src units (suc n) at from marks are_marked =
-    map-append (λ k. get_or units k 0) (if marks % 2 == 1 then from ∷ [] else [])
-    (marked_places (marks / 2) (suc from) n)
-    ∙ ap (λ z. z ++ map (λ k. get_or units k 0) (marked_places (marks / 2) (suc from) n)) first
-    ∙ ap (λ z. unit_at src at ++ z)
-    (marked_from src units n (suc at) (suc from) (marks / 2) rest)
-  where
-    first : map (λ k. get_or units k 0) (if marks % 2 == 1 then from ∷ [] else []) ≡ unit_at src at
-    first =
-        let bit : marks / 1 % 2 ≡ marks % 2 = omega arith in
-        let unit : from + 0 ≡ from = omega arith in
-        let place : at + 0 ≡ at = omega arith in
-        let lane = are_marked.lane 0 (omega arith) in
-        unit_of_place units (marks % 2 == 1) from ∙ rw (bit, unit, place) at lane
-
-    rest : AreMarked src (suc at) (marks / 2) (suc from) units n
-    rest = record {
+    let unit_of = λ (k : ℕ). get_or units k 0 in
+    let here : marks / 1 % 2 ≡ marks % 2 = omega arith in
+    let unit : from + 0 ≡ from = omega arith in
+    let place : at + 0 ≡ at = omega arith in
+    let lane = rw (here, unit, place) at (are_marked.lane 0 (omega arith)) in
+    let rest : AreMarked src (suc at) (marks / 2) (suc from) units n = record {
       lane = λ k below.
           let bit : 1 + k ≡ suc k = omega arith in
           let unit : suc from + k ≡ from + suc k = omega arith in
           let place : suc at + k ≡ at + suc k = omega arith in
           rw (shr-shr marks 1 k, bit, unit, place) (are_marked.lane (suc k) (omega arith));
-    }
+    } in
+    map-append unit_of (if marks % 2 == 1 then from ∷ [] else [])
+    (marked_places (marks / 2) (suc from) n)
+    ∙ ap (λ z. z ++ map unit_of (marked_places (marks / 2) (suc from) n))
+    (unit_of_place units (marks % 2 == 1) from ∙ lane)
+    ∙ ap (λ z. unit_at src at ++ z) (marked_from src units n (suc at) (suc from) (marks / 2) rest)
 
 -- eight lanes that are taken out of sixteen
 
