@@ -41,7 +41,8 @@ module _ {src old dst : List ℕ} {most at : ℕ} (copies : CopiesAscii src old 
   copied_further {n} {new} fits put =
       let long = length-take-le at src (omega (arith, copies.within)) in
       let front : take at dst ≡ take at src = ap (take at) copies.copied
-      ∙ take-append-le at (take at src) (drop at old) (omega arith) ∙ take-take at at src (omega arith) in
+      ∙ take-append-le at (take at src) (drop at old) (omega arith)
+      ∙ take-take at at src (omega arith) in
       let rest : drop at dst ≡ drop at old =
       ap (drop at) copies.copied ∙ ap (λ k. drop k (take at src ++ drop at old)) (sym long)
       ∙ drop-append_seam (take at src) (drop at old) in

@@ -75,7 +75,8 @@ pub words_spelt : (us : List ℕ) → Each1 (Fits w16) us → (n : ℕ)
 words_spelt us fit zero = refl
 words_spelt [] fit (suc n) = refl
 words_spelt (u ∷ us) fit (suc n) =
-    ap (λ z. z ++ bytes_of_words (take n (map unit_word us))) (word_spelt u fit.0.fits (form_of u)).1
+    ap (λ z. z ++ bytes_of_words (take n (map unit_word us)))
+    (word_spelt u fit.0.fits (form_of u)).1
     ∙ ap (λ z. encode_utf8 u ++ z) (words_spelt us fit.1 n)
 
 -- one more word that is stored
@@ -120,7 +121,8 @@ front_ascii us long a = subst AreScalars (sym (take_all 8 us (omega arith))) (as
 pub units_alone : (us : List ℕ) → Each1 (Fits w16) us → (n : ℕ)
     → units_of_text encode_utf16 (take n us) ≡ take n us
 units_alone us fit n = own_text encode_utf16 (take n us) (λ k d inside.
-    one_unit _ (Each1-get_or (Fits w16) (take n us) k d inside (Each1-chunk (Fits w16) 0 n us fit)).fits)
+    let front_fits = Each1-chunk (Fits w16) 0 n us fit in
+    one_unit _ (Each1-get_or (Fits w16) (take n us) k d inside front_fits).fits)
 
 -- characters of one code unit each
 

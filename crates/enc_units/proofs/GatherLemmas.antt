@@ -124,18 +124,19 @@ pub record Gathered (units_of : ℕ → List ℕ) (Means : List ℕ → ℕ → 
   pub gathers : GathersChars units_of Means src read [] (take written buffer)
 
 -- the loop goes on
-pub gathered_then : {units_of : ℕ → List ℕ} {Means : List ℕ → ℕ → Type 0}
-    {src first buffer new : List ℕ} {room limit read written n end : ℕ}
-    → Gathered units_of Means src first buffer room limit read written
-    → length new ≡ length buffer → end ≤ limit
-    → GathersChars units_of Means (drop read src) n (take written buffer) (take end new)
-    → Gathered units_of Means src first new room limit (read + n) end
-gathered_then gathered long bound more = record {
-  fits = omega (arith, gathered.fits, long);
-  bound = bound;
-  long = long ∙ gathered.long;
-  gathers = gathers_then gathered.gathers more;
-}
+module _ {units_of : ℕ → List ℕ} {Means : List ℕ → ℕ → Type 0} {src first buffer : List ℕ}
+    {room limit read written : ℕ} where
+  pub gathered_then : {new : List ℕ} {n end : ℕ}
+      → Gathered units_of Means src first buffer room limit read written
+      → length new ≡ length buffer → end ≤ limit
+      → GathersChars units_of Means (drop read src) n (take written buffer) (take end new)
+      → Gathered units_of Means src first new room limit (read + n) end
+  gathered_then gathered long bound more = record {
+    fits = omega (arith, gathered.fits, long);
+    bound = bound;
+    long = long ∙ gathered.long;
+    gathers = gathers_then gathered.gathers more;
+  }
 
 -- a byte that is a character
 module _ {Means : List ℕ → ℕ → Type 0} {src : List ℕ} {read : ℕ} {before mid after : List ℕ}
