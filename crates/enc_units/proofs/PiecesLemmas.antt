@@ -120,9 +120,8 @@ module _ {units_of : ℕ → List ℕ} {Means : List ℕ → ℕ → Type 0} whe
         scalars = scalars-append first.text then_more.text first.scalars then_more.scalars;
         reads = reads_then first.reads (rw rest_is at then_more.reads);
         fits = omega (arith, ap length both, lengths, first.fits, then_more.fits, room);
-        written = then_more.written ∙ ap (λ o. with_appended o more_units) first.written
-            ∙ with_appended-with_appended before first_units more_units
-            ∙ ap (with_appended before) (sym both);
+        written = then_more.written ∙ rw (first.written, both)
+            (with_appended-with_appended before first_units more_units);
       }
 
   -- bytes that are their own characters
