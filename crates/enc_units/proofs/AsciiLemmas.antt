@@ -4,9 +4,9 @@ use Rattle.std.proofs.Common.{length, get_or, take, drop, ap, ◌∙◌, sym, su
 use Rattle.std.proofs.Common.{take-add, drop-cons, append_assoc, drop-drop}
 use Rattle.std.proofs.lemmas.Bool.{cases_lt}
 use Rattle.std.proofs.lemmas.Bool.Decides.{nat_tests}
-use Rattle.std.proofs.lemmas.List.{length-take-le, take_all, get_or-take, get_or-drop}
+use Rattle.std.proofs.lemmas.List.{take-append-le, take-take, length-take-le, take_all, get_or-take, get_or-drop}
 use Rattle.std.proofs.lemmas.List.Elements.{All-append, All-more}
-use Rattle.std.proofs.Math.Seq.{take-append_seam, drop-append_seam}
+use Rattle.std.proofs.Math.Seq.{drop-append_seam}
 use Rattle.std.proofs.Math.ListN.{set}
 use lib.Lanes.{put_chunk}
 use Rattle.enc_units.proofs.LengthLemmas.{lengths}
@@ -40,9 +40,9 @@ module _ {src old dst : List ℕ} {most at : ℕ} (copies : CopiesAscii src old 
       → Put at n dst (take n (drop at src)) new → new ≡ take (at + n) src ++ drop (at + n) old
   copied_further {n} {new} fits put =
       let long = length-take-le at src (omega (arith, copies.within)) in
-      let front : take at dst ≡ take at src =
-      ap (take at) copies.copied ∙ ap (λ k. take k (take at src ++ drop at old)) (sym long)
-      ∙ take-append_seam (take at src) (drop at old) in
+      let front : take at dst ≡ take at src = ap (take at) copies.copied
+      ∙ take-append-le at (take at src) (drop at old) (omega arith)
+      ∙ take-take at at src (omega arith) in
       let rest : drop at dst ≡ drop at old =
       ap (drop at) copies.copied ∙ ap (λ k. drop k (take at src ++ drop at old)) (sym long)
       ∙ drop-append_seam (take at src) (drop at old) in

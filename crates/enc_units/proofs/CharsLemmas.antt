@@ -1,35 +1,23 @@
 -- The code units of a text, and the characters of code units.
 use Rattle.std.proofs.Common.{◌==◌, Option, Some, None, MatchOption, ◌≡◌, ℕ, ◌+◌, zero, suc, ◌<◌, ◌≤◌}
 use Rattle.std.proofs.Common.{false, List, [], ◌∷◌, ◌++◌, length, get_or, drop, refl, ap, ◌∙◌, sym, arith}
-use Rattle.std.proofs.Common.{length-append, map, encode_utf8, chars, IsUtf8, nat_le, nat_lt, ◌&&◌, ◌⊎◌}
+use Rattle.std.proofs.Common.{length-append, encode_utf8, chars, IsUtf8, nat_le, nat_lt, ◌&&◌, ◌⊎◌}
 use Rattle.std.proofs.Common.{inl, inr}
 use Rattle.std.specs.Char.Escape.{encode_utf16}
 use Rattle.std.specs.Char.Utf16.{utf16_lossy_chars, is_high_surrogate, is_low_surrogate, surrogate_pair_char}
-use Rattle.std.proofs.lemmas.Str.{encodes-chars, utf16_chars-nil, utf16_chars_lone, utf16_chars_pair}
+use Rattle.std.proofs.lemmas.Str.{encodes-chars}
 use Rattle.enc_units.proofs.LengthLemmas.{lengths}
 use Rattle.enc_units.specs.Output.{units_of_text}
 use Rattle.enc_units.specs.Surrogates.{lossy_unit_char, IsSurrogatePair, IsFirstUtf16Char}
-use Rattle.std.specs.Option.{unwrap_or}
 use Rattle.std.proofs.lemmas.Bool.{cases_Bool}
 use Rattle.std.proofs.lemmas.Bool.Decides.{nat_tests}
 use Rattle.std.proofs.lemmas.List.{drop-drop}
-use Rattle.enc_units.proofs.UnitsLemmas.{one_unit, two_units}
+use Rattle.enc_units.proofs.UnitsLemmas.{one_unit, two_units, lossy_nil, lossy_lone, lossy_pair}
 use Rattle.enc_units.proofs.Utf8CharsLemmas.{their_units}
 
 pub utf8_length : (bs : List ℕ) → IsUtf8 bs
     → length bs ≡ length (units_of_text encode_utf8 (chars bs))
 utf8_length bs u = sym (ap length (their_units (chars bs) ∙ encodes-chars bs u))
-
-pub lossy_nil : utf16_lossy_chars [] ≡ []
-lossy_nil = ap (map (λ o. unwrap_or o 0xFFFD)) utf16_chars-nil
-
-pub lossy_lone : (u : ℕ) (us : List ℕ) → ¬ (IsSurrogatePair u (get_or us 0 0))
-    → utf16_lossy_chars (u ∷ us) ≡ lossy_unit_char u ∷ utf16_lossy_chars us
-lossy_lone u us n = ap (map (λ o. unwrap_or o 0xFFFD)) (utf16_chars_lone u us n)
-
-pub lossy_pair : (u v : ℕ) (us : List ℕ) → IsSurrogatePair u v
-    → utf16_lossy_chars (u ∷ v ∷ us) ≡ surrogate_pair_char u v ∷ utf16_lossy_chars us
-lossy_pair u v us p = ap (map (λ o. unwrap_or o 0xFFFD)) (utf16_chars_pair u v us p)
 
 lone_narrow : (u : ℕ) → u < 0x1_0000 → lossy_unit_char u < 0x1_0000
 lone_narrow u h =
@@ -46,13 +34,13 @@ first_lone (u ∷ us) h f n = record {
   width = sym (ap length (one_unit (lossy_unit_char u) (lone_narrow u f)));
 }
 
-pub first_pair : (us : List ℕ) → 2 ≤ length us → IsSurrogatePair (get_or us 0 0) (get_or us 1 0)
+pub first_pair : (us : List ℕ) → IsSurrogatePair (get_or us 0 0) (get_or us 1 0)
     → IsFirstUtf16Char us (surrogate_pair_char (get_or us 0 0) (get_or us 1 0)) 2
-first_pair [] h p = absurd (omega arith)
-first_pair (u ∷ []) h p = absurd (omega arith)
-first_pair (u ∷ v ∷ us) h p = record {
-  within = h;
-  chars = lossy_pair u v us p;
+first_pair [] pair = absurd (omega arith)
+first_pair (u ∷ []) pair = absurd (omega arith)
+first_pair (u ∷ v ∷ us) pair = record {
+  within = omega arith;
+  chars = lossy_pair u v us pair;
   width = sym (ap length (two_units (surrogate_pair_char u v) (omega arith)));
 }
 
@@ -79,7 +67,7 @@ utf16_length (u ∷ []) are_units =
     step (u ∷ []) _ 1 (first_lone (u ∷ []) (omega arith) (are_units 0) (λ p. omega (arith, p.2)))
     (rw lossy_nil refl)
 utf16_length (u ∷ v ∷ us) are_units = elim (decide_pair u v) [
-  | inl p ↦ step (u ∷ v ∷ us) _ 2 (first_pair (u ∷ v ∷ us) (omega arith) p)
+  | inl p ↦ step (u ∷ v ∷ us) _ 2 (first_pair (u ∷ v ∷ us) p)
       (utf16_length us (λ i. are_units (suc (suc i))))
   | inr n ↦ step (u ∷ v ∷ us) _ 1 (first_lone (u ∷ v ∷ us) (omega arith) (are_units 0) n)
       (utf16_length (v ∷ us) (λ i. are_units (suc i)))
@@ -92,20 +80,10 @@ record HasFirst (us : List ℕ) : Type 0 where
   units : ℕ
   first : IsFirstUtf16Char us char units
 
-first_of : (u : ℕ) (us : List ℕ) → AreUnits (u ∷ us) → HasFirst (u ∷ us)
-first_of u [] are_units =
-    record {
-      char = _;
-      units = 1;
-      first = first_lone (u ∷ []) (omega arith) (are_units 0) (λ p. omega (arith, p.2));
-    }
-first_of u (v ∷ us) are_units = elim (decide_pair u v) [
-  | inl p ↦ record { char = _; units = 2; first = first_pair (u ∷ v ∷ us) (omega arith) p }
-  | inr n ↦ record {
-    char = _;
-    units = 1;
-    first = first_lone (u ∷ v ∷ us) (omega arith) (are_units 0) n;
-  }
+first_of : (us : List ℕ) → 1 ≤ length us → AreUnits us → HasFirst us
+first_of us some are_units = elim (decide_pair (get_or us 0 0) (get_or us 1 0)) [
+  | inl pair ↦ record { char = _; units = 2; first = first_pair us pair }
+  | inr lone ↦ record { char = _; units = 1; first = first_lone us some (are_units 0) lone }
 ]
 
 units-drop : (n : ℕ) (us : List ℕ) → AreUnits us → AreUnits (drop n us)
@@ -126,7 +104,7 @@ lossy_after us are_units [] rest whole = whole
 lossy_after [] are_units (c ∷ cs) rest whole =
     absurd (let nil_is_cons : [] ≡ c ∷ (cs ++ rest) = sym lossy_nil ∙ whole in cc)
 lossy_after (u ∷ us) are_units (c ∷ cs) rest whole =
-    let begins = first_of u us are_units in
+    let begins = first_of (u ∷ us) (omega arith) are_units in
     let same = sym begins.first.chars ∙ whole in
     let rest_length = length (units_of_text encode_utf16 cs) in
     let whole_length : length (units_of_text encode_utf16 (c ∷ cs)) ≡ begins.units + rest_length =
@@ -158,18 +136,14 @@ high_lone u h = elim (cases_Bool (nat_le 0xD800 u && nat_lt u 0xE000)) [
   | inr e ↦ rw e h
 ]
 
-high_pair : (u v : ℕ) → IsSurrogatePair u v → 0x80 ≤ surrogate_pair_char u v
-high_pair u v p = omega arith
-
 pub beyond_ascii : (us : List ℕ) (c n : ℕ) → IsFirstUtf16Char us c n → 0x80 ≤ get_or us 0 0
     → 0x80 ≤ c
 beyond_ascii [] c n begins is_beyond_ascii = absurd (omega (arith, is_beyond_ascii))
-beyond_ascii (u ∷ []) c n begins is_beyond_ascii =
-    let same = heads (sym (lossy_lone u [] (λ p. omega (arith, p.2))) ∙ begins.chars) in
-    omega (arith, same, high_lone u is_beyond_ascii)
-beyond_ascii (u ∷ v ∷ us) c n begins is_beyond_ascii = elim (decide_pair u v) [
-  | inl is_pair ↦ let same = heads (sym (lossy_pair u v us is_pair) ∙ begins.chars) in
-      omega (arith, same, high_pair u v is_pair)
-  | inr p ↦ let same = heads (sym (lossy_lone u (v ∷ us) p) ∙ begins.chars) in
+beyond_ascii (u ∷ us) c n begins is_beyond_ascii = elim (decide_pair u (get_or us 0 0)) [
+  | inl pair ↦
+      let same = heads (sym (first_pair (u ∷ us) pair).chars ∙ begins.chars) in
+      omega (arith, same)
+  | inr lone ↦
+      let same = heads (sym (lossy_lone u us lone) ∙ begins.chars) in
       omega (arith, same, high_lone u is_beyond_ascii)
 ]

@@ -75,7 +75,8 @@ pub words_spelt : (us : List ℕ) → Each1 (Fits w16) us → (n : ℕ)
 words_spelt us fit zero = refl
 words_spelt [] fit (suc n) = refl
 words_spelt (u ∷ us) fit (suc n) =
-    ap (λ z. z ++ bytes_of_words (take n (map unit_word us))) (word_spelt u fit.0.fits (form_of u)).1
+    ap (λ z. z ++ bytes_of_words (take n (map unit_word us)))
+    (word_spelt u fit.0.fits (form_of u)).1
     ∙ ap (λ z. encode_utf8 u ++ z) (words_spelt us fit.1 n)
 
 -- one more word that is stored
@@ -93,18 +94,14 @@ pub stored_word : (words : List ℕ) (count : ℕ) → count < length words
     → mid ≡ front ++ bytes_of_words (take count words)
     → after ≡ mid ++ take (get_or words count 0 / 0x100_0000) bytes
     → after ≡ front ++ bytes_of_words (take (count + 1) words)
-stored_word words count inside front {mid} b m a =
+stored_word words count inside front {mid} bytes_are before stored =
     let word = get_or words count 0 in
-    let old = bytes_of_words (take count words) in
-    let new = take (word / 0x100_0000) (to_le_bytes w32 word) in
     let next : count + 1 ≡ suc count = omega arith in
-    let more = ap (λ k. bytes_of_words (take k words)) next
-    ∙ ap bytes_of_words (take-suc words count 0 inside)
-    ∙ bytes-append (take count words) (word ∷ [])
-    ∙ ap (λ z. old ++ z) (append-nil new) in
-    a ∙ ap (λ z. mid ++ take (word / 0x100_0000) z) b ∙ ap (λ z. z ++ new) m
-    ∙ append_assoc front old new
-    ∙ ap (λ z. front ++ z) (sym more)
+    let more = bytes-append (take count words) (word ∷ [])
+    ∙ ap (λ z. bytes_of_words (take count words) ++ z)
+    (append-nil (take (word / 0x100_0000) (to_le_bytes w32 word))) in
+    stored ∙ rw (bytes_are, before, next, take-suc words count 0 inside, more)
+    (append_assoc front _ _)
 
 -- code units that are ASCII, as bytes
 
@@ -124,7 +121,8 @@ front_ascii us long a = subst AreScalars (sym (take_all 8 us (omega arith))) (as
 pub units_alone : (us : List ℕ) → Each1 (Fits w16) us → (n : ℕ)
     → units_of_text encode_utf16 (take n us) ≡ take n us
 units_alone us fit n = own_text encode_utf16 (take n us) (λ k d inside.
-    one_unit _ (Each1-get_or (Fits w16) (take n us) k d inside (Each1-chunk (Fits w16) 0 n us fit)).fits)
+    let front_fits = Each1-chunk (Fits w16) 0 n us fit in
+    one_unit _ (Each1-get_or (Fits w16) (take n us) k d inside front_fits).fits)
 
 -- characters of one code unit each
 

@@ -1,10 +1,10 @@
 -- Characters that are gathered one after another.
-use Rattle.std.proofs.Common.{◌≡◌, ℕ, zero, suc, ◌+◌, ◌/◌, ◌<◌, ◌≤◌, List, [], ◌∷◌, ◌++◌, length, get_or}
+use Rattle.std.proofs.Common.{◌≡◌, ℕ, ◌+◌, ◌/◌, ◌<◌, ◌≤◌, List, [], ◌∷◌, ◌++◌, length, get_or}
 use Rattle.std.proofs.Common.{take, drop, refl, ap, ◌∙◌, sym, subst, arith, append_assoc, append-nil}
-use Rattle.std.proofs.Common.{take-add, drop-cons}
-use Rattle.std.proofs.lemmas.List.{length-take-le, take-take}
+use Rattle.std.proofs.Common.{drop-cons}
+use Rattle.std.proofs.lemmas.List.{length-take-le, take-append-le, take-take}
 use Rattle.std.proofs.lemmas.Simd.{put_chunk_is}
-use Rattle.std.proofs.Math.Seq.{take-append_seam, drop-append_seam}
+use Rattle.std.proofs.Math.Seq.{take-append-add}
 use Rattle.std.specs.Char.{IsScalar, encode_utf8}
 use Rattle.std.specs.Char.Escape.{encode_utf16}
 use Rattle.std.specs.Int.{w32, to_le_bytes}
@@ -22,23 +22,14 @@ use Rattle.enc_units.proofs.ScalarLemmas.{one_scalar, scalars-append, ascii_scal
 
 -- a list that is stored after what was there
 
-take_front : (n : ℕ) (ys zs : List ℕ) → n ≤ length ys → take n (ys ++ zs) ≡ take n ys
-take_front zero ys zs h = refl
-take_front (suc n) [] zs h = absurd (omega arith)
-take_front (suc n) (y ∷ ys) zs h = ap (λ t. y ∷ t) (take_front n ys zs (omega arith))
-
 -- the first units that are stored
 pub stored_front : (at n : ℕ) (old ys zs : List ℕ) → at ≤ length old → n ≤ length ys
     → take (at + n) (take at old ++ (ys ++ zs)) ≡ take at old ++ take n ys
-stored_front at n old ys zs h k =
-    let xs = take at old ++ (ys ++ zs) in
-    let long = length-take-le at old h in
-    take-add at n xs
-    ∙ ap (λ z. z ++ take n (drop at xs))
-    (ap (λ m. take m xs) (sym long) ∙ take-append_seam (take at old) (ys ++ zs))
-    ∙ ap (λ z. take at old ++ take n z)
-    (ap (λ m. drop m xs) (sym long) ∙ drop-append_seam (take at old) (ys ++ zs))
-    ∙ ap (λ z. take at old ++ z) (take_front n ys zs k)
+stored_front at n old ys zs within few =
+    let count : at + n ≡ length (take at old) + n = omega (arith, lengths) in
+    ap (λ m. take m (take at old ++ (ys ++ zs))) count
+    ∙ take-append-add (take at old) (ys ++ zs) n
+    ∙ ap (λ z. take at old ++ z) (take-append-le n ys zs few)
 
 pub stored_lanes : (at n : ℕ) (old ys : List ℕ) → at + length ys ≤ length old → n ≤ length ys
     → take (at + n) (put_chunk at old ys) ≡ take at old ++ take n ys
@@ -77,8 +68,7 @@ module _ {units_of : ℕ → List ℕ} {Means : List ℕ → ℕ → Type 0} whe
         scalars = scalars-append first.text then_more.text first.scalars then_more.scalars;
         reads = reads_then first.reads then_more.reads;
         written = then_more.written ∙ ap (λ z. z ++ more_units) first.written
-            ∙ append_assoc before first_units more_units
-            ∙ ap (λ z. before ++ z) (sym (units-append units_of first.text then_more.text));
+            ∙ rw (units-append units_of first.text then_more.text, append_assoc) refl;
       }
 
   -- bytes that are their own characters
@@ -134,18 +124,19 @@ pub record Gathered (units_of : ℕ → List ℕ) (Means : List ℕ → ℕ → 
   pub gathers : GathersChars units_of Means src read [] (take written buffer)
 
 -- the loop goes on
-pub gathered_then : {units_of : ℕ → List ℕ} {Means : List ℕ → ℕ → Type 0}
-    {src first buffer new : List ℕ} {room limit read written n end : ℕ}
-    → Gathered units_of Means src first buffer room limit read written
-    → length new ≡ length buffer → end ≤ limit
-    → GathersChars units_of Means (drop read src) n (take written buffer) (take end new)
-    → Gathered units_of Means src first new room limit (read + n) end
-gathered_then gathered long bound more = record {
-  fits = omega (arith, gathered.fits, long);
-  bound = bound;
-  long = long ∙ gathered.long;
-  gathers = gathers_then gathered.gathers more;
-}
+module _ {units_of : ℕ → List ℕ} {Means : List ℕ → ℕ → Type 0} {src first buffer : List ℕ}
+    {room limit read written : ℕ} where
+  pub gathered_then : {new : List ℕ} {n end : ℕ}
+      → Gathered units_of Means src first buffer room limit read written
+      → length new ≡ length buffer → end ≤ limit
+      → GathersChars units_of Means (drop read src) n (take written buffer) (take end new)
+      → Gathered units_of Means src first new room limit (read + n) end
+  gathered_then gathered long bound more = record {
+    fits = omega (arith, gathered.fits, long);
+    bound = bound;
+    long = long ∙ gathered.long;
+    gathers = gathers_then gathered.gathers more;
+  }
 
 -- a byte that is a character
 module _ {Means : List ℕ → ℕ → Type 0} {src : List ℕ} {read : ℕ} {before mid after : List ℕ}

@@ -60,7 +60,8 @@ module _ (p : ℕ → Bool) (xs : List ℕ) (n : ℕ) (long : length xs ≡ n) (
 
   pub some_passes : (mask ≡ 0 → ⊥) → AreBefore p xs (count_trailing_zeros 64 mask)
   some_passes some =
-      before _ (ap (count_trailing_zeros 64) is ∙ trailing_mask_l p 64 xs (omega arith) (omega arith))
+      before _
+      (ap (count_trailing_zeros 64) is ∙ trailing_mask_l p 64 xs (omega arith) (omega arith))
 
 -- lanes that are not ASCII
 

@@ -7,7 +7,7 @@ use Rattle.std.specs.Char.{encode_utf8}
 use Rattle.std.specs.Prelude.{All}
 use Rattle.enc_units.specs.Mappings.{WritesMapped, AreWrittenAsThemselves, AreWrittenAsUtf8}
 use Rattle.enc_units.specs.Output.{AreScalars, units_of_text}
-use Rattle.enc_units.specs.Pieces.{piece_bytes, piece_chars}
+use Rattle.enc_units.specs.Pieces.{piece_bytes}
 use Rattle.enc_units.proofs.PieceListLemmas.{piece_bytes-append, piece_chars-append, EachMeansChar-append}
 use Rattle.enc_units.proofs.PieceListLemmas.{AreScalars-all, alone, units_alone, pieces_of, bytes_of, chars_of}
 use Rattle.enc_units.proofs.PieceListLemmas.{they_mean}
@@ -41,13 +41,15 @@ module _ {Means : List ℕ → ℕ → Type 0} where
       let put = put_more (put_of first) (put_of then_more) in
       record {
         pieces = first.pieces ++ then_more.pieces;
-        reads = first.reads ∙ ap (λ z. piece_chars first.pieces ++ z) then_more.reads
-            ∙ sym (append_assoc (piece_chars first.pieces) (piece_chars then_more.pieces) rest)
-            ∙ ap (λ z. z ++ rest) (sym (piece_chars-append first.pieces then_more.pieces));
+        reads = first.reads ∙ rw (
+          then_more.reads,
+          piece_chars-append first.pieces then_more.pieces,
+          append_assoc,
+        ) refl;
         mean = EachMeansChar-append Means first.pieces then_more.pieces first.mean then_more.mean;
         count = put.count ∙ ap length (sym both);
         fits = put.fits;
-        onto = put.onto ∙ ap (λ z. take at before ++ (z ++ drop (at + (n + k)) before)) (sym both);
+        onto = rw both put.onto;
       }
 
   -- the slice keeps its length
@@ -67,7 +69,7 @@ module _ {Means : List ℕ → ℕ → Type 0} where
         mean = they_mean code Means text mean;
         count = put.count ∙ ap length bytes_are;
         fits = put.fits;
-        onto = put.onto ∙ ap (λ z. take at before ++ (z ++ drop (at + n) before)) bytes_are;
+        onto = rw (← bytes_are) put.onto;
       }
 
   -- one character
@@ -101,8 +103,7 @@ pub put_first : (at : ℕ) (dst bytes : List ℕ) (n : ℕ) → n ≡ 1 → 1 �
     → set dst at (get_or bytes 0 0) ≡ take at dst ++ (take n bytes ++ drop (at + 1) dst)
 put_first at dst [] n is some inside = absurd (omega arith)
 put_first at dst (b ∷ bytes) n is some inside =
-    (put_one at b dst inside).onto
-    ∙ ap (λ k. take at dst ++ (take k (b ∷ bytes) ++ drop (at + 1) dst)) (sym is)
+    rw is (put_one at b dst inside).onto
 
 pub put_first_two : (at : ℕ) (dst bytes : List ℕ) (n : ℕ) → n ≡ 2 → 2 ≤ length bytes
     → at + 1 < length dst
@@ -113,5 +114,4 @@ put_first_two at dst (a ∷ []) n is two inside = absurd (omega arith)
 put_first_two at dst (a ∷ b ∷ bytes) n is two inside =
     let first = put_one at a dst (omega arith) in
     let second = put_one (at + 1) b (set dst at a) (omega (arith, put_length first)) in
-    (put_more first second).onto
-    ∙ ap (λ k. take at dst ++ (take k (a ∷ b ∷ bytes) ++ drop (at + 2) dst)) (sym is)
+    rw is (put_more first second).onto

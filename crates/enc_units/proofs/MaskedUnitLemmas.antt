@@ -214,12 +214,9 @@ pub stores_marked : (at marks : ℕ) (units row picked_bytes old : List ℕ) →
     (put_chunk at old (digits_l 0x1_0000 8 (number_l 0x100 picked_bytes))) ≡ take at old
     ++ marked_code_units marks units
 stores_marked at marks units row picked_bytes old room long fit row_long is_row are_picked =
-    let below : marks % 0x100 < 0x100 = omega arith in
-    ap (λ z. take (at + ones (marks % 0x100))
-    (put_chunk at old (digits_l 0x1_0000 8 (number_l 0x100 z)))) are_picked
-    ∙ stored_lanes at (ones (marks % 0x100)) old
-    (stored units row (marks % 0x100) long fit row_long is_row) room
-    (ones-le 8 (marks % 0x100) below)
-    ∙ ap (λ z. take at old ++ z)
-    (marked_units units row (marks % 0x100) long fit row_long is_row below
-    ∙ ap (map (λ k. get_or units k 0)) (low_bits 8 marks 0))
+    let mask = marks % 0x100 in
+    let below : mask < 0x100 = omega arith in
+    rw are_picked (stored_lanes at (ones mask) old (stored units row mask long fit row_long is_row)
+    room (ones-le 8 mask below)
+    ∙ ap (λ z. take at old ++ z) (marked_units units row mask long fit row_long is_row below
+    ∙ ap (map (λ k. get_or units k 0)) (low_bits 8 marks 0)))

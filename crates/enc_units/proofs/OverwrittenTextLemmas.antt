@@ -64,7 +64,8 @@ tail_by c (Two from below code) = rw code ((omega arith, omega arith), tt)
 tail_by c (Three from below code) =
     rw code ((omega arith, omega arith), ((omega arith, omega arith), tt))
 tail_by c (Four from code) =
-    rw code ((omega arith, omega arith), ((omega arith, omega arith), ((omega arith, omega arith), tt)))
+    rw code
+    ((omega arith, omega arith), ((omega arith, omega arith), ((omega arith, omega arith), tt)))
 
 -- the rest of a character after its first bytes, and other text
 rest_by : (c n : ℕ) (z : List ℕ) → IsUtf8 (encode_utf8 c ++ z) → IsUtf8 (without_continuations z)

@@ -23,9 +23,12 @@ module _ (src : List ℕ) (leads read next : ℕ)
   two_front : take 2 (drop read src) ≡ first ∷ second ∷ []
   two_front =
       let place : suc read ≡ 1 + read = omega arith in
-      ap (take 2) (drop-cons src read 0 (omega arith)
-      ∙ ap (λ z. first ∷ z) (drop-cons src (suc read) 0 (omega arith)))
-      ∙ ap (λ b. first ∷ b ∷ []) (ap (λ k. get_or src k 0) place ∙ sym (get_or-drop 1 src read 0))
+      rw (
+        drop-cons src read 0 (omega arith),
+        drop-cons src (suc read) 0 (omega arith),
+        place,
+        get_or-drop 1 src read 0,
+      ) refl
 
   -- the bytes up to where the next character begins
   front_is : (t : Bool) → has_bit leads read ≡ t

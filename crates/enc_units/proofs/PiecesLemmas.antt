@@ -10,7 +10,7 @@ use Rattle.enc_units.specs.Output.{Output, with_appended, units_of_text}
 use Rattle.enc_units.specs.Validity.{AreAscii}
 use Rattle.enc_units.specs.AsciiRun.{PutsAscii}
 use Rattle.enc_units.specs.Mappings.{AreWrittenAsThemselves, IsWrittenAsItself, KeepsAscii}
-use Rattle.enc_units.specs.Pieces.{Piece, piece_bytes, piece_chars, EachMeansChar, ReadsPieces, PutsPieces}
+use Rattle.enc_units.specs.Pieces.{Piece, EachMeansChar, ReadsPieces, PutsPieces}
 use Rattle.enc_units.proofs.PieceListLemmas.{piece_bytes-append, piece_chars-append, EachMeansChar-append}
 use Rattle.enc_units.proofs.PieceListLemmas.{alone, units_alone, pieces_of, bytes_of, chars_of, they_mean}
 use Rattle.enc_units.proofs.LengthLemmas.{lengths}
@@ -44,11 +44,9 @@ module _ {Means : List ℕ → ℕ → Type 0} where
     pieces = first.pieces ++ then_more.pieces;
     within = omega (arith, first.within, then_more.within, lengths);
     bytes = piece_bytes-append first.pieces then_more.pieces
-        ∙ ap (λ z. z ++ piece_bytes then_more.pieces) first.bytes
-        ∙ ap (λ z. take a src ++ z) then_more.bytes ∙ sym (take-add a n src);
+        ∙ rw (first.bytes, then_more.bytes, take-add a n src) refl;
     chars = piece_chars-append first.pieces then_more.pieces
-        ∙ ap (λ z. z ++ piece_chars then_more.pieces) first.chars
-        ∙ ap (λ z. s ++ z) then_more.chars;
+        ∙ rw (first.chars, then_more.chars) refl;
     mean = EachMeansChar-append Means first.pieces then_more.pieces first.mean then_more.mean;
     none = λ z. ap (λ ps. ps ++ then_more.pieces) (first.none (omega arith))
         ∙ then_more.none (omega arith);
@@ -122,9 +120,8 @@ module _ {units_of : ℕ → List ℕ} {Means : List ℕ → ℕ → Type 0} whe
         scalars = scalars-append first.text then_more.text first.scalars then_more.scalars;
         reads = reads_then first.reads (rw rest_is at then_more.reads);
         fits = omega (arith, ap length both, lengths, first.fits, then_more.fits, room);
-        written = then_more.written ∙ ap (λ o. with_appended o more_units) first.written
-            ∙ with_appended-with_appended before first_units more_units
-            ∙ ap (with_appended before) (sym both);
+        written = then_more.written ∙ rw (first.written, both)
+            (with_appended-with_appended before first_units more_units);
       }
 
   -- bytes that are their own characters

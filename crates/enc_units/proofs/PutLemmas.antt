@@ -10,7 +10,7 @@ use Rattle.std.proofs.Math.ListN.{drop_of_length-le}
 use Rattle.std.proofs.Math.Seq.{take-append_seam}
 use lib.Lanes.{put_chunk}
 use borrow.Rule.Slice.PartMut.{put_mid}
-use Rattle.enc_units.proofs.LengthLemmas.{lengths}
+use Rattle.enc_units.proofs.LengthLemmas.{lengths, rest_is}
 
 -- n bytes from `at` on have taken the place of those there
 pub record Put (at n : ℕ) (before bytes after : List ℕ) : Type 0 where
@@ -48,11 +48,7 @@ module _ {at n : ℕ} {before bytes after : List ℕ} (put : Put at n before byt
       record {
         count = omega (arith, lengths, put.count, then_more.count);
         fits = omega (arith, then_more.fits, put_length);
-        onto = then_more.onto ∙ ap (λ z. z ++ (more ++ drop (at + n + k) after)) put_front
-            ∙ ap (λ z. (take at before ++ bytes) ++ (more ++ z)) rest
-            ∙ append_assoc (take at before) bytes (more ++ drop (at + (n + k)) before)
-            ∙ ap (λ z. take at before ++ z)
-            (sym (append_assoc bytes more (drop (at + (n + k)) before)));
+        onto = then_more.onto ∙ rw (put_front, rest, append_assoc, append_assoc) refl;
       }
 
 -- by a store of one
@@ -74,10 +70,7 @@ put_lanes m at before lanes fits long = record {
   count = sym (length-take-le m lanes (omega arith));
   fits = fits;
   onto = put_chunk_is at before lanes (omega arith)
-      ∙ ap (λ k. take at before ++ (lanes ++ drop k (drop at before))) long
-      ∙ ap (λ z. take at before ++ (lanes ++ z)) (drop-drop m at before)
-      ∙ ap (λ z. take at before ++ (z ++ drop (at + m) before))
-      (sym (take_all m lanes (omega arith)));
+      ∙ rw (long, drop-drop m at before, take_all m lanes (omega arith)) refl;
 }
 
 -- by a copy to a part of a slice
@@ -88,9 +81,7 @@ put_part at n before {new} {bytes} copied count fits =
     record {
       count = count;
       fits = fits;
-      onto = ap (λ z. take at before ++ (z ++ drop (at + n - at) (drop at before))) copied
-          ∙ ap (λ k. take at before ++ (bytes ++ drop k (drop at before))) part
-          ∙ ap (λ z. take at before ++ (bytes ++ z)) (drop-drop n at before);
+      onto = rw (copied, part, drop-drop n at before) refl;
     }
 
 -- by a copy to the front of the rest of a slice
@@ -106,8 +97,5 @@ put_copied at n before src new within read room copied =
       onto =
           ap (λ z. take at before ++ (new ++ z))
           (drop_of_length-le (drop at before) (omega (arith, left)))
-          ∙ ap (λ z. take at before ++ z) (append-nil new ∙ copied)
-          ∙ ap (λ z. take at before ++ (take n src ++ drop n z))
-          (take_all (length before - at) (drop at before) (omega (arith, left)))
-          ∙ ap (λ z. take at before ++ (take n src ++ z)) (drop-drop n at before);
+          ∙ rw (append-nil new, copied, rest_is at before, drop-drop n at before) refl;
     }

@@ -1,6 +1,7 @@
 -- Code units of UTF-16 in eight lanes, and their UTF-8.
 use Rattle.std.proofs.Common.{◌≡◌, ℕ, zero, suc, ◌+◌, ◌*◌, ◌/◌, ◌%◌, ◌^◌, ◌<◌, ◌≤◌, Bool, true, false, cond, eqb}
-use Rattle.std.proofs.Common.{ltb, List, [], ◌∷◌, map, length, All, w8, w16, replicate, take, refl, ap, ◌∙◌, arith, bit_and}
+use Rattle.std.proofs.Common.{ltb, List, [], ◌∷◌, map, length, All, w8, w16}
+use Rattle.std.proofs.Common.{replicate, take, refl, ap, ◌∙◌, arith, bit_and}
 use Rattle.std.proofs.lemmas.Bool.Decides.{nat_tests}
 use Rattle.std.proofs.lemmas.List.Elements.{All-tail}
 use Rattle.std.proofs.lemmas.Nat.{and_mask}

@@ -5,7 +5,7 @@ use Rattle.enc_units.specs.Utf8Units.{units_from}
 use Rattle.enc_units.specs.Validity.{IsWellFormedUtf8}
 use Rattle.enc_units.proofs.LengthLemmas.{lengths}
 use Rattle.enc_units.proofs.Utf8CountLemmas.{enough_units}
-use Rattle.enc_units.proofs.Utf8UnitsLemmas.{units_further, units_few, units_cover}
+use Rattle.enc_units.proofs.Utf8UnitsLemmas.{units_further, units_few, units_parts}
 
 -- `read` of `len` bytes are read, and the slice is unchanged after the code units of all
 pub record UnitsWritten (src first dst : List ℕ) (len read written : ℕ) : Type 0 where
@@ -41,4 +41,5 @@ pub sixteen_ahead : (src : List ℕ) (len read : ℕ) → len ≤ length src
     → IsWellFormedUtf8 (take len src) → read + 52 ≤ len
     → length (units_from src 0 read) + 16 ≤ length (units_from src 0 len)
 sixteen_ahead src len read within utf8 far =
-    units_cover src read len 16 (omega arith) (enough_units src len read within utf8 far)
+    let enough = enough_units src len read within utf8 far in
+    omega (arith, units_parts src read len (omega arith), enough)

@@ -11,11 +11,10 @@ use Rattle.enc_units.specs.Mappings.{AreAnyUnits, WritesFront, WritesThemselves}
 use Rattle.enc_units.specs.Surrogates.{lossy_unit_char}
 use Rattle.enc_units.specs.Validity.{AreAscii}
 use Rattle.enc_units.proofs.AsciiLemmas.{one_ascii}
-use Rattle.enc_units.proofs.CharsLemmas.{lossy_lone}
+use Rattle.enc_units.proofs.UnitsLemmas.{lossy_lone, lossy_scalars}
 use Rattle.enc_units.proofs.LaneLemmas.{all_fewer}
 use Rattle.enc_units.proofs.PutLemmas.{put_one}
 use Rattle.enc_units.proofs.ScalarLemmas.{ascii_scalars}
-use Rattle.enc_units.proofs.Utf16TextLemmas.{lossy_scalars}
 use Rattle.enc_units.proofs.LengthLemmas.{lengths}
 use Rattle.enc_units.proofs.WriteLoopLemmas.{writes_own, writes_one, writes_then}
 
@@ -94,8 +93,7 @@ pub sixteen_low : (us lanes : List ℕ) (n : ℕ) → n ≤ 16 → 16 ≤ n → 
     → lanes ≡ map (λ u. u % 0x80) (take 16 us) → AreAscii (take 16 us) × (lanes ≡ take 16 us)
 sixteen_low us lanes n most all are e =
     let sixteen : n ≡ 16 = omega (arith, most, all) in
-    let whole = subst AreAscii (take-take 16 16 us (omega arith))
-    (subst (λ k. AreAscii (take k (take 16 us))) sixteen are) in
+    let whole = rw (sixteen, take-take 16 16 us (omega arith)) at are in
     (whole, e ∙ low_bytes (take 16 us) whole)
 
 -- clamped units

@@ -1,41 +1,20 @@
 -- UTF-16 that is written as UTF-8.
-use Rattle.std.proofs.Common.{◌≡◌, ℕ, ◌+◌, ◌-◌, ◌≤◌, false, List, [], ◌∷◌, ◌++◌, length, take, drop, refl, ap, ◌∙◌, sym}
-use Rattle.std.proofs.Common.{arith, nat_le, nat_lt, ◌&&◌, append_assoc, append-nil, drop-drop}
+use Rattle.std.proofs.Common.{◌≡◌, ℕ, ◌+◌, ◌-◌, ◌≤◌, List, [], ◌∷◌, ◌++◌, length, take, drop, refl, ap, ◌∙◌, sym}
+use Rattle.std.proofs.Common.{arith, append_assoc, append-nil, drop-drop}
 use Rattle.std.proofs.Common.{take-append-drop}
-use Rattle.std.proofs.lemmas.Bool.{and_parts}
-use Rattle.std.proofs.lemmas.Bool.Decides.{nat_tests}
 use Rattle.std.proofs.lemmas.List.{take-take}
 use Rattle.std.specs.Char.{IsScalar, encode_utf8}
 use Rattle.std.specs.Char.Utf16.{utf16_lossy_chars}
 use Rattle.enc_units.proofs.LengthLemmas.{lengths}
 use Rattle.enc_units.specs.Mappings.{AreAnyUnits, AreWrittenAsUtf8, WritesFront}
 use Rattle.enc_units.specs.Output.{AreScalars, units_of_text}
-use Rattle.enc_units.specs.Surrogates.{lossy_unit_char, IsSurrogatePair, IsFirstUtf16Char}
+use Rattle.enc_units.specs.Surrogates.{IsFirstUtf16Char}
 use Rattle.enc_units.specs.Utf16Text.{AreUtf8OfUnits}
-use Rattle.enc_units.proofs.CharsLemmas.{lossy_lone}
+use Rattle.enc_units.proofs.UnitsLemmas.{lossy_scalars}
 use Rattle.enc_units.proofs.MappingLemmas.{maps_utf8}
 use Rattle.enc_units.proofs.PutLemmas.{Put}
 use Rattle.enc_units.proofs.PiecesLemmas.{units-append}
 use Rattle.enc_units.proofs.ScalarLemmas.{one_scalar, scalars-append}
-
--- a code unit that is no surrogate is a character by itself
-
-scalar_unit : (u : ℕ) → IsScalar u → lossy_unit_char u ≡ u
-scalar_unit u is_scalar =
-    let none : (nat_le 0xD800 u && nat_lt u 0xE000) ≡ false = grind (arith, nat_tests) in
-    rw none refl
-
-no_pair : (u v : ℕ) → IsScalar u → IsSurrogatePair u v → ⊥
-no_pair u v is_scalar pair = grind (arith, nat_tests)
-
-pub lossy_scalars : (us rest : List ℕ) → AreScalars us
-    → utf16_lossy_chars (us ++ rest) ≡ us ++ utf16_lossy_chars rest
-lossy_scalars [] rest are_scalars = refl
-lossy_scalars (u ∷ us) rest are_scalars =
-    let parts = and_parts _ _ are_scalars in
-    lossy_lone u (us ++ rest) (no_pair u _ parts.0)
-    ∙ ap (λ x. x ∷ utf16_lossy_chars (us ++ rest)) (scalar_unit u parts.0)
-    ∙ ap (λ x. u ∷ x) (lossy_scalars us rest parts.1)
 
 -- characters that are read, and their UTF-8
 
@@ -46,12 +25,9 @@ text_stored {us} {bytes = bytes} {a = a} {n = n} first others stored = record {
   within = omega (arith, lengths, first.within, others.within);
   text = first.text ++ others.text;
   scalars = scalars-append first.text others.text first.scalars others.scalars;
-  reads = first.reads ∙ ap (λ z. first.text ++ z) others.reads
-      ∙ sym (append_assoc first.text others.text (utf16_lossy_chars (drop n (drop a us))))
-      ∙ ap (λ z. (first.text ++ others.text) ++ utf16_lossy_chars z) (drop-drop n a us);
+  reads = first.reads ∙ rw (others.reads, drop-drop n a us, append_assoc) refl;
   written = stored ∙ ap (λ z. z ++ bytes) first.written
-      ∙ ap (λ z. units_of_text encode_utf8 first.text ++ z) others.written
-      ∙ sym (units-append encode_utf8 first.text others.text);
+      ∙ rw (others.written, units-append encode_utf8 first.text others.text) refl;
 }
 
 -- the first n code units, where none is a surrogate

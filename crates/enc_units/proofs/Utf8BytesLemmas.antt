@@ -1,4 +1,5 @@
 -- Characters of UTF-8 that are written as one byte each.
+use Rattle.std.proofs.Common.{refl}
 use Rattle.std.proofs.Common.{◌≡◌, ◌∙◌, ℕ, ◌+◌, ◌/◌, ◌%◌, ◌^◌, ◌<◌, ◌≤◌, cond, ltb, List, [], ◌∷◌, ◌++◌, map, length}
 use Rattle.std.proofs.Common.{take, drop, get_or, ap, sym, subst, arith, drop-drop, chars, IsUtf8, min}
 use Rattle.std.proofs.Math.ListN.{set}
@@ -34,10 +35,7 @@ lanes_are src from units clamped leads are_units are_clamped are_leads = record 
       let second : get_or (take 16 (drop (from + 1) src)) k 0 ≡ get_or (drop from src) (k + 1) 0 =
       get_or-take 16 (drop (from + 1) src) k 0 below ∙ get_or-drop (from + 1) src k 0
       ∙ ap (λ j. get_or src j 0) (omega arith) ∙ sym (get_or-drop from src (k + 1) 0) in
-      ap (λ us. get_or us k 0) are_clamped ∙ clamped_at units k
-      ∙ ap (λ u. min u 0x7FF) (are_units k below
-      ∙ ap (λ a. short_unit a (get_or (take 16 (drop (from + 1) src)) k 0)) first
-      ∙ ap (short_unit (get_or (drop from src) k 0)) second);
+      rw (are_clamped, clamped_at units k, are_units k below, first, second) refl;
   lead = λ k below. are_leads k below ∙ ap lead_bit (get_or-take 16 (drop from src) k 0 below);
 }
 

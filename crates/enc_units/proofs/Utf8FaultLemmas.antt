@@ -60,9 +60,12 @@ begins_by_upper x b = grind (arith, nat_tests)
 continue_by_upper : (x b : ℕ) → continue x (b / 16 * 16) ≡ continue x b
 continue_by_upper x b = grind (arith, nat_tests)
 
-pub pair_of : (x b : ℕ) → x < 0x100 → b < 0x100
-    → ArePairFaults x b (looked_up (x / 16) (x % 16) (b / 16))
-pair_of x b lx lb =
+-- the faults of a pair, where each table is read at a half
+pub pair_faults_of : {x b upper lower second : ℕ} → x < 0x100 → b < 0x100
+    → upper ≡ get_or FIRST_UPPER (x / 16) 0 → lower ≡ get_or FIRST_LOWER (x % 16) 0
+    → second ≡ get_or SECOND_UPPER (b / 16) 0
+    → ArePairFaults x b (bit_and (bit_and upper lower) second)
+pair_faults_of {x} {b} first_fits second_fits upper_is lower_is second_is =
     let by_lower = every_passes 16
     (λ upper. every 16 (λ lower. every 16 (λ second. halves_ok upper lower second))) tables_ok
     (x / 16) (omega arith) in
@@ -73,20 +76,12 @@ pair_of x b lx lb =
     (omega arith) in
     let parts = and_parts _ _ ok in
     let whole : x / 16 * 16 + x % 16 ≡ x = omega arith in
-    record {
+    rw (upper_is, lower_is, second_is) (record {
       none = alike_is _ _ parts.0 ∙ ap (λ z. begins_or_is_second z (b / 16 * 16)) whole
           ∙ begins_by_upper x b;
       continue = alike_is _ _ parts.1 ∙ ap (λ z. continue z (b / 16 * 16)) whole
           ∙ continue_by_upper x b;
-    }
-
--- the faults of a pair, where each table is read at a half
-pub pair_faults_of : {x b upper lower second : ℕ} → x < 0x100 → b < 0x100
-    → upper ≡ get_or FIRST_UPPER (x / 16) 0 → lower ≡ get_or FIRST_LOWER (x % 16) 0
-    → second ≡ get_or SECOND_UPPER (b / 16) 0
-    → ArePairFaults x b (bit_and (bit_and upper lower) second)
-pair_faults_of {x} {b} first_fits second_fits upper_is lower_is second_is =
-    rw (upper_is, lower_is, second_is) (pair_of x b first_fits second_fits)
+    })
 
 -- the faults that a character of three or four bytes requires
 

@@ -65,7 +65,8 @@ module _ (src : List ℕ) (c : ℕ) (t : List ℕ) (rest : Gives src t) (at : �
   two_bytes from below s =
       let first : unit_at src at ≡ c ∷ [] =
       rw (s.0, s.1.0)
-      (gives_one (byte_two_before src at) (192 + c / 64) (128 + c % 64) (get_or src (suc (suc at)) 0) c (grind (arith, nat_tests)) (grind (arith, nat_tests))) in
+      (gives_one (byte_two_before src at) (192 + c / 64) (128 + c % 64)
+      (get_or src (suc (suc at)) 0) c (grind (arith, nat_tests)) (grind (arith, nat_tests))) in
       let second : unit_at src (suc at) ≡ [] =
       gives_none (byte_two_before src (suc at)) (get_or src (suc at) 0) _ no_fourth
       (omega (arith, s.1.0)) in
@@ -76,7 +77,8 @@ module _ (src : List ℕ) (c : ℕ) (t : List ℕ) (rest : Gives src t) (at : �
   three_bytes from below s =
       let first : unit_at src at ≡ c ∷ [] =
       rw (s.0, s.1.0, s.1.1.0)
-      (gives_one (byte_two_before src at) (224 + c / 4096) (128 + c / 64 % 64) (128 + c % 64) c (grind (arith, nat_tests)) (grind (arith, nat_tests))) in
+      (gives_one (byte_two_before src at) (224 + c / 4096) (128 + c / 64 % 64) (128 + c % 64) c
+      (grind (arith, nat_tests)) (grind (arith, nat_tests))) in
       let second : unit_at src (suc at) ≡ [] =
       gives_none (byte_two_before src (suc at)) (get_or src (suc at) 0) _ no_fourth
       (omega (arith, s.1.0)) in
@@ -99,15 +101,17 @@ module _ (src : List ℕ) (c : ℕ) (t : List ℕ) (rest : Gives src t) (at : �
       let last = suc (suc (suc at)) in
       let first : unit_at src at ≡ (0xD800 + (c - 0x1_0000) / 0x400) ∷ [] =
       rw (s.0, s.1.0, s.1.1.0)
-      (gives_one (byte_two_before src at) (240 + c / 262144) (128 + c / 4096 % 64) (128 + c / 64 % 64)
-      (0xD800 + (c - 0x1_0000) / 0x400) (grind (arith, nat_tests)) (grind (arith, nat_tests))) in
+      (gives_one (byte_two_before src at) (240 + c / 262144) (128 + c / 4096 % 64)
+      (128 + c / 64 % 64) (0xD800 + (c - 0x1_0000) / 0x400) (grind (arith, nat_tests))
+      (grind (arith, nat_tests))) in
       let second : unit_at src (suc at) ≡ [] =
       gives_none (byte_two_before src (suc at)) (get_or src (suc at) 0) _ no_fourth
       (omega (arith, s.1.0)) in
       let third : unit_at src (suc (suc at)) ≡ (0xDC00 + (c - 0x1_0000) % 0x400) ∷ [] =
       rw (s.1.1.0, s.1.1.1.0)
       (gives_one (get_or src at 0) (128 + c / 64 % 64) (128 + c % 64) (get_or src (suc last) 0)
-      (0xDC00 + (c - 0x1_0000) % 0x400) (grind (arith, nat_tests, s.0)) (grind (arith, nat_tests))) in
+      (0xDC00 + (c - 0x1_0000) % 0x400) (grind (arith, nat_tests, s.0))
+      (grind (arith, nat_tests))) in
       let fourth : unit_at src last ≡ [] =
       gives_none (get_or src (suc at) 0) (get_or src last 0) _ (omega (arith, s.1.0))
       (omega (arith, s.1.1.1.0)) in

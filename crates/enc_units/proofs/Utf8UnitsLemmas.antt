@@ -43,23 +43,16 @@ units_few src at (suc n) =
 -- the units of a bytes and of b more, at `place`, are those of all
 pub units_then : (src : List ℕ) (at a b : ℕ) {place all : ℕ} → place ≡ at + a → all ≡ a + b
     → units_from src at a ++ units_from src place b ≡ units_from src at all
-units_then src at zero b place_is all_is = rw (place_is, all_is) (rw (here, none) refl)
-  where
-    here : at + 0 ≡ at
-    here = omega arith
-
-    none : 0 + b ≡ b
-    none = omega arith
+units_then src at zero b place_is all_is =
+    let here : at + 0 ≡ at = omega arith in
+    let none : 0 + b ≡ b = omega arith in
+    rw (place_is, all_is, here, none) refl
 units_then src at (suc a) b {place} {all} place_is all_is =
+    let next : place ≡ suc at + a = omega arith in
+    let more : suc (a + b) ≡ all = omega arith in
     append_assoc (unit_at src at) (units_from src (suc at) a) (units_from src place b)
     ∙ ap (λ z. unit_at src at ++ z) (units_then src (suc at) a b {all = a + b} next refl)
     ∙ ap (units_from src at) more
-  where
-    next : place ≡ suc at + a
-    next = omega arith
-
-    more : suc (a + b) ≡ all
-    more = omega arith
 
 -- the same of a buffer
 pub units_further : (src : List ℕ) (from a at b all : ℕ) {before after : List ℕ}
@@ -68,27 +61,18 @@ pub units_further : (src : List ℕ) (from a at b all : ℕ) {before after : Lis
 units_further src from a at b all front stored place count =
     stored ∙ ap (λ z. z ++ units_from src at b) front ∙ units_then src from a b place count
 
-units_parts : (src : List ℕ) (a b : ℕ) → a ≤ b
+pub units_parts : (src : List ℕ) (a b : ℕ) → a ≤ b
     → length (units_from src 0 b) ≡ length (units_from src 0 a) + length (units_from src a (b - a))
 units_parts src a b within =
     let whole = units_then src 0 a (b - a) {place = a} {all = b} (omega arith) (omega arith) in
     omega (arith, lengths, ap length whole)
 
-pub units_grow : (src : List ℕ) (a b : ℕ) → a ≤ b
-    → length (units_from src 0 a) ≤ length (units_from src 0 b)
-units_grow src a b within = omega (arith, units_parts src a b within)
-
-pub units_cover : (src : List ℕ) (a b n : ℕ) → a ≤ b → n ≤ length (units_from src a (b - a))
-    → length (units_from src 0 a) + n ≤ length (units_from src 0 b)
-units_cover src a b n within few = omega (arith, units_parts src a b within)
-
 -- the units at the places that the bits of a mask mark
 
 one_marked : (t : Bool) {bit u v : ℕ} → bit ≡ cond t 1 0 → (t ≡ true → u ≡ v)
     → if_one (bit == 1) u ≡ if_one t v
-one_marked true {u = u} is_bit same =
-    ap (λ b. if_one (b == 1) u) is_bit ∙ ap (λ x. x ∷ []) (same refl)
-one_marked false {u = u} is_bit same = ap (λ b. if_one (b == 1) u) is_bit
+one_marked true is_bit same = rw (is_bit, same refl) refl
+one_marked false is_bit same = rw is_bit refl
 
 unit_of_place : (units : List ℕ) (t : Bool) (place : ℕ)
     → map (λ k. get_or units k 0) (if t then place ∷ [] else []) ≡ if_one t (get_or units place 0)
@@ -104,28 +88,23 @@ marked_from : (src units : List ℕ) (n at from marks : ℕ) → AreMarked src a
     → map (λ k. get_or units k 0) (marked_places marks from n) ≡ units_from src at n
 marked_from src units zero at from marks are_marked = refl
 marked_from src units (suc n) at from marks are_marked =
-    map-append (λ k. get_or units k 0) (if marks % 2 == 1 then from ∷ [] else [])
-    (marked_places (marks / 2) (suc from) n)
-    ∙ ap (λ z. z ++ map (λ k. get_or units k 0) (marked_places (marks / 2) (suc from) n)) first
-    ∙ ap (λ z. unit_at src at ++ z)
-    (marked_from src units n (suc at) (suc from) (marks / 2) rest)
-  where
-    first : map (λ k. get_or units k 0) (if marks % 2 == 1 then from ∷ [] else []) ≡ unit_at src at
-    first =
-        let bit : marks / 1 % 2 ≡ marks % 2 = omega arith in
-        let unit : from + 0 ≡ from = omega arith in
-        let place : at + 0 ≡ at = omega arith in
-        let lane = are_marked.lane 0 (omega arith) in
-        unit_of_place units (marks % 2 == 1) from ∙ rw (bit, unit, place) at lane
-
-    rest : AreMarked src (suc at) (marks / 2) (suc from) units n
-    rest = record {
+    let unit_of = λ (k : ℕ). get_or units k 0 in
+    let here : marks / 1 % 2 ≡ marks % 2 = omega arith in
+    let unit : from + 0 ≡ from = omega arith in
+    let place : at + 0 ≡ at = omega arith in
+    let lane = rw (here, unit, place) at (are_marked.lane 0 (omega arith)) in
+    let rest : AreMarked src (suc at) (marks / 2) (suc from) units n = record {
       lane = λ k below.
           let bit : 1 + k ≡ suc k = omega arith in
           let unit : suc from + k ≡ from + suc k = omega arith in
           let place : suc at + k ≡ at + suc k = omega arith in
           rw (shr-shr marks 1 k, bit, unit, place) (are_marked.lane (suc k) (omega arith));
-    }
+    } in
+    map-append unit_of (if marks % 2 == 1 then from ∷ [] else [])
+    (marked_places (marks / 2) (suc from) n)
+    ∙ ap (λ z. z ++ map unit_of (marked_places (marks / 2) (suc from) n))
+    (unit_of_place units (marks % 2 == 1) from ∙ lane)
+    ∙ ap (λ z. unit_at src at ++ z) (marked_from src units n (suc at) (suc from) (marks / 2) rest)
 
 -- eight lanes that are taken out of sixteen
 
@@ -152,10 +131,8 @@ eight_marked {src} {units} {taken} {at} {marks} first place some are_marked few 
           let whole : first + k ≡ 0 + (first + k) = omega arith in
           let on : at + (first + k) ≡ place + k = omega arith in
           let lane = ap (λ z. get_or z k 0) taken_is ∙ get_or-chunk first 8 units k 0 below in
-          ap (λ i. if_one (some / 2 ^ k % 2 == 1) (get_or taken i 0)) here
-          ∙ ap (λ u. if_one (some / 2 ^ k % 2 == 1) u) (lane ∙ ap (λ i. get_or units i 0) whole)
-          ∙ ap (λ b. if_one (b % 2 == 1) (get_or units (0 + (first + k)) 0)) bits
-          ∙ are_marked.lane (first + k) (omega arith) ∙ ap (unit_at src) on;
+          rw (here, lane ∙ ap (λ i. get_or units i 0) whole, bits)
+          (are_marked.lane (first + k) (omega arith) ∙ ap (unit_at src) on);
     })
 
 -- sixteen bytes are stored as eight and eight
@@ -175,8 +152,7 @@ stores_sixteen {src} {units} {at = at} {marks = marks} old long are_marked first
     eight_marked 8 (at + 8) (marks / 0x100) are_marked (omega arith) (upper_is units long) refl refl
     in
     second ∙ ap (λ z. z ++ high) first ∙ append_assoc old low high
-    ∙ ap (λ z. old ++ (z ++ high)) low_is ∙ ap (λ z. old ++ (units_from src at 8 ++ z)) high_is
-    ∙ ap (λ z. old ++ z) (units_then src at 8 8 refl refl)
+    ∙ rw (low_is, high_is) (ap (λ z. old ++ z) (units_then src at 8 8 refl refl))
 
 -- sixteen lanes of a load
 
@@ -215,14 +191,11 @@ module _ (src : List ℕ) (at : ℕ) where
         let lane : 0 + k ≡ k = omega arith in
         let next : at + k + 1 ≡ suc (at + k) = omega arith in
         let second : at + k + 2 ≡ suc (suc (at + k)) = omega arith in
-        ap (λ i. if_one (marks / 2 ^ k % 2 == 1) (get_or units i 0)) lane
-        ∙ one_marked (gives_unit_at src (at + k))
-        (bits k below ∙ ap (λ z. cond (gives_unit z (get_or (chunk at 16 src) k 0)) 1 0) before
-        ∙ ap (λ x. cond (gives_unit (byte_two_before src (at + k)) x) 1 0)
-        (get_or-chunk at 16 src k 0 below))
-        (λ is_given. unit_values k below
-        (ap (λ z. gives_unit z (get_or src (at + k) 0)) before ∙ is_given)
-        ∙ rw (next, second) refl);
+        let bit = rw (before, get_or-chunk at 16 src k 0 below) at (bits k below) in
+        let unit = λ (is_given : gives_unit_at src (at + k) ≡ true).
+        unit_values k below (ap (λ z. gives_unit z (get_or src (at + k) 0)) before ∙ is_given)
+        ∙ rw (next, second) refl in
+        rw lane (one_marked (gives_unit_at src (at + k)) bit unit);
   }
 
 pub first_alone : (z a : ℕ) → z < 0xF0 → gives_unit z a ≡ true → gives_unit 0 a ≡ true

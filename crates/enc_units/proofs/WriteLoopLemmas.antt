@@ -80,7 +80,8 @@ module _ {chars_in : List ℕ → List ℕ} {Rest : List ℕ → Type 0} {Means 
   -- the same, where the rest is a slice of its own
   pub writes_on : {text before mid after : List ℕ} {at n m k j : ℕ}
       → WritesFront chars_in Rest Means text before mid at n m
-      → WritesFront chars_in Rest Means (take (length text - n) (drop n text)) mid after (at + m) k j
+      → WritesFront chars_in Rest Means (take (length text - n) (drop n text)) mid after (at + m) k
+      j
       → WritesFront chars_in Rest Means text before after at (n + k) (m + j)
   writes_on {text} {n = n} first more = writes_then first (rw (rest_is n text) at more)
 

@@ -7,7 +7,7 @@ pub returns-then-begins_with_pair : goal.returns-then-begins_with_pair
 returns-then-begins_with_pair c =
     let is_pair = c.begins_with_pair.ensures.pair c.if-begins_with_pair.true in
     subst (λ (x : ℕ). IsFirstUtf16Char c.args.units.now x 2) (sym c.pair.ensures)
-    (first_pair c.args.units.now is_pair.0 is_pair.1)
+    (first_pair c.args.units.now is_pair.1)
 
 pub returns : goal.returns
 returns c =

@@ -7,4 +7,5 @@ pub returns : goal.returns
 returns c k h none =
     let args = c.args in
     neither _ _
-    (sym (lane_at (by_op (own args.one c.fits-one.0) (own args.other c.fits-other.0) bit_or) k h) ∙ none)
+    (sym (lane_at (by_op (own args.one c.fits-one.0) (own args.other c.fits-other.0) bit_or) k h)
+    ∙ none)

@@ -5,7 +5,8 @@ use Rattle.enc_units.proofs.utf8.lower_halves.Goals as goal
 
 pub returns-clause-value : goal.returns-clause-value
 returns-clause-value c k h =
-    lane_at (by_op (own c.args.bytes c.fits-bytes.0) (splat 15) bit_and) k h ∙ and_mask (get_or c.args.bytes k 0) 4
+    lane_at (by_op (own c.args.bytes c.fits-bytes.0) (splat 15) bit_and) k h
+    ∙ and_mask (get_or c.args.bytes k 0) 4
 
 pub returns-clause-bound : goal.returns-clause-bound
 returns-clause-bound c k h =

@@ -16,8 +16,8 @@ returns c k few =
     ∙ ap (λ p. get_or FIRST_LOWER p 0) (c.lower_halves.ensures.value k few) in
     let second = c.pick-3.ensures.lanes k few
     ∙ ap (λ p. get_or SECOND_UPPER p 0) (c.upper_halves-2.ensures.value k few) in
-    let first_two = by_op (own c.pick.result (omega arith)) (own c.pick-2.result (omega arith)) bit_and
-    in
+    let first_two = by_op (own c.pick.result (omega arith)) (own c.pick-2.result (omega arith))
+    bit_and in
     subst (ArePairFaults x b)
     (sym (lane_at (by_op first_two (own c.pick-3.result (omega arith)) bit_and) k few))
     (pair_faults_of (lane_bound c.args.first k c.fits-first few)

@@ -4,7 +4,8 @@ use Rattle.enc_units.proofs.Utf8UnitLanes.{lane_bound}
 use Rattle.enc_units.proofs.utf8.upper_halves.Goals as goal
 
 pub returns-clause-value : goal.returns-clause-value
-returns-clause-value c k h = lane_at (by_op (own c.args.bytes c.fits-bytes.0) (splat 4) (λ a b. a / 2 ^ b)) k h
+returns-clause-value c k h =
+    lane_at (by_op (own c.args.bytes c.fits-bytes.0) (splat 4) (λ a b. a / 2 ^ b)) k h
 
 pub returns-clause-bound : goal.returns-clause-bound
 returns-clause-bound c k h =

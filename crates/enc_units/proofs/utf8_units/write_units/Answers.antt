@@ -5,7 +5,7 @@ use Rattle.enc_units.proofs.LengthLemmas.{lengths}
 use Rattle.enc_units.proofs.PutLemmas.{put_length, put_front, put_rest, put_part}
 use Rattle.enc_units.proofs.UnitsWrittenLemmas.{written_further}
 use Rattle.enc_units.proofs.Utf8TextLemmas.{gathers_units}
-use Rattle.enc_units.proofs.Utf8UnitsLemmas.{units_further, units_grow}
+use Rattle.enc_units.proofs.Utf8UnitsLemmas.{units_further, units_parts}
 use Rattle.enc_units.proofs.utf8_units.write_units.Goals as goal
 
 pub returns-clause-gathers : goal.returns-clause-gathers
@@ -42,7 +42,7 @@ loop-read-preserved c =
       long,
       room,
       whole,
-      units_grow c.args.src.now (state.read + more) c.args.len
+      units_parts c.args.src.now (state.read + more) c.args.len
           (omega (arith, whole, gathered.within)),
     ) in
     let further = written_further more written (omega (arith, whole, gathered.within)) long

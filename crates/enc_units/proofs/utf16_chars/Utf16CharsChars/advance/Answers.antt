@@ -1,4 +1,4 @@
-use Rattle.enc_units.proofs.CharsLemmas.{lossy_nil}
+use Rattle.enc_units.proofs.UnitsLemmas.{lossy_nil}
 use Rattle.enc_units.proofs.utf16_chars.Utf16CharsChars.advance.Goals as goal
 
 pub returns-in_default : goal.returns-in_default
