@@ -11,7 +11,7 @@ use Rattle.enc_decoder_iso_2022_jp.specs.declared.character_set.CharacterSet.The
 use Rattle.enc_decoder_iso_2022_jp.specs.declared.escape.Escape.{Escape}
 use Rattle.enc_decoder_iso_2022_jp.specs.declared.escape.Escape.TheVariants.{ToAscii, ToRoman, ToKatakana}
 use Rattle.enc_decoder_iso_2022_jp.specs.declared.escape.Escape.TheVariants.{ToJis0208Of1978, ToJis0208Of1983}
-use Rattle.enc_decoder.specs.Segmentation.{head_sequence, sequences_of, one_byte_head, malformed_head}
+use Rattle.enc_decoder.specs.Segmentation.{sequences_of, one_byte_head, malformed_head}
 use Rattle.enc_decoder_iso_2022_jp.specs.Iso2022Jp.{set_number, set_of, set_of_escape_bytes, designated_set}
 use Rattle.enc_decoder_iso_2022_jp.specs.Iso2022Jp.{escape_head, ascii_char, katakana_char, one_byte_char, is_lead_byte}
 use Rattle.enc_decoder_iso_2022_jp.specs.Iso2022Jp.{is_jis0208_byte, two_byte_char, two_byte_head, lead_byte_head}

@@ -6,7 +6,7 @@ use Rattle.std.proofs.lemmas.List.{take-append-drop}
 use Rattle.std.proofs.lemmas.Bool.{lt-ltb, ne_eqb}
 use Rattle.std.specs.Prelude.{◌≢◌}
 use Rattle.std.specs.Option.{IfSome}
-use Rattle.enc_units.specs.Output.{Output, with_appended, units_of_text}
+use Rattle.enc_units.specs.Output.{Output}
 use Rattle.enc_units.specs.Pieces.{PutsPieces, piece_chars}
 use Rattle.enc_units.proofs.OutputLemmas.{with_appended-nil}
 use Rattle.enc_units.proofs.PiecesLemmas.{puts_wider}
@@ -23,11 +23,11 @@ use Rattle.enc_decoder.specs.Segmentation.{sequences_of}
 use Rattle.enc_decoder_iso_2022_jp.specs.Iso2022Jp.{set_number, designated_set, is_lead_byte, one_byte_char}
 use Rattle.enc_decoder_iso_2022_jp.specs.Iso2022Jp.{two_byte_char, iso_2022_jp_rule as jp_rule}
 use Rattle.enc_decoder_iso_2022_jp.specs.Iso2022JpState.{Iso2022JpState, state_with_held, intermediate_byte}
-use Rattle.enc_decoder_iso_2022_jp.specs.Iso2022JpState.{escape_bytes, escape_set, bytes_of_held, StandsAlone}
+use Rattle.enc_decoder_iso_2022_jp.specs.Iso2022JpState.{escape_bytes, escape_set, StandsAlone}
 use Rattle.enc_decoder_iso_2022_jp.specs.Iso2022JpState.{iso_2022_jp_state as jp_state}
 use Rattle.enc_decoder.specs.Taking.{TakesSequences, TakesRun, IsWholeChar, IsReplacedChar}
 use Rattle.enc_decoder.proofs.SegmentationLemmas.{sequences_of-head}
-use Rattle.enc_decoder.proofs.TakingLemmas.{front, follows_second, takes_both, takes_none}
+use Rattle.enc_decoder.proofs.TakingLemmas.{front, follows_second, takes_none}
 use Rattle.enc_decoder.proofs.PieceLemmas.{takes_pieces, takes_replaced, three_of}
 use Rattle.enc_decoder_iso_2022_jp.proofs.Iso2022JpLemmas.{found_for_other, has_escape_bytes, skipped_escape}
 use Rattle.enc_decoder_iso_2022_jp.proofs.EscapeLookahead.{other_front}
