@@ -8,7 +8,7 @@ use Rattle.std.specs.Char.{encode_utf8}
 use Rattle.enc_units.specs.Output.{units_of_text}
 use Rattle.enc_decoder.specs.Sequence.{sequence_text, is_malformed, any_malformed}
 use Rattle.enc_decoder.specs.Segmentation.{Head, character_head, malformed_head, head_sequence, sequences_of}
-use Rattle.enc_decoder_utf.specs.Utf8.{sequence_len, is_second_byte, is_continuation}
+use Rattle.enc_decoder_utf.specs.Utf8.{sequence_len, is_continuation}
 use Rattle.enc_decoder_utf.specs.Utf8.{well_formed_tail_len, scalar_of, utf_8_rule}
 use Rattle.enc_decoder.proofs.SequenceLemmas.{or_assoc, or_false}
 use Rattle.enc_decoder.proofs.SegmentationLemmas.{sequences_of-cons, sequences_of-nil}
@@ -19,7 +19,6 @@ use Rattle.enc_decoder_utf.proofs.Utf8Lemmas.{AreFollowing, reached_follow, cont
 
 pub record Whole4 (a : ℕ) (z : List ℕ) : Type 0 where
   pub some : 3 ≤ length z
-  pub second : is_second_byte a (get_or z 0 0) ≡ true
   pub third : is_continuation (get_or z 1 0) ≡ true
   pub fourth : is_continuation (get_or z 2 0) ≡ true
   pub bytes : take (well_formed_tail_len a z) z ≡ get_or z 0 0 ∷ get_or z 1 0 ∷ get_or z 2 0 ∷ []
@@ -39,7 +38,6 @@ whole_four a z four whole =
     of_bytes (b ∷ c ∷ []) some reach follow = absurd (omega arith)
     of_bytes (b ∷ c ∷ d ∷ z) some reach follow = record {
       some = omega arith;
-      second = follow.0;
       third = sym (continues_as_second c) ∙ follow.1.0;
       fourth = sym (continues_as_second d) ∙ follow.1.1.0;
       bytes = rw reach refl;
