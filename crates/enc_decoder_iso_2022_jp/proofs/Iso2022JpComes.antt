@@ -167,17 +167,11 @@ shows_repeated s e f i b is_escape = (
     len = three e;
     parts = append_assoc (escape_bytes e) (0x1B ∷ intermediate_byte i ∷ []) (b ∷ [])
         ∙ ap (λ x. escape_bytes e ++ x) (sym is_escape);
-    first = λ y _. ap (sequences_of jp_rule (set_number s))
-        (append_assoc (escape_bytes e) (0x1B ∷ intermediate_byte i ∷ []) (b ∷ y))
-        ∙ repeated_escape (set_number s) e (0x1B ∷ intermediate_byte i ∷ b ∷ y) (escape_set f)
-        (another_designates f i b is_escape y)
-        ∙ ap (λ x. record {
-          bytes = escape_bytes e;
-          text = 0xFFFD ∷ [];
-          kind = RepeatedEscape;
-          set = set_number (escape_set e);
-        }
-        ∷ sequences_of jp_rule (set_number (escape_set e)) (x ++ y)) (sym is_escape);
+    first = λ y _. rw (
+      append_assoc (escape_bytes e) (0x1B ∷ intermediate_byte i ∷ []) (b ∷ y),
+      is_escape,
+    ) (repeated_escape (set_number s) e (0x1B ∷ intermediate_byte i ∷ b ∷ y) (escape_set f)
+        (another_designates f i b is_escape y));
     same_rule = refl;
     replacement = λ _. refl;
     bounds = λ _. (refl, sym (three f));

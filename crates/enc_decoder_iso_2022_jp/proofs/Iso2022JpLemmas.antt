@@ -11,7 +11,7 @@ use Rattle.enc_decoder_iso_2022_jp.specs.declared.character_set.CharacterSet.The
 use Rattle.enc_decoder_iso_2022_jp.specs.declared.escape.Escape.{Escape}
 use Rattle.enc_decoder_iso_2022_jp.specs.declared.escape.Escape.TheVariants.{ToAscii, ToRoman, ToKatakana}
 use Rattle.enc_decoder_iso_2022_jp.specs.declared.escape.Escape.TheVariants.{ToJis0208Of1978, ToJis0208Of1983}
-use Rattle.enc_decoder.specs.Segmentation.{head_sequence, sequences_of, one_byte_head, malformed_head}
+use Rattle.enc_decoder.specs.Segmentation.{sequences_of, one_byte_head, malformed_head}
 use Rattle.enc_decoder_iso_2022_jp.specs.Iso2022Jp.{set_number, set_of, set_of_escape_bytes, designated_set}
 use Rattle.enc_decoder_iso_2022_jp.specs.Iso2022Jp.{escape_head, ascii_char, katakana_char, one_byte_char, is_lead_byte}
 use Rattle.enc_decoder_iso_2022_jp.specs.Iso2022Jp.{is_jis0208_byte, two_byte_char, two_byte_head, lead_byte_head}
@@ -148,24 +148,14 @@ designated_by e z = let parts = has_escape_bytes e in rw parts.bytes parts.names
 
 -- an escape sequence, by whether another follows it
 
-escape_at : (set b c : ℕ) (s : CharacterSet) (z : List ℕ) (another : Bool)
-    → set_of_escape_bytes b c ≡ Some s
-    → is_some (designated_set z) ≡ another
-    → sequences_of jp_rule set (0x1B ∷ b ∷ c ∷ z)
-    ≡ head_sequence (escape_head set (Some s) another) 0x1B (b ∷ c ∷ z)
-    ∷ sequences_of jp_rule (escape_head set (Some s) another).set
-    (drop (escape_head set (Some s) another).more (b ∷ c ∷ z))
-escape_at set b c s z another names_set followed =
-    sequences_of-head jp_rule set 0x1B (b ∷ c ∷ z) _
-    (escape_first set (b ∷ c ∷ z) (Some s) another names_set followed)
-
 pub skipped_escape : (set : ℕ) (e : Escape) (z : List ℕ) → designated_set z ≡ None
     → sequences_of jp_rule set (escape_bytes e ++ z)
     ≡ record { bytes = escape_bytes e; text = []; kind = Skipped; set = set_number (escape_set e) }
     ∷ sequences_of jp_rule (set_number (escape_set e)) z
-skipped_escape set e z none_follows = let parts = has_escape_bytes e in
-    rw parts.bytes
-    (escape_at set parts.second parts.third _ z false parts.names_set (ap is_some none_follows))
+skipped_escape set e z none_follows =
+    let parts = has_escape_bytes e in
+    rw parts.bytes (sequences_of-head jp_rule set 0x1B (parts.second ∷ parts.third ∷ z) _
+    (escape_first set _ (Some (escape_set e)) false parts.names_set (ap is_some none_follows)))
 
 pub repeated_escape : (set : ℕ) (e : Escape) (z : List ℕ) (s : CharacterSet)
     → designated_set z ≡ Some s
@@ -177,6 +167,7 @@ pub repeated_escape : (set : ℕ) (e : Escape) (z : List ℕ) (s : CharacterSet)
       set = set_number (escape_set e);
     }
     ∷ sequences_of jp_rule (set_number (escape_set e)) z
-repeated_escape set e z s another_follows = let parts = has_escape_bytes e in
-    rw parts.bytes
-    (escape_at set parts.second parts.third _ z true parts.names_set (ap is_some another_follows))
+repeated_escape set e z s another_follows =
+    let parts = has_escape_bytes e in
+    rw parts.bytes (sequences_of-head jp_rule set 0x1B (parts.second ∷ parts.third ∷ z) _
+    (escape_first set _ (Some (escape_set e)) true parts.names_set (ap is_some another_follows)))

@@ -6,7 +6,7 @@ use Rattle.std.proofs.lemmas.List.{take-append-drop}
 use Rattle.std.proofs.lemmas.Bool.{lt-ltb, ne_eqb}
 use Rattle.std.specs.Prelude.{◌≢◌}
 use Rattle.std.specs.Option.{IfSome}
-use Rattle.enc_units.specs.Output.{Output, with_appended, units_of_text}
+use Rattle.enc_units.specs.Output.{Output}
 use Rattle.enc_units.specs.Pieces.{PutsPieces, piece_chars}
 use Rattle.enc_units.proofs.OutputLemmas.{with_appended-nil}
 use Rattle.enc_units.proofs.PiecesLemmas.{puts_wider}
@@ -23,11 +23,11 @@ use Rattle.enc_decoder.specs.Segmentation.{sequences_of}
 use Rattle.enc_decoder_iso_2022_jp.specs.Iso2022Jp.{set_number, designated_set, is_lead_byte, one_byte_char}
 use Rattle.enc_decoder_iso_2022_jp.specs.Iso2022Jp.{two_byte_char, iso_2022_jp_rule as jp_rule}
 use Rattle.enc_decoder_iso_2022_jp.specs.Iso2022JpState.{Iso2022JpState, state_with_held, intermediate_byte}
-use Rattle.enc_decoder_iso_2022_jp.specs.Iso2022JpState.{escape_bytes, escape_set, bytes_of_held, StandsAlone}
+use Rattle.enc_decoder_iso_2022_jp.specs.Iso2022JpState.{escape_bytes, escape_set, StandsAlone}
 use Rattle.enc_decoder_iso_2022_jp.specs.Iso2022JpState.{iso_2022_jp_state as jp_state}
 use Rattle.enc_decoder.specs.Taking.{TakesSequences, TakesRun, IsWholeChar, IsReplacedChar}
 use Rattle.enc_decoder.proofs.SegmentationLemmas.{sequences_of-head}
-use Rattle.enc_decoder.proofs.TakingLemmas.{front, follows_second, takes_both, takes_none}
+use Rattle.enc_decoder.proofs.TakingLemmas.{front, follows_second, takes_none}
 use Rattle.enc_decoder.proofs.PieceLemmas.{takes_pieces, takes_replaced, three_of}
 use Rattle.enc_decoder_iso_2022_jp.proofs.Iso2022JpLemmas.{found_for_other, has_escape_bytes, skipped_escape}
 use Rattle.enc_decoder_iso_2022_jp.proofs.EscapeLookahead.{other_front}
@@ -163,17 +163,13 @@ pub takes_escape : (units_of : ℕ → List ℕ) (c n : Iso2022JpState) (e : Esc
     → TakesRun units_of jp_state c n src (3 + more) before after
 takes_escape units_of c n e {src} {rest} {more} {before} {after} none_held next_is rest_is is_alone
     some puts =
-    let pieces_taken = takes_pieces units_of jp_state n rest more before after
-    (ap (λ (s : Iso2022JpState). bytes_of_held s.held) next_is) puts in
-    let run_taken = subst (λ (m : Iso2022JpState). TakesRun units_of jp_state m n rest more before
-    after) next_is
-    pieces_taken in
-    subst (λ o. TakesRun units_of jp_state (state_with_held c.set o) n src (3 + more) before after)
-    (sym none_held)
-    (after_escape units_of c.set e n src more before after is_alone some
-    (subst (λ z. TakesRun units_of jp_state (state_with_held (escape_set e) None) n z more before
-    after) rest_is
-    run_taken))
+    let next = state_with_held (escape_set e) None in
+    let taken = takes_pieces units_of jp_state next (drop 3 src) more before after refl
+    (rw (next_is, rest_is) at puts) in
+    rw next_is
+    (subst (λ o. TakesRun units_of jp_state (state_with_held c.set o) next src (3 + more) before
+    after) (sym none_held)
+    (after_escape units_of c.set e next src more before after is_alone some taken))
 
 -- No piece is taken, of whatever bytes.
 pub takes_no_pieces : {units_of : ℕ → List ℕ} {Means : List ℕ → ℕ → Type 0} (c : Iso2022JpState)
@@ -182,10 +178,7 @@ pub takes_no_pieces : {units_of : ℕ → List ℕ} {Means : List ℕ → ℕ �
     → TakesRun units_of jp_state c c src 0 before after
 takes_no_pieces {units_of} c src {before = before} puts none =
     let no_text = sym puts.reads.chars ∙ ap piece_chars (puts.reads.none none) in
-    subst (λ (o : Output). TakesRun units_of jp_state c c src 0 before o)
-    (sym (puts.written ∙ ap (λ t. with_appended before (units_of_text units_of t)) no_text
-    ∙ with_appended-nil before))
-    (takes_none units_of jp_state c src before)
+    rw (puts.written, no_text, with_appended-nil before) (takes_none units_of jp_state c src before)
 
 -- Bytes in ASCII are sequences, malformed ones included.
 pub takes_in_ascii : {units_of : ℕ → List ℕ} {c : Iso2022JpState} {src front : List ℕ} (m : ℕ)
@@ -193,7 +186,6 @@ pub takes_in_ascii : {units_of : ℕ → List ℕ} {c : Iso2022JpState} {src fro
     → c ≡ state_with_held Ascii None → front ≡ take m src
     → PutsPieces units_of (IsReplacedChar jp_rule 0) before after front n
     → TakesSequences units_of (jp_state c) (jp_state c) src n before after
-takes_in_ascii {units_of} {c} {src} {front} m {n} {before} {after} in_ascii is_front puts =
-    subst (λ (d : Iso2022JpState). TakesSequences units_of (jp_state d) (jp_state d) src n before
-    after) (sym in_ascii)
-    (takes_replaced (jp_state (state_with_held Ascii None)) refl (puts_wider m is_front puts))
+takes_in_ascii m in_ascii is_front puts =
+    rw in_ascii (takes_replaced (jp_state (state_with_held Ascii None)) refl
+    (puts_wider m is_front puts))

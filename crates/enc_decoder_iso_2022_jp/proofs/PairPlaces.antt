@@ -18,17 +18,12 @@ use Rattle.enc_decoder_iso_2022_jp.specs.Iso2022Jp.{iso_2022_jp_rule, IsJis0208P
 use Rattle.enc_decoder_iso_2022_jp.proofs.Iso2022JpPieces.{pair_piece}
 use Rattle.enc_decoder.specs.Taking.{IsWholeChar}
 
-row : (a : ℕ) → number_in 0x21 0x7E 0 a 120 ≡ cond (is_jis0208_byte a) (a - 0x21) 120
-row a = grind (arith, nat_tests)
-
-column : (b : ℕ) → number_in 0x21 0x7E 0 b 94 ≡ cond (is_jis0208_byte b) (b - 0x21) 94
-column b = grind (arith, nat_tests)
-
-few : (a : ℕ) → is_jis0208_byte a ≡ true → a - 0x21 < 120
-few a t = grind (arith, nat_tests)
+number : (a other : ℕ)
+    → number_in 0x21 0x7E 0 a other ≡ cond (is_jis0208_byte a) (a - 0x21) other
+number a other = grind (arith, nat_tests)
 
 small : (b : ℕ) → is_jis0208_byte b ≡ true → b - 0x21 < 94
-small b t = grind (arith, nat_tests)
+small b in_range = grind (arith, nat_tests)
 
 pub bytes_place : (a b : ℕ) {row_of column_of place : ℕ}
     → row_of ≡ number_in 0x21 0x7E 0 a 120
@@ -39,7 +34,7 @@ unfolding two_byte_char
 bytes_place a b r k p =
     pair_place jis0208_shape has_no_more (is_jis0208_byte a) (is_jis0208_byte b) (a - 0x21)
     (b - 0x21)
-    (r ∙ row a) (k ∙ column b) p (few a) (small b)
+    (r ∙ number a 120) (k ∙ number b 94) p (λ lead. omega (arith, small a lead)) (small b)
     (λ c lead trail has. (
       lead,
       cond-true (is_jis0208_byte b) (jis0208_at ((a - 0x21) * 94 + (b - 0x21))) None trail ∙ has,

@@ -15,11 +15,11 @@ use Rattle.enc_decoder.proofs.EnoughLemmas.{basic_by}
 use Rattle.std.proofs.lemmas.Bool.Decides.{nat_tests}
 
 pub one_is_text : (c : ℕ) → IsPairText (One c)
-one_is_text c = record { some = λ e. cc; small = one_small c }
+one_is_text c = record { some = λ no_text. cc; small = one_small c }
 
 pub char_is_text : (c : Option ℕ) (text : Text) → text_of_char c ≡ Some text → IsPairText text
-char_is_text None text e = cc
-char_is_text (Some c) text e =
+char_is_text None text is_char = cc
+char_is_text (Some c) text is_char =
     subst IsPairText (let text_is : One c ≡ text = cc in text_is) (one_is_text c)
 
 -- What the laws say of the kind of a prefix, by its length and that of the longest incomplete one.
@@ -39,25 +39,26 @@ first_lawful most false (Some c) some = one_is_text c
 
 pub first_alone : (leads : Bool) (single : Option ℕ) (b : ℕ) → leads ≡ false → single ≡ Some b
     → first_prefix leads single ≡ Complete (One b)
-first_alone leads single b n e = ap (λ t. first_prefix t single) n ∙ ap single_prefix e
+first_alone leads single b no_lead is_char =
+    ap (λ t. first_prefix t single) no_lead ∙ ap single_prefix is_char
 
 pub first_leads : (leads : Bool) (single : Option ℕ) → leads ≡ true
     → first_prefix leads single ≡ Incomplete
-first_leads leads single e = ap (λ t. first_prefix t single) e
+first_leads leads single is_lead = ap (λ t. first_prefix t single) is_lead
 
 -- a character of a single byte is of the Basic Multilingual Plane
 
 pub first_is_basic : (leads : Bool) (single : Option ℕ) (text : Text)
     → ((c : ℕ) → single ≡ Some c → c < 0x1_0000) → first_prefix leads single ≡ Complete text
     → IsBmpText (text_chars text)
-first_is_basic true single text b e = absurd (cc)
-first_is_basic false None text b e = absurd (cc)
-first_is_basic false (Some c) text b e =
+first_is_basic true single text basic complete = absurd (cc)
+first_is_basic false None text basic complete = absurd (cc)
+first_is_basic false (Some c) text basic complete =
     subst (λ t. IsBmpText (text_chars t)) (let text_is : One c ≡ text = cc in text_is)
-    (basic_by c (b c refl))
+    (basic_by c (basic c refl))
 
 pub ascii_is_basic : (b c : ℕ) → cond (nat_lt b 0x80) (Some b) None ≡ Some c → c < 0x1_0000
-ascii_is_basic b c e = grind (arith, nat_tests)
+ascii_is_basic b c is_char = grind (arith, nat_tests)
 
 -- a byte after n others
 
@@ -69,13 +70,13 @@ trail_lawful most len n b None is_text some within =
 trail_lawful most len n b (Some text) is_text some within = is_text text refl
 
 pub trail_finished : (n b : ℕ) (t : Option Text) → trail_prefix n b t ≢ Incomplete
-trail_finished n b None e = cc
-trail_finished n b (Some t) e = cc
+trail_finished n b None incomplete = cc
+trail_finished n b (Some t) incomplete = cc
 
 -- FF is no trail, and is malformed with the n bytes before it
 pub trail_can_be_malformed : (n : ℕ) (t : Option Text) → t ≡ None
     → trail_prefix n 0xFF t ≡ Malformed (n + 1)
-trail_can_be_malformed n t e = ap (trail_prefix n 0xFF) e
+trail_can_be_malformed n t no_text = ap (trail_prefix n 0xFF) no_text
 
 -- FF makes these bytes malformed
 pub malformed_with_ff : (prefix : List ℕ → Prefix) (front : List ℕ) (len : ℕ)
@@ -123,8 +124,9 @@ double_byte_laws is_lead single pair laws =
     can_be_malformed : (front : List ℕ) → 0 < length front
         → double_byte_prefix is_lead single pair front ≡ Incomplete
         → CanBeMalformed (double_byte_prefix is_lead single pair) front
-    can_be_malformed [] s e = absurd (omega arith)
-    can_be_malformed (a ∷ []) s e =
+    can_be_malformed [] some incomplete = absurd (omega arith)
+    can_be_malformed (a ∷ []) some incomplete =
         malformed_with_ff _ (a ∷ []) 2
         (trail_can_be_malformed 1 (pair a 0xFF) (laws.no_trail a)) (λ same. omega arith)
-    can_be_malformed (a ∷ b ∷ z) s e = absurd (trail_finished 1 b (pair a b) e)
+    can_be_malformed (a ∷ b ∷ z) some incomplete =
+        absurd (trail_finished 1 b (pair a b) incomplete)

@@ -31,8 +31,8 @@ module _ (prefix : List ℕ → Prefix) where
 
   pub still_incomplete : (front w : List ℕ) → prefix front ≡ Incomplete
       → AreIncomplete prefix front w → prefix (front ++ w) ≡ Incomplete
-  still_incomplete front [] e are_incomplete = ap prefix (append-nil front) ∙ e
-  still_incomplete front (c ∷ w) e are_incomplete =
+  still_incomplete front [] incomplete are_incomplete = ap prefix (append-nil front) ∙ incomplete
+  still_incomplete front (c ∷ w) incomplete are_incomplete =
       ap prefix (sym (append_assoc front (c ∷ []) w))
       ∙ still_incomplete (front ++ c ∷ []) w are_incomplete.0 are_incomplete.1
 
@@ -53,8 +53,8 @@ module _ (prefix : List ℕ → Prefix) where
       → multi_byte_rule prefix set b x
       ≡ prefix_head prefix set (w ++ c ∷ []) (prefix (w ++ c ∷ [])) z
   unfolding multi_byte_rule
-  rule_at set [] c z b x are_incomplete e = cc
-  rule_at set (a ∷ w) c z b x are_incomplete e =
+  rule_at set [] c z b x are_incomplete parts = cc
+  rule_at set (a ∷ w) c z b x are_incomplete parts =
       let same_first : b ≡ a = cc in
       let same_rest : x ≡ w ++ c ∷ z = cc in
       ap (λ n. prefix_head prefix set (n ∷ []) (prefix (n ∷ [])) x) same_first
@@ -74,12 +74,12 @@ module _ (prefix : List ℕ → Prefix) where
 
   pub settles_complete : (front : List ℕ) (text : Text) → 0 < length front
       → prefix front ≡ Complete text → Settles front (length front) text Valid
-  settles_complete front text s e = record {
-    head = λ set z. ap (λ r. prefix_head prefix set front r z) e;
-    some = s;
+  settles_complete front text some complete = record {
+    head = λ set z. ap (λ r. prefix_head prefix set front r z) complete;
+    some = some;
     own = omega arith;
     no_escape = refl;
-    replaced = λ m. cc;
+    replaced = λ faulty. cc;
   }
 
   pub settles_malformed : ArePrefixes prefix → (front : List ℕ) (n : ℕ) → prefix front ≡ Malformed n

@@ -1,6 +1,6 @@
 -- Legacy multi-byte encodings: the laws of their rules, and that incomplete bytes determine
 -- nothing.
-use Rattle.std.proofs.Common.{◌≡◌, ◌≢◌, ℕ, ◌+◌, ◌-◌, ◌<◌, ◌≤◌, zero, suc, List, [], ◌∷◌, ◌++◌, length, take, refl, ap, ◌∙◌}
+use Rattle.std.proofs.Common.{◌≡◌, ℕ, ◌+◌, ◌-◌, ◌<◌, zero, suc, List, [], ◌∷◌, ◌++◌, length, take, refl, ap, ◌∙◌}
 use Rattle.std.proofs.Common.{sym, arith, subst, append-nil, append_assoc, inl, inr}
 use Rattle.std.proofs.lemmas.List.{length-append, take_at}
 use Rattle.enc_decoder.specs.declared.byte_codec.Kind.{Kind}
@@ -153,7 +153,8 @@ module _ (prefix : List ℕ → Prefix) (laws : ArePrefixes prefix) where
       ))
   determined_from set w (c ∷ z) b x are_incomplete parts =
       determined_with set w c z b x are_incomplete parts (prefix (w ++ c ∷ [])) refl
-      (λ q. determined_from set (w ++ c ∷ []) z b x (one_more prefix [] w c are_incomplete q)
+      (λ incomplete. determined_from set (w ++ c ∷ []) z b x
+      (one_more prefix [] w c are_incomplete incomplete)
       (parts ∙ sym (append_assoc w (c ∷ []) z)))
 
   pub multi_byte_is_lawful : IsLawfulRule (multi_byte_rule prefix)
@@ -176,8 +177,8 @@ module _ (prefix : List ℕ → Prefix) (laws : ArePrefixes prefix) where
 pub multi_byte_has_bytes : (prefix : List ℕ → Prefix) (b : ℕ) (text : Text)
     → prefix (b ∷ []) ≡ Complete text
     → ¬ (HasNoByteSequences (multi_byte_rule prefix))
-multi_byte_has_bytes prefix b text e =
+multi_byte_has_bytes prefix b text complete =
     let is_head = rule_at prefix 0 [] b [] b [] tt refl
-    ∙ ap (λ r. prefix_head prefix 0 (b ∷ []) r []) e in
+    ∙ ap (λ r. prefix_head prefix 0 (b ∷ []) r []) complete in
     has_bytes_by (multi_byte_rule prefix) b [] (ap (λ (t : Head). t.kind) is_head)
     (ap (λ (t : Head). t.more) is_head)

@@ -6,9 +6,9 @@ use Rattle.std.proofs.Math.ListN.{drop_of_length-le}
 use Rattle.std.proofs.lemmas.Bool.Decides.{nat_tests}
 use Rattle.std.specs.Char.{encode_utf8}
 use Rattle.enc_units.specs.Output.{units_of_text}
-use Rattle.enc_decoder.specs.Sequence.{Sequence, sequence_text, is_malformed, any_malformed}
+use Rattle.enc_decoder.specs.Sequence.{sequence_text, is_malformed, any_malformed}
 use Rattle.enc_decoder.specs.Segmentation.{Head, character_head, malformed_head, head_sequence, sequences_of}
-use Rattle.enc_decoder_utf.specs.Utf8.{sequence_len, is_second_byte, is_continuation}
+use Rattle.enc_decoder_utf.specs.Utf8.{sequence_len, is_continuation}
 use Rattle.enc_decoder_utf.specs.Utf8.{well_formed_tail_len, scalar_of, utf_8_rule}
 use Rattle.enc_decoder.proofs.SequenceLemmas.{or_assoc, or_false}
 use Rattle.enc_decoder.proofs.SegmentationLemmas.{sequences_of-cons, sequences_of-nil}
@@ -19,7 +19,6 @@ use Rattle.enc_decoder_utf.proofs.Utf8Lemmas.{AreFollowing, reached_follow, cont
 
 pub record Whole4 (a : ℕ) (z : List ℕ) : Type 0 where
   pub some : 3 ≤ length z
-  pub second : is_second_byte a (get_or z 0 0) ≡ true
   pub third : is_continuation (get_or z 1 0) ≡ true
   pub fourth : is_continuation (get_or z 2 0) ≡ true
   pub bytes : take (well_formed_tail_len a z) z ≡ get_or z 0 0 ∷ get_or z 1 0 ∷ get_or z 2 0 ∷ []
@@ -39,7 +38,6 @@ whole_four a z four whole =
     of_bytes (b ∷ c ∷ []) some reach follow = absurd (omega arith)
     of_bytes (b ∷ c ∷ d ∷ z) some reach follow = record {
       some = omega arith;
-      second = follow.0;
       third = sym (continues_as_second c) ∙ follow.1.0;
       fourth = sym (continues_as_second d) ∙ follow.1.1.0;
       bytes = rw reach refl;
@@ -80,41 +78,28 @@ text_of_bytes z = units_of_text encode_utf8 (sequence_text (sequences_of utf_8_r
 abbrev pub malformed_bytes : List ℕ → Bool
 malformed_bytes z = any_malformed (sequences_of utf_8_rule 0 z)
 
-text_of_front : (h : Head) (b : ℕ) (z : List ℕ) (ss : List Sequence) (c : ℕ) → h.text ≡ c ∷ []
-    → units_of_text encode_utf8 (sequence_text (head_sequence h b z ∷ ss)) ≡ encode_utf8 c
-    ++ units_of_text encode_utf8 (sequence_text ss)
-text_of_front h b z ss c e = rw e refl
+first_then_rest : (rest : List ℕ) (n : ℕ) → 0 < length rest → n ≡ (head_of rest).more + 1
+    → sequences_of utf_8_rule 0 rest
+    ≡ head_sequence (head_of rest) (get_or rest 0 0) (drop 1 rest)
+    ∷ sequences_of utf_8_rule 0 (drop n rest)
+first_then_rest [] n some is_length = absurd (omega arith)
+first_then_rest (b ∷ z) n some is_length =
+    let one_more : n ≡ suc (utf_8_rule 0 b z).more = omega arith in
+    rw one_more (sequences_of-cons utf_8_rule 0 b z
+    ∙ ap (λ set. head_sequence (utf_8_rule 0 b z) b z
+    ∷ sequences_of utf_8_rule set (drop (utf_8_rule 0 b z).more z)) (rule_set b z))
 
-rest_after : (b : ℕ) (z : List ℕ) (n : ℕ) → n ≡ (utf_8_rule 0 b z).more + 1
-    → sequences_of utf_8_rule (utf_8_rule 0 b z).set (drop (utf_8_rule 0 b z).more z)
-    ≡ sequences_of utf_8_rule 0 (drop n (b ∷ z))
-rest_after b z n e =
-    ap (λ set. sequences_of utf_8_rule set (drop (utf_8_rule 0 b z).more z)) (rule_set b z)
-    ∙ ap (λ k. sequences_of utf_8_rule 0 (drop k (b ∷ z)))
-    (let length_is_n : suc (utf_8_rule 0 b z).more ≡ n = omega arith in length_is_n)
-
-first_then_rest : (b : ℕ) (z : List ℕ) (n : ℕ) → n ≡ (utf_8_rule 0 b z).more + 1
-    → sequences_of utf_8_rule 0 (b ∷ z) ≡ head_sequence (utf_8_rule 0 b z) b z
-    ∷ sequences_of utf_8_rule 0 (drop n (b ∷ z))
-first_then_rest b z n e =
-    sequences_of-cons utf_8_rule 0 b z
-    ∙ ap (λ ss. head_sequence (utf_8_rule 0 b z) b z ∷ ss) (rest_after b z n e)
-
-pub front_text : (rest : List ℕ) (n c : ℕ) → 0 < length rest → n ≡ (head_of rest).more + 1
+front_text : (rest : List ℕ) (n c : ℕ) → 0 < length rest → n ≡ (head_of rest).more + 1
     → (head_of rest).text ≡ c ∷ []
     → text_of_bytes rest ≡ encode_utf8 c ++ text_of_bytes (drop n rest)
-front_text [] n c h e t = absurd (omega arith)
-front_text (b ∷ z) n c h e t =
-    ap (λ ss. units_of_text encode_utf8 (sequence_text ss)) (first_then_rest b z n e)
-    ∙ text_of_front (utf_8_rule 0 b z) b z (sequences_of utf_8_rule 0 (drop n (b ∷ z))) c t
+front_text rest n c some is_length is_char =
+    rw (first_then_rest rest n some is_length, is_char) refl
 
-pub front_malformed : (rest : List ℕ) (n : ℕ) (m : Bool) → 0 < length rest
+front_malformed : (rest : List ℕ) (n : ℕ) (m : Bool) → 0 < length rest
     → n ≡ (head_of rest).more + 1 → m ≡ is_malformed (head_of rest).kind
     → malformed_bytes rest ≡ (m || malformed_bytes (drop n rest))
-front_malformed [] n m h e k = absurd (omega arith)
-front_malformed (b ∷ z) n m h e k =
-    ap any_malformed (first_then_rest b z n e)
-    ∙ ap (λ t. t || malformed_bytes (drop n (b ∷ z))) (sym k)
+front_malformed rest n m some is_length is_kind =
+    rw (first_then_rest rest n some is_length, is_kind) refl
 
 -- how far a whole input is decoded: the text written and that of the remaining bytes are its text
 
@@ -129,36 +114,24 @@ pub goes_past : (bytes : List ℕ) (read : ℕ) (wrote : List ℕ) (had_errors :
     → (head_of (drop read bytes)).text ≡ c ∷ [] → m ≡ is_malformed (head_of (drop read bytes)).kind
     → read + n ≤ length bytes
     → Decoded bytes (read + n) (wrote ++ encode_utf8 c) (had_errors || m)
-goes_past bytes read wrote had_errors so_far n c m some_left is_length t k w =
+goes_past bytes read wrote had_errors so_far n c m some_left is_length is_char is_kind within =
     let rest = drop read bytes in
     let rest_is : drop n (drop read bytes) ≡ drop (read + n) bytes = drop-drop n read bytes in
     record {
-      within = w;
+      within = within;
       text = append_assoc wrote (encode_utf8 c) (text_of_bytes (drop (read + n) bytes))
-          ∙ ap (λ z. wrote ++ (encode_utf8 c ++ text_of_bytes z)) (sym rest_is)
-          ∙ ap (λ z. wrote ++ z) (sym (front_text (drop read bytes) n c some_left is_length t))
-          ∙ so_far.text;
+          ∙ rw (← rest_is, ← front_text rest n c some_left is_length is_char) so_far.text;
       malformed = or_assoc had_errors m (malformed_bytes (drop (read + n) bytes))
-          ∙ ap (λ z. had_errors || (m || malformed_bytes z)) (sym rest_is)
-          ∙ ap (λ z. had_errors || z)
-          (sym (front_malformed (drop read bytes) n m some_left is_length k))
-          ∙ so_far.malformed;
+          ∙ rw (← rest_is, ← front_malformed rest n m some_left is_length is_kind)
+          so_far.malformed;
     }
-
-nothing_after : (bytes : List ℕ) (read : ℕ) → length bytes ≤ read
-    → sequences_of utf_8_rule 0 (drop read bytes) ≡ []
-nothing_after bytes read h = ap (sequences_of utf_8_rule 0) (drop_of_length-le bytes h)
-    ∙ sequences_of-nil utf_8_rule 0
 
 pub all_decoded : {bytes : List ℕ} {read : ℕ} {wrote : List ℕ} {had_errors : Bool}
     → Decoded bytes read wrote had_errors → length bytes ≤ read
-    → (wrote ≡ units_of_text encode_utf8 (sequence_text (sequences_of utf_8_rule 0 bytes)))
-    × (had_errors ≡ any_malformed (sequences_of utf_8_rule 0 bytes))
-all_decoded {bytes} {read} {wrote} {had_errors} so_far h =
-    let none_left = nothing_after bytes read h in (
-      sym (append-nil wrote)
-          ∙ ap (λ ss. wrote ++ units_of_text encode_utf8 (sequence_text ss)) (sym none_left)
-          ∙ so_far.text,
-      sym (or_false had_errors) ∙ ap (λ ss. had_errors || any_malformed ss) (sym none_left)
-          ∙ so_far.malformed,
+    → (wrote ≡ text_of_bytes bytes) × (had_errors ≡ malformed_bytes bytes)
+all_decoded {bytes} {read} {wrote} {had_errors} so_far all_read =
+    let none_left : sequences_of utf_8_rule 0 (drop read bytes) ≡ [] =
+    rw (drop_of_length-le bytes all_read) (sequences_of-nil utf_8_rule 0) in (
+      sym (append-nil wrote) ∙ (rw none_left at so_far.text),
+      sym (or_false had_errors) ∙ (rw none_left at so_far.malformed),
     )

@@ -12,25 +12,25 @@ use Rattle.enc_decoder.proofs.FirstSequenceLemmas.{true_or_false}
 
 pub lead_range : (u : ℕ) → is_lead_surrogate u ≡ true → (0xD800 ≤ u) × (u ≤ 0xDBFF)
 unfolding is_lead_surrogate
-lead_range u h = (grind (arith, nat_tests), grind (arith, nat_tests))
+lead_range u leads = (grind (arith, nat_tests), grind (arith, nat_tests))
 
 pub trail_range : (u : ℕ) → is_trail_surrogate u ≡ true → (0xDC00 ≤ u) × (u ≤ 0xDFFF)
 unfolding is_trail_surrogate
-trail_range u h = (grind (arith, nat_tests), grind (arith, nat_tests))
+trail_range u trails = (grind (arith, nat_tests), grind (arith, nat_tests))
 
 -- the scalar values
 
 pub unit_scalar : (u : ℕ) → u < 0x10000 → is_lead_surrogate u ≡ false → is_trail_surrogate u ≡ false
     → InScalarRange u
 unfolding is_lead_surrogate is_trail_surrogate
-unit_scalar u l e f = grind (arith, nat_tests)
+unit_scalar u below no_lead no_trail = grind (arith, nat_tests)
 
 pub pair_in_range : (lead trail : ℕ) → is_lead_surrogate lead ≡ true
     → is_trail_surrogate trail ≡ true → InScalarRange (pair_scalar lead trail)
 unfolding pair_scalar
-pair_in_range lead trail e f =
-    let lead_in_range = lead_range lead e in
-    let trail_in_range = trail_range trail f in inr (omega arith, omega arith)
+pair_in_range lead trail leads trails =
+    let lead_in_range = lead_range lead leads in
+    let trail_in_range = trail_range trail trails in inr (omega arith, omega arith)
 
 module _ (big : Bool) where
   -- whether two bytes begin a surrogate pair, and whether they end one

@@ -44,8 +44,8 @@ module _ (big : Bool) where
   pub three_by_end : (set b c d : ℕ) → Leads big true b c
       → IsDeterminedByEnd (utf_16_rule big) set b (c ∷ d ∷ [])
   three_by_end set b c d leads =
-      by_end_of (utf_16_rule big) set b (c ∷ d ∷ []) (0 ∷ []) (lead_first big set b c (d ∷ []) leads)
-      (lead_first big set b c (d ∷ 0 ∷ []) leads)
+      by_end_of (utf_16_rule big) set b (c ∷ d ∷ []) (0 ∷ [])
+      (lead_first big set b c (d ∷ []) leads) (lead_first big set b c (d ∷ 0 ∷ []) leads)
       (λ same. not_two_more (is_trail_surrogate (code_unit big d 0)) _
       (ap (λ (h : Head). h.more) same))
       (omega arith, tt) (omega arith) (omega arith)

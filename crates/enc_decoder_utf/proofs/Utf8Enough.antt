@@ -70,7 +70,8 @@ valid_units b (c ∷ d ∷ e ∷ z) follow len_is =
 -- and a malformed one has three
 few_units : (set b : ℕ) (z : List ℕ)
     → length (units_of_text encode_utf8 (utf_8_rule set b z).text)
-    ≤ cond (is_malformed (utf_8_rule set b z).kind) 3 (suc (length (take (utf_8_rule set b z).more z)))
+    ≤ cond (is_malformed (utf_8_rule set b z).kind) 3
+    (suc (length (take (utf_8_rule set b z).more z)))
 few_units set b z = holds_of_first
     (λ h. length (units_of_text encode_utf8 h.text)
     ≤ cond (is_malformed h.kind) 3 (suc (length (take h.more z)))) set b z

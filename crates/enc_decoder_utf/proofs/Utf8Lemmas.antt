@@ -48,8 +48,8 @@ pub holds_of_first : (Holds : Head → Type 0) (set b : ℕ) (z : List ℕ)
     → Holds (malformed_head set (well_formed_tail_len b z)) → Holds (utf_8_rule set b z)
 holds_of_first Holds set b z whole short =
     elim (true_or_false (eqb (well_formed_tail_len b z + 1) (sequence_len b))) [
-      | inl t ↦ rw (whole_head set b z refl t) (whole (grind (arith, nat_tests)))
-      | inr f ↦ rw (short_head set b z refl f) short
+      | inl is_whole ↦ rw (whole_head set b z refl is_whole) (whole (grind (arith, nat_tests)))
+      | inr is_short ↦ rw (short_head set b z refl is_short) short
     ]
 
 module _ (b : ℕ) (z : List ℕ) (m : ℕ) (reach : well_formed_tail_len b z ≡ m) where
@@ -109,12 +109,12 @@ at_most_four b = grind (arith, nat_tests)
 
 pub continuation_range : (c : ℕ) → is_continuation c ≡ true → (0x80 ≤ c) × (c ≤ 0xBF)
 unfolding is_continuation
-continuation_range c h = (grind (arith, nat_tests), grind (arith, nat_tests))
+continuation_range c continues = (grind (arith, nat_tests), grind (arith, nat_tests))
 
 pub second_range : (a b : ℕ) → is_second_byte a b ≡ true → (0x80 ≤ b) × (b ≤ 0xBF)
     × (a ≡ 0xE0 → 0xA0 ≤ b) × (a ≡ 0xED → b ≤ 0x9F) × (a ≡ 0xF0 → 0x90 ≤ b) × (a ≡ 0xF4 → b ≤ 0x8F)
 unfolding is_second_byte
-second_range a b h = (
+second_range a b follows = (
   grind (arith, nat_tests),
   grind (arith, nat_tests),
   grind (arith, nat_tests),
@@ -143,7 +143,7 @@ well_formed_tail_len-end a =
 
 well_formed_tail_len-alone : (b : ℕ) (z : List ℕ) → sequence_len b ≤ 1
     → well_formed_tail_len b z ≡ 0
-well_formed_tail_len-alone b z h =
+well_formed_tail_len-alone b z at_most_one =
     let none_more : sequence_len b - 1 ≡ 0 = omega arith in rw none_more refl
 
 module _ (a b : ℕ) (z : List ℕ) (leads : 2 ≤ sequence_len a) where
@@ -160,8 +160,8 @@ module _ (a b : ℕ) (z : List ℕ) (leads : 2 ≤ sequence_len a) where
 
 continuations-none : (n c : ℕ) (z : List ℕ) → is_continuation c ≡ false
     → continuations n (c ∷ z) ≡ 0
-continuations-none zero c z e = refl
-continuations-none (suc n) c z e = rw e refl
+continuations-none zero c z ends = refl
+continuations-none (suc n) c z ends = rw ends refl
 
 pub continuations-end : (n : ℕ) → continuations n [] ≡ 0
 continuations-end zero = refl
@@ -174,9 +174,9 @@ pub continuing_len-within : (b n : ℕ) (z : List ℕ) → (continuing_len b n z
 continuing_len-within b zero z = (omega arith, omega arith)
 continuing_len-within b (suc n) [] = (omega arith, omega arith)
 continuing_len-within b (suc n) (c ∷ z) = elim (true_or_false (is_second_byte b c)) [
-  | inl t ↦ rw (t, continuations_as_second n z)
+  | inl goes_on ↦ rw (goes_on, continuations_as_second n z)
       (let rest_within = continuing_len-within 0 n z in (omega arith, omega arith))
-  | inr f ↦ rw f (omega arith, omega arith)
+  | inr ends ↦ rw ends (omega arith, omega arith)
 ]
 
 pub well_formed_tail_len-within : (b : ℕ) (z : List ℕ) → well_formed_tail_len b z ≤ length z
@@ -191,18 +191,18 @@ pub reached_follow : (b n : ℕ) (z : List ℕ) → AreFollowing b (take (contin
 reached_follow b zero z = tt
 reached_follow b (suc n) [] = tt
 reached_follow b (suc n) (c ∷ z) = elim (true_or_false (is_second_byte b c)) [
-  | inl t ↦ rw (t, continuations_as_second n z) (t, reached_follow 0 n z)
-  | inr f ↦ rw f tt
+  | inl goes_on ↦ rw (goes_on, continuations_as_second n z) (goes_on, reached_follow 0 n z)
+  | inr ends ↦ rw ends tt
 ]
 
 -- the first sequence of a byte that begins none, or that is a character by itself
 
 pub none_malformed : (b : ℕ) (z : List ℕ) → sequence_len b ≡ 0 → IsMalformedBefore z (b ∷ [])
-none_malformed b z s =
-    malformed_first b z 0 (well_formed_tail_len-alone b z (omega arith)) (rw s refl)
+none_malformed b z none =
+    malformed_first b z 0 (well_formed_tail_len-alone b z (omega arith)) (rw none refl)
 
 pub one_valid : (b : ℕ) (z : List ℕ) → sequence_len b ≡ 1 → IsCharBefore z (b ∷ [])
-one_valid b z s = valid_first b z 0 (well_formed_tail_len-alone b z (omega arith)) (rw s refl)
+one_valid b z one = valid_first b z 0 (well_formed_tail_len-alone b z (omega arith)) (rw one refl)
 
 -- a lead byte
 

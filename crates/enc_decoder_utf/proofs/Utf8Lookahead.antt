@@ -28,7 +28,7 @@ continuing_len-determined b (suc n) (suc k) (c ∷ z) y there enough =
           rw (goes_on, continuations_as_second n (take k z ++ y), continuations_as_second n z)
           (ap suc (continuing_len-determined 0 n k z y (omega arith)
           (λ reaches. let no_more_wanted = enough_after (omega arith) in omega arith)))
-      | inr f ↦ rw f refl
+      | inr ends ↦ rw ends refl
     ]
 
 -- Where all bytes go on and more are wanted, a byte goes on with them.
@@ -59,7 +59,7 @@ continuing_len-more b (suc n) (c ∷ z) all_go_on wanted =
           let count_is = rw (goes_on, continuations_as_second n z) at all_go_on in
           rw (goes_on, continuations_as_second n (z ++ next_byte 0 z ∷ []))
           (ap suc (continuing_len-more 0 n z (omega arith) (omega arith)))
-      | inr t ↦ let none_counted = rw t at all_go_on in absurd (omega arith)
+      | inr ends ↦ let none_counted = rw ends at all_go_on in absurd (omega arith)
     ]
 
 -- the first sequence has the bytes that are reached
@@ -129,7 +129,7 @@ continuing_len-alone b (suc n) (c ∷ z) = elim (true_or_false (is_second_byte b
   | inl goes_on ↦ rw (goes_on, goes_on, continuations_as_second n z)
       (rw (continuations_as_second n (take (continuing_len 0 n z) z))
       (ap suc (continuing_len-alone 0 n z)))
-  | inr f ↦ rw f refl
+  | inr ends ↦ rw ends refl
 ]
 
 determined : (set b : ℕ) (z : List ℕ) → IsDeterminedSoon utf_8_rule set b z
@@ -140,7 +140,7 @@ determined set b z =
     let alone = continuing_len-alone b (sequence_len b - 1) z in
     let more_is = more_is_reach set b z in
     elim (leb_tells (sequence_len b - 1) reach) [
-      | inl t ↦ inl (determined_at set b reach 0 z (omega arith) bounds.1 (λ _. t.1))
+      | inl whole ↦ inl (determined_at set b reach 0 z (omega arith) bounds.1 (λ _. whole.1))
       | inr short ↦ inr (
         stops_short set b z short.1,
         elim (leb_tells (suc reach) (length z)) [
@@ -148,7 +148,8 @@ determined set b z =
             1,
             omega arith,
             looks_by utf_8_rule set b z 0 reach
-                (determined_at set b (suc reach) 1 z (omega arith) more.1 (λ q. absurd (omega arith)))
+                (determined_at set b (suc reach) 1 z (omega arith) more.1
+                (λ reaches. absurd (omega arith)))
                 (omega arith)
                 (by_end set b (take reach z)
                 (record { reach = alone ∙ sym front_length; short = omega (arith, short.1) })),

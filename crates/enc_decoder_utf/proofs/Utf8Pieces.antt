@@ -48,8 +48,8 @@ module _ (c : ℕ) where
       let second = next c in
       valued (lead ∷ second ∷ []) c (omega arith)
       (λ y. two_valid lead second y ((len_by_range lead).two (omega arith) (omega arith))
-      (second_at lead second (omega arith, omega arith) (λ e. omega arith) (λ e. omega arith)
-      (λ e. omega arith) (λ e. omega arith)))
+      (second_at lead second (omega arith, omega arith) (λ e0. omega arith) (λ ed. omega arith)
+      (λ f0. omega arith) (λ f4. omega arith)))
 
   three : 0x800 ≤ c → c < 0x10000 → (c < 0xD800) ⊎ ((0xE000 ≤ c) × (c < 0x110000))
       → IsWholeChar utf_8_rule 0 ((0xE0 + c / 4096) ∷ next (c / 64) ∷ next c ∷ []) c
@@ -58,8 +58,8 @@ module _ (c : ℕ) where
       let second = next (c / 64) in
       valued (lead ∷ second ∷ next c ∷ []) c (omega arith)
       (λ y. three_valid lead second _ y ((len_by_range lead).three (omega arith) (omega arith))
-      (second_at lead second (omega arith, omega arith) (λ e. omega arith) (λ e. omega (arith, range))
-      (λ e. omega arith) (λ e. omega arith))
+      (second_at lead second (omega arith, omega arith) (λ e0. omega arith)
+      (λ ed. omega (arith, range)) (λ f0. omega arith) (λ f4. omega arith))
       (continues _ (omega arith, omega arith)))
 
   four : 0x10000 ≤ c → c < 0x110000
@@ -70,8 +70,8 @@ module _ (c : ℕ) where
       let second = next (c / 4096) in
       valued (lead ∷ second ∷ next (c / 64) ∷ next c ∷ []) c (omega arith)
       (λ y. four_valid lead second _ _ y ((len_by_range lead).four (omega arith) (omega arith))
-      (second_at lead second (omega arith, omega arith) (λ e. omega arith) (λ e. omega arith)
-      (λ e. omega arith) (λ e. omega arith))
+      (second_at lead second (omega arith, omega arith) (λ e0. omega arith) (λ ed. omega arith)
+      (λ f0. omega arith) (λ f4. omega arith))
       (continues _ (omega arith, omega arith)) (continues _ (omega arith, omega arith)))
 
 -- the bytes of a character

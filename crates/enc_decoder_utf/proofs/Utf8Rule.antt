@@ -13,7 +13,7 @@ one_character set b z =
     holds_of_first (λ h. (c : ℕ) × (h.text ≡ c ∷ [])) set b z (λ _. (_, refl)) (_, refl)
 
 pub utf_8_has_texts : HasTexts utf_8_rule
-utf_8_has_texts set b z e = let text_is = (one_character set b z).1 in cc
+utf_8_has_texts set b z no_text = let text_is = (one_character set b z).1 in cc
 
 pub utf_8_is_lawful : IsLawfulRule utf_8_rule
 utf_8_is_lawful = record {

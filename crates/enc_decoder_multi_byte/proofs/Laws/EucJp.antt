@@ -1,12 +1,11 @@
 -- What the bytes in front can be in EUC-JP.
-use Rattle.std.proofs.Common.{◌≡◌, ℕ, ◌<◌, ◌≤◌, Bool, true, false, cond, ◌&&◌, ◌==◌, Option, None, List, [], ◌∷◌}
+use Rattle.std.proofs.Common.{◌≡◌, ℕ, ◌<◌, Bool, true, false, cond, ◌&&◌, ◌==◌, Option, None, List, [], ◌∷◌}
 use Rattle.std.proofs.Common.{length, refl, ◌∙◌, arith, subst}
 use Rattle.std.proofs.lemmas.Bool.{cond-true, lt-ltb}
 use Rattle.std.proofs.lemmas.Bool.Decides.{nat_tests}
-use Rattle.enc_decoder.specs.declared.byte_codec.Text.{Text}
 use Rattle.enc_decoder_multi_byte.specs.declared.multi_byte.Prefix.{Prefix}
-use Rattle.enc_decoder_multi_byte.specs.declared.multi_byte.Prefix.TheVariants.{Complete, Malformed, Incomplete}
-use Rattle.enc_decoder_multi_byte.specs.DoubleByte.{text_of_char, IsPairText}
+use Rattle.enc_decoder_multi_byte.specs.declared.multi_byte.Prefix.TheVariants.{Malformed, Incomplete}
+use Rattle.enc_decoder_multi_byte.specs.DoubleByte.{text_of_char}
 use Rattle.enc_decoder_multi_byte.specs.MultiByte.{CanBeMalformed, ArePrefixes}
 use Rattle.enc_decoder_multi_byte.specs.EucJp.{is_euc_byte, is_euc_jp_lead, euc_jp_single_char, euc_jp_pair_char}
 use Rattle.enc_decoder_multi_byte.specs.EucJp.{euc_jp_triple_char, euc_jp_prefix}
@@ -40,13 +39,13 @@ pair_can_be_malformed a = no_more (a == 0x8F) _
 
 can_be_malformed : (front : List ℕ) → 0 < length front → euc_jp_prefix front ≡ Incomplete
     → CanBeMalformed euc_jp_prefix front
-can_be_malformed [] s e = absurd (omega arith)
-can_be_malformed (a ∷ []) s e =
+can_be_malformed [] some incomplete = absurd (omega arith)
+can_be_malformed (a ∷ []) some incomplete =
     malformed_with_ff euc_jp_prefix (a ∷ []) 2 (pair_can_be_malformed a) (λ same. omega arith)
-can_be_malformed (a ∷ b ∷ []) s e =
+can_be_malformed (a ∷ b ∷ []) some incomplete =
     malformed_with_ff euc_jp_prefix (a ∷ b ∷ []) 3 refl (λ same. omega arith)
-can_be_malformed (a ∷ b ∷ c ∷ z) s e =
-    absurd (trail_finished 2 c (text_of_char (euc_jp_triple_char b c)) e)
+can_be_malformed (a ∷ b ∷ c ∷ z) some incomplete =
+    absurd (trail_finished 2 c (text_of_char (euc_jp_triple_char b c)) incomplete)
 
 pub laws : ArePrefixes euc_jp_prefix
 laws = record {

@@ -1,12 +1,9 @@
 -- What the bytes in front can be in gb18030.
-use Rattle.std.proofs.Common.{◌≡◌, ◌≢◌, ℕ, ◌<◌, ◌≤◌, Bool, true, false, cond, Option, Some, None, List, [], ◌∷◌, length}
+use Rattle.std.proofs.Common.{◌≡◌, ℕ, ◌<◌, ◌≤◌, Bool, true, false, cond, Option, Some, None, List, [], ◌∷◌, length}
 use Rattle.std.proofs.Common.{refl, arith, subst}
 use Rattle.std.proofs.lemmas.Bool.{cond-true, lt-ltb}
 use Rattle.std.proofs.lemmas.Bool.Decides.{nat_tests}
-use Rattle.enc_decoder.specs.declared.byte_codec.Text.{Text}
-use Rattle.enc_decoder.specs.declared.byte_codec.Text.TheVariants.{One}
-use Rattle.enc_decoder_multi_byte.specs.declared.multi_byte.Prefix.TheVariants.{Complete, Malformed, Incomplete}
-use Rattle.enc_decoder_multi_byte.specs.DoubleByte.{text_of_char, IsPairText}
+use Rattle.enc_decoder_multi_byte.specs.declared.multi_byte.Prefix.TheVariants.{Malformed, Incomplete}
 use Rattle.enc_decoder_multi_byte.specs.MultiByte.{CanBeMalformed, ArePrefixes}
 use Rattle.enc_decoder_multi_byte.specs.Gb18030.{is_gb18030_lead, is_digit, gb18030_single_char, gb18030_pair_char}
 use Rattle.enc_decoder_multi_byte.specs.Gb18030.{ranges_code_point, four_byte_pointer, four_byte_prefix, gb18030_prefix}
@@ -34,23 +31,23 @@ lawful (a ∷ b ∷ c ∷ d ∷ z) =
     four_lawful _ (is_digit d) (ranges_code_point (four_byte_pointer a b c d)) (omega arith)
 
 short : (front : List ℕ) → gb18030_prefix front ≡ Incomplete → length front ≤ 3
-short front e = subst (IsLawfulPrefix 3 (length front)) e (lawful front)
+short front incomplete = subst (IsLawfulPrefix 3 (length front)) incomplete (lawful front)
 
 -- FF is neither a trail, nor a third or a fourth byte
 can_be_malformed : (front : List ℕ) → 0 < length front → gb18030_prefix front ≡ Incomplete
     → CanBeMalformed gb18030_prefix front
-can_be_malformed [] s e = absurd (omega arith)
-can_be_malformed (a ∷ []) s e =
+can_be_malformed [] some incomplete = absurd (omega arith)
+can_be_malformed (a ∷ []) some incomplete =
     malformed_with_ff gb18030_prefix (a ∷ []) 2 refl (λ same. omega arith)
-can_be_malformed (a ∷ b ∷ []) s e =
+can_be_malformed (a ∷ b ∷ []) some incomplete =
     malformed_with_ff gb18030_prefix (a ∷ b ∷ []) 1 refl (λ same. omega arith)
-can_be_malformed (a ∷ b ∷ c ∷ []) s e =
+can_be_malformed (a ∷ b ∷ c ∷ []) some incomplete =
     malformed_with_ff gb18030_prefix (a ∷ b ∷ c ∷ []) 1 refl (λ same. omega arith)
-can_be_malformed (a ∷ b ∷ c ∷ d ∷ z) s e =
-    let too_short = short (a ∷ b ∷ c ∷ d ∷ z) e in absurd (omega arith)
+can_be_malformed (a ∷ b ∷ c ∷ d ∷ z) some incomplete =
+    let too_short = short (a ∷ b ∷ c ∷ d ∷ z) incomplete in absurd (omega arith)
 
 single_is_basic : (b c : ℕ) → gb18030_single_char b ≡ Some c → c < 0x1_0000
-single_is_basic b c e = grind (arith, nat_tests)
+single_is_basic b c is_char = grind (arith, nat_tests)
 
 pub laws : ArePrefixes gb18030_prefix
 laws = record {

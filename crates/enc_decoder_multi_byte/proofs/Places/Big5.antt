@@ -25,11 +25,11 @@ big5_column : (b : ℕ)
 big5_column b = grind (arith, nat_tests)
 
 big5_small : (b : ℕ) → is_big5_trail b ≡ true → big5_number b < 157
-big5_small b t = grind (arith, nat_tests)
+big5_small b trails = grind (arith, nat_tests)
 
 -- the pointers of two characters have none in the index
 apart : (n p c : ℕ) → big5_at n ≡ None → big5_at p ≡ Some c → (p == n) ≡ false
-apart n p c e f = ne_eqb p n (λ same. some_none _ c (ap big5_at same ∙ e) f)
+apart n p c none has_char = ne_eqb p n (λ same. some_none _ c (ap big5_at same ∙ none) has_char)
 
 big5_one : (p c : ℕ) → big5_at p ≡ Some c → big5_pointer_text p ≡ Some (One c)
 unfolding runs_of

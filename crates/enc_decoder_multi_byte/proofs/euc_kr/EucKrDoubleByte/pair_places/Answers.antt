@@ -1,15 +1,12 @@
 -- Written by scripts/make-sources from data/templates: change the text there, and not this file.
-use Rattle.std.proofs.Common.{◌∙◌, ap, get_or}
+use Rattle.std.proofs.Common.{ℕ, get_or}
 use Rattle.std.proofs.lemmas.Simd.{get_or-replicate}
-use Rattle.enc_units.specs.Places.{number_in}
 use Rattle.enc_decoder_multi_byte.proofs.Places.EucKr.{place}
 use Rattle.enc_decoder_multi_byte.proofs.euc_kr.EucKrDoubleByte.pair_places.Goals as goal
 
 pub returns : goal.returns
 returns c i l =
     place (get_or c.args.first i 0) (get_or c.args.second i 0)
-    (c.numbers_in-rows.ensures i l
-    ∙ ap (number_in 0x81 0xFE 0 (get_or c.args.first i 0)) (get_or-replicate 16 i 126 0 l))
-    (c.numbers_in-columns.ensures i l
-    ∙ ap (number_in 0x41 0xFE 0 (get_or c.args.second i 0)) (get_or-replicate 16 i 190 0 l))
+    (rw (get_or-replicate {A = ℕ} 16 i 126 0 l) at (c.numbers_in-rows.ensures i l))
+    (rw (get_or-replicate {A = ℕ} 16 i 190 0 l) at (c.numbers_in-columns.ensures i l))
     (c.places_at.ensures i l)
