@@ -73,26 +73,18 @@ module _ (e : EncoderRule) (s : CharacterSet) (c d : ℕ)
       reports = λ k m. cc;
     }
 
--- the end of the text, where a set other than ASCII is in force
-pub ends : (e : EncoderRule) {E : Type 0} (state : E → RawEncoderState) (x y : E) (s : CharacterSet)
-    → steps_at_end s ≡ escape_step Ascii ∷ [] → state x ≡ record { rule = e; set = s }
-    → state y ≡ record { rule = e; set = Ascii }
-    → (b : Bytes) → byte_list b ≡ escape_sequence Ascii
-    → IsNextStep state x true [] (escape_transition b y)
-unfolding steps_of
-ends e state x y s l state_is next_is b g = record {
-  first = rw (state_is, next_is, g) l;
-  same = rw (state_is, next_is) refl;
-  some = λ m. cc;
-  reports = λ k m. cc;
-}
-
 last_is : (s : CharacterSet) → is_escape_due s ≡ true → steps_at_end s ≡ escape_step Ascii ∷ []
 last_is Ascii h = cc
 last_is _ h = refl
 
+-- the end of the text, where a set other than ASCII is in force
 pub ends_pending : {E : Type 0} (state : E → RawEncoderState) (x n : E)
     → IsEscapeAtEnd state x (Some n) → (b : Bytes) → byte_list b ≡ escape_sequence Ascii
     → IsNextStep state x true [] (escape_transition b n)
-ends_pending state x n escape b g =
-    ends (state x).rule state x n (state x).set (last_is (state x).set escape.0) refl escape.1 b g
+unfolding steps_of
+ends_pending state x n escape b bytes_are = record {
+  first = rw (escape.1, bytes_are) (last_is (state x).set escape.0);
+  same = rw escape.1 refl;
+  some = λ m. cc;
+  reports = λ k m. cc;
+}
