@@ -19,8 +19,8 @@ not_barred b c l =
     let low : nat_le 0x80 c ≡ false = grind (arith, nat_tests) in and_right _ _ low
 
 few_if : (t : Bool) (x : Option (List ℕ)) → AreAtMostFour x → AreAtMostFour (if t then None else x)
-few_if true x h = tt
-few_if false x h = h
+few_if true x few = tt
+few_if false x few = few
 
 -- no character has more bytes
 fewer_if : (t : Bool) (x : Option (List ℕ)) → size (if t then None else x) ≤ size x
@@ -33,7 +33,7 @@ fewer b bytes c = fewer_if (is_barred b c) (bytes c)
 
 pub except_writes_ascii : (b : List ℕ) (bytes : ℕ → Option (List ℕ)) → WritesAscii bytes
     → WritesAscii (bytes_unless_barred b bytes)
-except_writes_ascii b bytes w c is_ascii = rw (not_barred b c is_ascii) (w c is_ascii)
+except_writes_ascii b bytes ascii c is_ascii = rw (not_barred b c is_ascii) (ascii c is_ascii)
 
 pub except_keeps : (b : List ℕ) (lengths : ByteLengths) (bytes : ℕ → Option (List ℕ))
     → KeepsLengths lengths bytes → KeepsLengths lengths (bytes_unless_barred b bytes)
@@ -78,12 +78,12 @@ beyond (x ∷ b) c all_beyond among = elim (or_cases (x == c) (contains_char b c
 ]
 
 and_if : (s t : Bool) → (s ≡ true → t ≡ true) → (s && t) ≡ s
-and_if true t h = h refl
-and_if false t h = refl
+and_if true t follows = follows refl
+and_if false t follows = refl
 
 -- so such a list bars just the characters that stand in it
 pub barred_is : (b : List ℕ) (c : ℕ) → are_beyond_ascii b ≡ true → is_barred b c ≡ contains_char b c
-barred_is b c h = and_if (contains_char b c) (nat_le 0x80 c) (beyond b c h)
+barred_is b c all_beyond = and_if (contains_char b c) (nat_le 0x80 c) (beyond b c all_beyond)
 
 -- a call of the encoder without a list is one of the encoder with an empty list
 

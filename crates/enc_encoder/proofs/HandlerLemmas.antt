@@ -1,5 +1,5 @@
 -- What a character leads to, in an encoding with sets.
-use Rattle.std.proofs.Common.{◌≡◌, ℕ, Bool, true, false, Option, Some, None, List, [], ◌∷◌, refl, ap, ◌∙◌, sym}
+use Rattle.std.proofs.Common.{◌≡◌, ℕ, Bool, true, false, Option, Some, None, List, [], ◌∷◌, refl, ap, sym}
 use Rattle.enc_units.specs.declared.bytes.Bytes.{Bytes}
 use Rattle.enc_encoder.specs.declared.character_set.CharacterSet.{CharacterSet}
 use Rattle.enc_encoder.specs.declared.character_set.CharacterSet.TheVariants.{Ascii}
@@ -12,7 +12,7 @@ use Rattle.enc_encoder.specs.CharLaw.{char_transition, escape_transition}
 use Rattle.enc_encoder.specs.CharLaw.{IsEscapeAtEnd}
 
 -- the bytes found for a character make its step
-pub step_found : (e : EncoderRule) (set : CharacterSet) (c reported : ℕ) (wanted : Option (List ℕ))
+step_found : (e : EncoderRule) (set : CharacterSet) (c reported : ℕ) (wanted : Option (List ℕ))
     (found : Option Bytes) (b : Bytes) → AreBytesOf wanted found
     → byte_list b ≡ bytes_or_empty found
     → reported ≡ e.reported c
@@ -23,76 +23,70 @@ pub step_found : (e : EncoderRule) (set : CharacterSet) (c reported : ℕ) (want
       report = report_unless_mapped reported found;
       set = set;
     }
-step_found e set c reported wanted None b w f r = rw (w, f, r) refl
-step_found e set c reported wanted (Some x) b w f r = rw (w, f) refl
+step_found e set c reported wanted None b found_is bytes_are reported_is =
+    rw (found_is, bytes_are, reported_is) refl
+step_found e set c reported wanted (Some x) b found_is bytes_are reported_is =
+    rw (found_is, bytes_are) refl
 
-pub none_written : (reported : ℕ) (found : Option Bytes) (b : Bytes)
+none_written : (reported : ℕ) (found : Option Bytes) (b : Bytes)
     → byte_list b ≡ bytes_or_empty found → (k : ℕ) → report_unless_mapped reported found ≡ Some k
     → byte_list b ≡ []
-none_written reported None b f k e = f
-none_written reported (Some x) b f k e = cc
+none_written reported None b bytes_are k is_report = bytes_are
+none_written reported (Some x) b bytes_are k is_report = cc
 
-module _ (e : EncoderRule) (s : CharacterSet) (c d : ℕ)
-    (is_first : d ≡ first_written_char c (e.bytes c)) where
-  -- the set in force has the character
-  written : e.has s d ≡ true → (last : Bool) (z : List ℕ)
-      → steps_of e last s (c ∷ z) ≡ char_step e s c (e.bytes c) ∷ steps_of e last s z
-  unfolding steps_of
-  written h last z = rw (sym is_first, h) refl
+module _ {E : Type 0} (state : E → RawEncoderState) (x : E) where
+  abbrev e : EncoderRule
+  e = (state x).rule
 
-  -- it lacks it, and then an escape comes first
-  escaped : e.has (e.designated d) d ≡ true → e.has s d ≡ false → (last : Bool) (z : List ℕ)
-      → steps_of e last s (c ∷ z) ≡ escape_step (e.designated d)
-      ∷ steps_of e last (e.designated d) (c ∷ z)
-  unfolding steps_of
-  escaped j h last z = rw (sym is_first, h, j) refl
+  abbrev s : CharacterSet
+  s = (state x).set
 
-  module _ {E : Type 0} (state : E → RawEncoderState) (x : E)
-      (state_is : state x ≡ record { rule = e; set = s }) where
+  -- the step of a character c, for which d is the first that is written
+  module _ (c : ℕ) {d : ℕ} (is_first : d ≡ first_written_char c (e.bytes c)) where
+    -- the set in force has it
     pub acts_written : e.has s d ≡ true → (reported : ℕ) → reported ≡ e.reported c
         → (found : Option Bytes) (b : Bytes) → AreBytesOf (e.bytes c) found
         → byte_list b ≡ bytes_or_empty found
         → HandlesCharacter state x c (char_transition b x reported found)
-    acts_written h reported r found b w byte_list_is last z = record {
-      first =
-          rw state_is (written h last z ∙ ap (λ (p : Step). p ∷ steps_of e last s z)
-          (step_found e s c reported (e.bytes c) found b w byte_list_is r));
+    unfolding steps_of
+    acts_written has reported reported_is found b found_is bytes_are last z = record {
+      first = rw (sym is_first, has) (ap (λ (p : Step). p ∷ steps_of e last s z)
+          (step_found e s c reported (e.bytes c) found b found_is bytes_are reported_is));
       same = refl;
       some = λ _ n. cc;
-      reports = λ k m. (refl, none_written reported found b byte_list_is k m);
+      reports = λ k m. (refl, none_written reported found b bytes_are k m);
     }
+
+    -- it lacks it, and then an escape comes first
+    escaped : e.has (e.designated d) d ≡ true → e.has s d ≡ false → (last : Bool) (z : List ℕ)
+        → steps_of e last s (c ∷ z) ≡ escape_step (e.designated d)
+        ∷ steps_of e last (e.designated d) (c ∷ z)
+    unfolding steps_of
+    escaped designated_has lacks last z = rw (sym is_first, lacks, designated_has) refl
 
     pub acts_escaped : e.has (e.designated d) d ≡ true → e.has s d ≡ false → (y : E)
         → state y ≡ record { rule = e; set = e.designated d } → (b : Bytes)
         → byte_list b ≡ escape_sequence (e.designated d)
         → HandlesCharacter state x c (escape_transition b y)
-    acts_escaped j h y next_is b g last z = record {
-      first = rw (state_is, next_is, g) (escaped j h last z);
-      same = rw (state_is, next_is) refl;
+    acts_escaped designated_has lacks y next_is b bytes_are last z = record {
+      first = rw (next_is, bytes_are) (escaped designated_has lacks last z);
+      same = rw next_is refl;
       some = λ m. cc;
       reports = λ k m. cc;
     }
 
--- the end of the text, where a set other than ASCII is in force
-pub ends : (e : EncoderRule) {E : Type 0} (state : E → RawEncoderState) (x y : E) (s : CharacterSet)
-    → steps_at_end s ≡ escape_step Ascii ∷ [] → state x ≡ record { rule = e; set = s }
-    → state y ≡ record { rule = e; set = Ascii }
-    → (b : Bytes) → byte_list b ≡ escape_sequence Ascii
-    → IsNextStep state x true [] (escape_transition b y)
-unfolding steps_of
-ends e state x y s l state_is next_is b g = record {
-  first = rw (state_is, next_is, g) l;
-  same = rw (state_is, next_is) refl;
-  some = λ m. cc;
-  reports = λ k m. cc;
-}
-
 last_is : (s : CharacterSet) → is_escape_due s ≡ true → steps_at_end s ≡ escape_step Ascii ∷ []
-last_is Ascii h = cc
-last_is _ h = refl
+last_is Ascii due = cc
+last_is _ due = refl
 
+-- the end of the text, where a set other than ASCII is in force
 pub ends_pending : {E : Type 0} (state : E → RawEncoderState) (x n : E)
     → IsEscapeAtEnd state x (Some n) → (b : Bytes) → byte_list b ≡ escape_sequence Ascii
     → IsNextStep state x true [] (escape_transition b n)
-ends_pending state x n escape b g =
-    ends (state x).rule state x n (state x).set (last_is (state x).set escape.0) refl escape.1 b g
+unfolding steps_of
+ends_pending state x n escape b bytes_are = record {
+  first = rw (escape.1, bytes_are) (last_is (state x).set escape.0);
+  same = rw escape.1 refl;
+  some = λ m. cc;
+  reports = λ k m. cc;
+}

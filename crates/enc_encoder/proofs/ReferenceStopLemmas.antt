@@ -1,6 +1,6 @@
 -- Where steps fit, and why a call stops.
 use Rattle.std.proofs.Common.{◌≡◌, ℕ, ◌+◌, ◌<◌, ◌≤◌, Bool, true, false, not, ◌&&◌, Option, Some, None, List, [], ◌∷◌}
-use Rattle.std.proofs.Common.{◌++◌, length, refl, ap, ◌∙◌, sym, subst, arith, length-append}
+use Rattle.std.proofs.Common.{◌++◌, length, refl, ap, ◌∙◌, sym, subst, arith, append-nil, length-append}
 use Rattle.enc_encoder.specs.declared.character_set.CharacterSet.TheVariants.{Ascii}
 use Rattle.enc_encoder.specs.EncoderRule.{RawEncoderState, is_escape_due}
 use Rattle.enc_encoder.specs.Steps.{Step, step_bytes, bytes_with_references, any_reported, reference_for_report}
@@ -59,11 +59,8 @@ before-append limit n (p ∷ ps) qs all_before k = (
 )
 
 pub all_fit : (limit n : ℕ) (ps : List Step) → AllBefore limit n ps → StepsFit limit n ps
-all_fit limit n [] all_before = tt
-all_fit limit n (p ∷ ps) all_before = (
-  weaker limit n (length p.bytes) p.report ps all_before.0,
-  all_fit limit (n + length p.bytes + length (reference_for_report p.report)) ps all_before.1,
-)
+all_fit limit n ps all_before =
+    subst (StepsFit limit n) (append-nil ps) (fits-append limit n ps [] all_before tt)
 
 -- steps without a report
 pub unreported_before : (limit n : ℕ) (ps : List Step) → any_reported ps ≡ false

@@ -46,9 +46,9 @@ few_in_first : (e : EncoderRule) (s x : CharacterSet) (c : ℕ) (has : Bool) (b 
     (ps : List Step)
     → AreAtMostFour b
     → first_bytes ((if has then [] else escape_step x ∷ []) ++ (char_step e s c b ∷ ps)) ≤ 4
-few_in_first e s x c true None ps h = omega arith
-few_in_first e s x c true (Some b) ps h = h
-few_in_first e s x c false b ps h = few_in_escape x
+few_in_first e s x c true None ps few = omega arith
+few_in_first e s x c true (Some b) ps few = few
+few_in_first e s x c false b ps few = few_in_escape x
 
 -- it has four at most
 pub first_few : (e : EncoderRule) → IsLawfulEncoderRule e

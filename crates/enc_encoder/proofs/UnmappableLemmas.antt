@@ -81,23 +81,16 @@ abbrev some_in : List ℕ → Bool
 some_in [] = false
 some_in (c ∷ t) = true
 
-any_by : (r : Option ℕ) (t : List ℕ) (b : Bool) → b ≡ some_in t
-    → (is_some r || b) ≡ some_in (reports_by r ++ t)
-any_by None t b h = h
-any_by (Some c) t b h = refl
-
 any_in : (ps : List Step) → any_reported ps ≡ some_in (reports_in ps)
 any_in [] = refl
-any_in (p ∷ ps) = any_by p.report (reports_in ps) (any_reported ps) (any_in ps)
-
-any_of_one : (e : EncoderRule) (c : ℕ) (b : Option (List ℕ)) (t : List ℕ) (x : Bool) → x ≡ some_in t
-    → (not (is_some b) || x) ≡ some_in (report_for e c b ++ t)
-any_of_one e c None t x h = refl
-any_of_one e c (Some b) t x h = h
+any_in (p ∷ ps) = rw (any_in ps) (elim p.report as (λ r. (is_some r || some_in (reports_in ps))
+    ≡ some_in (reports_by r ++ reports_in ps)) [ None ↦ refl | Some c ↦ refl ])
 
 any_of : (e : EncoderRule) (t : List ℕ) → any_unmappable e t ≡ some_in (reports_of e t)
 any_of e [] = refl
-any_of e (c ∷ t) = any_of_one e c (e.bytes c) (reports_of e t) (any_unmappable e t) (any_of e t)
+any_of e (c ∷ t) =
+    rw (any_of e t) (elim (e.bytes c) as (λ b. (not (is_some b) || some_in (reports_of e t))
+    ≡ some_in (report_for e c b ++ reports_of e t)) [ None ↦ refl | Some b ↦ refl ])
 
 pub any_reported_is : {last : Bool} {old new : RawEncoderState} {src rest : List ℕ}
     {done : List Step} → Leaves last old new src rest done

@@ -5,7 +5,7 @@ use Rattle.std.proofs.Common.{refl, ap, sym, ◌∙◌, if◌then◌else◌}
 use Rattle.enc_encoder.specs.declared.character_set.CharacterSet.{CharacterSet}
 use Rattle.enc_encoder.specs.EncoderRule.{EncoderRule}
 use Rattle.enc_encoder.specs.Text.{escape_before, list_or_empty, bytes_after_text}
-use Rattle.enc_encoder.specs.Barring.{is_barred, bytes_unless_barred, barring_rule}
+use Rattle.enc_encoder.specs.Barring.{is_barred, barring_rule}
 use Rattle.enc_encoder.specs.Unmappable.{any_unmappable}
 use Rattle.enc_round_trip.proofs.ReadBackLemmas.{first_mapped}
 

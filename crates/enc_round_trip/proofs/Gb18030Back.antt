@@ -69,15 +69,13 @@ two_read c p h =
     ∙ ap (λ o. trail_prefix 1 (gb18030_trail_byte (p % 190)) (text_of_char o))
     (cond-true _ _ _ (is_trail (p % 190) cell) ∙ ap gb18030_at (two_pointer p) ∙ h.has)
 
-two_piece : (c p : ℕ) → IsPointer gb18030_at any_pointer 23940 c p → Piece (gb18030_pair_bytes p) c
-two_piece c p has_pointer =
+two_piece : (c p : ℕ) → gb18030_pointer c ≡ Some p → Piece (gb18030_pair_bytes p) c
+unfolding gb18030_pointer
+two_piece c p found =
+    let has_pointer = is_pointer gb18030_at any_pointer no_character 23940 c p found in
     let below = has_pointer.below in
     complete_two decoder.gb18030_prefix (p / 190 + 0x81) (gb18030_trail_byte (p % 190)) c
     (leads (p / 190 + 0x81) (omega arith) (omega arith)) (two_read c p has_pointer)
-
-two_at : (c p : ℕ) → gb18030_pointer c ≡ Some p → IsPointer gb18030_at any_pointer 23940 c p
-unfolding gb18030_pointer
-two_at c p f = is_pointer gb18030_at any_pointer no_character 23940 c p f
 
 -- four bytes
 
@@ -200,7 +198,7 @@ itself_if_none (row ∷ rows) (read ∷ reads) c rows_match none =
 
 two_or_four_read : (is_gbk : Bool) (c : ℕ) (o : Option ℕ) → gb18030_pointer c ≡ o
     → IfSome (two_or_four_bytes is_gbk c o) (λ b. Piece b c)
-two_or_four_read is_gbk c (Some p) found = two_piece c p (two_at c p found)
+two_or_four_read is_gbk c (Some p) found = two_piece c p found
 two_or_four_read true c None found = tt
 two_or_four_read false c None found =
     by_pointer (λ x. Piece x c) gb18030_four_bytes (gb18030_ranges_pointer c) (four c)

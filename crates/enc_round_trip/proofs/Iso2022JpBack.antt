@@ -1,7 +1,7 @@
 -- The characters that ISO-2022-JP gives back: escape sequences have no text, and none follows
 -- another directly.
 use Rattle.std.proofs.Common.{◌≡◌, ℕ, ◌+◌, ◌-◌, ◌*◌, ◌/◌, ◌%◌, ◌<◌, ◌≤◌, Bool, true, false, cond, eqb, nat_lt, ◌&&◌}
-use Rattle.std.proofs.Common.{◌||◌, ◌==◌, not, is_some, Option, Some, None, List, [], ◌∷◌, ◌++◌, map, refl, ap}
+use Rattle.std.proofs.Common.{◌||◌, ◌==◌, not, is_some, Some, None, List, [], ◌∷◌, ◌++◌, map, refl, ap}
 use Rattle.std.proofs.Common.{subst, ◌∙◌, ◌⊎◌, arith, inl, inr, IfSome}
 use Rattle.std.proofs.lemmas.Bool.{cond-true, cond-false, or_parts, or_from}
 use Rattle.std.proofs.lemmas.Bool.Decides.{nat_tests}

@@ -1,5 +1,5 @@
 -- What was encoded is read back, whatever is barred.
-use Rattle.std.proofs.Common.{◌≡◌, ℕ, true, false, Some, List, [], ◌∷◌, map, refl, ap, sym, subst, ◌∙◌}
+use Rattle.std.proofs.Common.{◌≡◌, ℕ, true, false, Some, List, [], map, sym, subst, ◌∙◌}
 use Rattle.std.proofs.lemmas.List.{map-id}
 use Rattle.enc_units.specs.Output.{AreScalars}
 use Rattle.enc_decoder.specs.Sequence.{sequence_text}

@@ -62,11 +62,6 @@ is_pair c p has_pointer =
     ∙ ap decoder.shift_jis_pointer_char (pointer_of_pair p has_pointer.below)
     ∙ char_at _ p c refl has_pointer.has)
 
-at_pointer : (c p : ℕ) → shift_jis_pointer c ≡ Some p
-    → IsPointer jis0208_at is_shift_jis_pointer 11280 c p
-unfolding shift_jis_pointer
-at_pointer c p f = is_pointer jis0208_at is_shift_jis_pointer no_character 11280 c p f
-
 -- single bytes
 
 abbrev Piece : List ℕ → ℕ → Type 0
@@ -101,8 +96,9 @@ low_itself c low =
 
 by_index : (c p : ℕ) → shift_jis_pointer c ≡ Some p
     → Piece (shift_jis_pair_bytes p) (private_use_or c (Some p))
+unfolding shift_jis_pointer
 by_index c p found =
-    let has_pointer = at_pointer c p found in
+    let has_pointer = is_pointer jis0208_at is_shift_jis_pointer no_character 11280 c p found in
     pair_piece decoder.is_shift_jis_lead decoder.shift_jis_single_char decoder.shift_jis_pair_text
     (shift_jis_lead_byte (p / 188)) (shift_jis_trail_byte (p % 188)) _
     (is_lead (p / 188) (let below = has_pointer.below in omega arith)) (is_pair c p has_pointer)
