@@ -1,4 +1,4 @@
--- Legacy multi-byte encodings: the first sequence by its prefixes, and the laws of their rules.
+-- Legacy multi-byte encodings: the first sequence, by the kinds of the prefixes of the bytes.
 use Rattle.std.proofs.Common.{◌≡◌, ℕ, ◌-◌, ◌<◌, ◌≤◌, zero, suc, true, false, List, [], ◌∷◌, ◌++◌, length, take, drop}
 use Rattle.std.proofs.Common.{refl, ap, ◌∙◌, sym, arith, append-nil, append_assoc}
 use Rattle.std.proofs.lemmas.List.{take-append-le, drop-append-le}
@@ -16,8 +16,9 @@ use Rattle.enc_decoder_multi_byte.specs.MultiByte.{malformed_prefix_head, prefix
 use Rattle.enc_decoder_multi_byte.specs.MultiByte.{ArePrefixes}
 use Rattle.enc_decoder.proofs.SegmentationLemmas.{sequences_of-head}
 
+-- `prefix` gives the kind of the first bytes: complete, malformed or incomplete
 module _ (prefix : List ℕ → Prefix) where
-  -- past incomplete bytes
+  -- Where each prefix up to front ++ w is incomplete, the first sequence at `front` is that there.
 
   passes : (set : ℕ) (front w z : List ℕ) → AreIncomplete prefix front w
       → prefix_head prefix set front Incomplete (w ++ z)
@@ -29,6 +30,7 @@ module _ (prefix : List ℕ → Prefix) where
       ∙ passes set (front ++ c ∷ []) w z are_incomplete.1
       ∙ ap (λ x. prefix_head prefix set x Incomplete z) (append_assoc front (c ∷ []) w)
 
+  -- all of them together are an incomplete prefix
   pub still_incomplete : (front w : List ℕ) → prefix front ≡ Incomplete
       → AreIncomplete prefix front w → prefix (front ++ w) ≡ Incomplete
   still_incomplete front [] incomplete are_incomplete = ap prefix (append-nil front) ∙ incomplete
@@ -36,18 +38,20 @@ module _ (prefix : List ℕ → Prefix) where
       ap prefix (sym (append_assoc front (c ∷ []) w))
       ∙ still_incomplete (front ++ c ∷ []) w are_incomplete.0 are_incomplete.1
 
+  -- they are incomplete with one byte more, if that makes an incomplete prefix
   pub one_more : (front w : List ℕ) (c : ℕ) → AreIncomplete prefix front w
       → prefix ((front ++ w) ++ c ∷ []) ≡ Incomplete
       → AreIncomplete prefix front (w ++ c ∷ [])
-  one_more front [] c are_incomplete is_incomplete =
-      (ap (λ x. prefix (x ++ c ∷ [])) (sym (append-nil front)) ∙ is_incomplete, tt)
-  one_more front (d ∷ w) c are_incomplete is_incomplete = (
+  one_more front [] c are_incomplete last_is =
+      (ap (λ x. prefix (x ++ c ∷ [])) (sym (append-nil front)) ∙ last_is, tt)
+  one_more front (d ∷ w) c are_incomplete last_is = (
     are_incomplete.0,
     one_more (front ++ d ∷ []) w c are_incomplete.1
-        (ap (λ x. prefix (x ++ c ∷ [])) (append_assoc front (d ∷ []) w) ∙ is_incomplete),
+        (ap (λ x. prefix (x ++ c ∷ [])) (append_assoc front (d ∷ []) w) ∙ last_is),
   )
 
-  -- what stands first is what the bytes are behind the last of which they aren't incomplete
+  -- Past incomplete bytes w, the prefix that ends with the next byte c decides, be it incomplete
+  -- too. All bytes are b ∷ x, since a rule takes the first by itself.
   pub rule_at : (set : ℕ) (w : List ℕ) (c : ℕ) (z : List ℕ) (b : ℕ) (x : List ℕ)
       → AreIncomplete prefix [] w → b ∷ x ≡ w ++ c ∷ z
       → multi_byte_rule prefix set b x
@@ -62,13 +66,15 @@ module _ (prefix : List ℕ → Prefix) where
       ∙ ap (λ r. prefix_head prefix set (a ∷ []) r (w ++ c ∷ z)) are_incomplete.0
       ∙ passes set (a ∷ []) w (c ∷ z) are_incomplete.1
 
-  -- The first n of these bytes are known to be a sequence.
+  -- If the shorter prefixes of `front` are incomplete, it settles the first sequence, whatever
+  -- follows: its first n bytes, with this text and kind.
   pub record Settles (front : List ℕ) (n : ℕ) (text : Text) (kind : Kind) : Type 0 where
     pub head : (set : ℕ) (z : List ℕ)
         → prefix_head prefix set front (prefix front) z
         ≡ record { more = n - 1; text = text_chars text; kind = kind; set = set }
     pub some : 0 < n
     pub own : n ≤ length front
+    -- none of these encodings has escapes, but `IsNextSequence` asks
     pub no_escape : is_repeated_escape kind ≡ false
     pub replaced : is_malformed kind ≡ true → text_chars text ≡ 0xFFFD ∷ []
 
@@ -92,9 +98,10 @@ module _ (prefix : List ℕ → Prefix) where
     replaced = λ _. refl;
   }
 
-  -- and so they come first
+  -- The settled sequence is the first: of bytes b ∷ x, as a rule takes them, and then of the same
+  -- as w ++ c ∷ z.
 
-  -- some bytes are a first one and others
+  -- bytes with c among them are a first one and others
   cons_of : (w : List ℕ) (c : ℕ) (z : List ℕ) → (b : ℕ) × (x : List ℕ) × (b ∷ x ≡ w ++ c ∷ z)
   cons_of [] c z = (c, z, refl)
   cons_of (a ∷ w) c z = (a, w ++ c ∷ z, refl)
@@ -127,7 +134,7 @@ module _ (prefix : List ℕ → Prefix) where
         ← parts,
       ) (settled_sequences set w c z n are_incomplete settles parts)
 
-  -- where the input ends before, all of them are malformed
+  -- where the input ends after incomplete bytes, all of them are one malformed sequence
   pub all_malformed : (set a : ℕ) (w : List ℕ) → AreIncomplete prefix [] (a ∷ w)
       → multi_byte_rule prefix set a w ≡ malformed_prefix_head set (length (a ∷ w))
   unfolding multi_byte_rule

@@ -1,4 +1,5 @@
--- The first sequence by UTF-16's rule for each kind of first bytes, and its scalar values.
+-- The first sequence by UTF-16's rule in each of its forms, and its scalar values. UTF-16 has no
+-- character sets: `set` is handed on.
 use Rattle.std.proofs.Common.{◌≡◌, ℕ, ◌<◌, ◌≤◌, Bool, true, false, List, [], ◌∷◌, length, refl, ◌∙◌, arith}
 use Rattle.std.proofs.Common.{inl, inr}
 use Rattle.std.proofs.lemmas.Bool.Decides.{nat_tests}
@@ -20,10 +21,11 @@ trail_range u trails = (grind (arith, nat_tests), grind (arith, nat_tests))
 
 -- the scalar values
 
-pub unit_scalar : (u : ℕ) → u < 0x10000 → is_lead_surrogate u ≡ false → is_trail_surrogate u ≡ false
+pub unit_in_range : (u : ℕ) → u < 0x10000 → is_lead_surrogate u ≡ false
+    → is_trail_surrogate u ≡ false
     → InScalarRange u
 unfolding is_lead_surrogate is_trail_surrogate
-unit_scalar u below no_lead no_trail = grind (arith, nat_tests)
+unit_in_range u below no_lead no_trail = grind (arith, nat_tests)
 
 pub pair_in_range : (lead trail : ℕ) → is_lead_surrogate lead ≡ true
     → is_trail_surrogate trail ≡ true → InScalarRange (pair_scalar lead trail)
@@ -33,7 +35,7 @@ pair_in_range lead trail leads trails =
     let trail_in_range = trail_range trail trails in inr (omega arith, omega arith)
 
 module _ (big : Bool) where
-  -- whether two bytes begin a surrogate pair, and whether they end one
+  -- whether the code unit of two bytes is a lead surrogate, and whether it is a trail
 
   abbrev pub Leads : Bool → ℕ → ℕ → Type 0
   Leads answer b c = is_lead_surrogate (code_unit big b c) ≡ answer
@@ -41,7 +43,8 @@ module _ (big : Bool) where
   abbrev pub Trails : Bool → ℕ → ℕ → Type 0
   Trails answer b c = is_trail_surrogate (code_unit big b c) ≡ answer
 
-  -- the first sequence
+  -- The first sequence: one byte at the end, a character, a trail alone, a lead by the bytes after
+  -- it, a pair, a lead alone. The number in a head is that of the bytes after the first.
 
   pub one_head : (set b : ℕ) → utf_16_rule big set b [] ≡ malformed_head set 0
   unfolding utf_16_rule
@@ -71,7 +74,8 @@ module _ (big : Bool) where
       → utf_16_rule big set b (c ∷ d ∷ e ∷ z) ≡ malformed_head set 1
   lead_alone set b c d e z leads other = lead_first set b c (d ∷ e ∷ z) leads ∙ rw other refl
 
--- What holds of each form of the first sequence holds of the first sequence.
+-- A property of the first byte, all bytes after it and the head, if it holds in each form. Then it
+-- holds of what the rule gives (`holds_of_first`).
 
 pub record HoldsOfEachForm (big : Bool) (set : ℕ) (Holds : ℕ → List ℕ → Head → Type 0)
     : Type 0 where
@@ -114,7 +118,7 @@ module _ {big : Bool} {set : ℕ} {Holds : ℕ → List ℕ → Head → Type 0}
     ]
   ]
 
--- The first sequence has one character. It has one byte only at the end.
+-- what all forms have in common: one character, and not one byte alone if any follow it
 pub record HasForm (z : List ℕ) (h : Head) : Type 0 where
   pub character : ℕ
   pub text : h.text ≡ character ∷ []
