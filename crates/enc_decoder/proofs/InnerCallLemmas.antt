@@ -19,7 +19,7 @@ use Rattle.enc_decoder.proofs.DeterminedLemmas.{begins_after}
 use Rattle.enc_decoder.proofs.StageLemmas.{Stage, HasWritten, IsPartAt, stage_after, written_on, length_on}
 use Rattle.enc_decoder.proofs.InnerInputLemmas.{ShiftsInput, MatchesRead, HasSequence, sequence_at_end, most_or_more}
 use Rattle.enc_decoder.proofs.InnerInputLemmas.{determines_outside, determines_inside, none_before, determined_outside}
-use Rattle.enc_decoder.proofs.InnerInputLemmas.{none_shown, shown_next, inner_within, reads_all}
+use Rattle.enc_decoder.proofs.InnerInputLemmas.{none_shown, none_after_shown, shown_next, inner_within, reads_all}
 
 -- whether a call that stops so reports a repeated escape
 abbrev pub stops_at_escape : (units_of : ℕ → List ℕ) (old new : Remainder) (c : Call)
@@ -256,16 +256,7 @@ module _ {units_of : ℕ → List ℕ} {old mid : Remainder} {stage : Stage} {in
           part.room,
         );
         determined = determined_outside shift call.done stops.determined;
-        none_after = elim (most_or_more read 0) [
-          | inl none_read ↦ inl (omega arith)
-          | inr some_read ↦ inr (λ s. regrouped
-              (λ x. Determines old.sequences (take read stage.src) x → ⊥) s
-              (elim (none_shown shift reads (call.done ++ s ∷ []) (sequence_at_end call.done s)
-              (elim stops.none_after [ inl none ↦ inl none | inr hidden ↦ inr (hidden s) ])) [
-                | inl none_read ↦ absurd (omega arith)
-                | inr hidden ↦ hidden
-              ]))
-        ];
+        none_after = none_after_shown shift reads call.done stops.none_after;
         reads = reads_on (is_repeated_escape stops.next.kind) (sure_at_escape escape) stops.reads;
       }
 

@@ -120,6 +120,22 @@ module _ {old mid : Remainder} {stage : Stage} {inner : Call}
       ]
     ]
 
+    -- none is shown after sequences, if none is for the inner one
+    pub none_after_shown : (ts : List Sequence)
+        → (inner.read ≡ 0) ⊎ ((s : Sequence)
+        → Determines mid.sequences (take inner.read inner.src) (ts ++ s ∷ []) → ⊥)
+        → (read ≡ 0) ⊎ ((s : Sequence)
+        → Determines old.sequences (take read stage.src) ((stage.done ++ ts) ++ s ∷ []) → ⊥)
+    none_after_shown ts inside = elim (most_or_more read 0) [
+      | inl none_read ↦ inl (omega arith)
+      | inr some_read ↦ inr (λ s determines. elim (none_shown (ts ++ s ∷ []) (sequence_at_end ts s)
+          (elim inside [ inl none ↦ inl none | inr hidden ↦ inr (hidden s) ])) [
+            | inl none_read ↦ absurd (omega arith)
+            | inr hidden ↦ hidden (subst (Determines old.sequences (take read stage.src))
+                (append_assoc stage.done ts (s ∷ [])) determines)
+          ])
+    ]
+
     pub shown_next : AreBytes inner.src → (ts : List Sequence)
         → (inner.read < length inner.src
         → Determines mid.sequences (take (inner.read + 1) inner.src) ts)

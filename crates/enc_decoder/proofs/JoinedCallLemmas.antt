@@ -5,7 +5,6 @@ use Rattle.std.proofs.Common.{◌≡◌, ℕ, ◌+◌, ◌-◌, ◌<◌, ◌≤�
 use Rattle.std.proofs.Common.{refl, ap, ◌∙◌, sym, arith, append_assoc, ◌||◌, inl, inr, subst, ◌⊎◌}
 use Rattle.std.proofs.lemmas.Bool.{false≢true}
 use Rattle.std.proofs.lemmas.List.{append-nil, length-append, take-append-le, drop-append-le}
-use Rattle.std.proofs.Math.Seq.{take-append_seam}
 use Rattle.enc_units.specs.declared.decoder_result.DecoderResult.{DecoderResult}
 use Rattle.enc_units.specs.declared.decoder_result.DecoderResult.TheVariants.{InputEmpty, OutputFull, Malformed}
 use Rattle.enc_units.specs.Output.{Output, with_appended}
@@ -14,9 +13,8 @@ use Rattle.enc_decoder.specs.Remainder.{Remainder, AreBytes, Determines, AreDete
 use Rattle.enc_decoder.specs.Call.{DecoderCallInto, DecoderStops, ReadsToReported}
 use Rattle.enc_decoder.specs.CallRecord.{Call, CallInto, IsCallInto, call_writing}
 use Rattle.enc_decoder.specs.Converting.{PrefixedCallInto}
-use Rattle.enc_decoder.proofs.ByteLemmas.{bytes-append, determines_by_more}
+use Rattle.enc_decoder.proofs.ByteLemmas.{bytes-append, determines_with}
 use Rattle.enc_decoder.proofs.StageLemmas.{reports_in}
-use Rattle.enc_decoder.proofs.InnerInputLemmas.{most_or_more}
 use Rattle.enc_decoder.proofs.TwoCallsLemmas.{two_calls}
 use Rattle.enc_units.proofs.OutputLemmas.{with_appended-with_appended, room_left}
 use Rattle.std.proofs.Math.ListN.{drop_of_length-le}
@@ -60,12 +58,6 @@ module _ {units_of : ℕ → List ℕ} {old new : Remainder} {c : CallInto} wher
 
 module _ (remaining : List ℕ → List Sequence) (held src : List ℕ) (bytes : AreBytes held)
     (also : AreBytes src) where
-  known : (ss : List Sequence) → Determines remaining held ss → (n : ℕ) → length held ≤ n
-      → Determines remaining (take n (held ++ src)) ss
-  known ss determines n past_held = determines_by_more remaining (held ++ src) (length held) n ss
-      (bytes-append held src bytes also) past_held
-      (subst (λ x. Determines remaining x ss) (sym (take-append_seam held src)) determines)
-
   known_at : (last : Bool) (ss : List Sequence) → Determines remaining held ss
       → AreDetermined last remaining (held ++ src) ss
   known_at true ss determines = determines src also
@@ -88,10 +80,8 @@ module _ (remaining : List ℕ → List Sequence) (held src : List ℕ) (bytes :
       (determines : Determines remaining held ss) where
     next_known : (read < length held → Determines remaining (take (read + 1) held) ss)
         → Determines remaining (take (read + 1) (held ++ src)) ss
-    next_known next = elim (most_or_more (length held) read) [
-      | inl all_read ↦ known ss determines (read + 1) (omega arith)
-      | inr unread ↦ still (read + 1) (omega arith) (λ x. Determines remaining x ss) (next unread)
-    ]
+    next_known next = determines_with remaining held src ss bytes also determines (read + 1)
+        (λ there. next (omega (arith, there)))
 
     reads_still : (late : Bool) (pending : List ℕ)
         → ReadsToReported late remaining held ss read pending

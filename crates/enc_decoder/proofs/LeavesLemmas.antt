@@ -14,8 +14,7 @@ use Rattle.enc_decoder.proofs.SequenceLemmas.{sequence_bytes-append, set_after-a
 use Rattle.enc_decoder.proofs.DeterminedLemmas.{begins_after, determines_fewer}
 use Rattle.enc_decoder.proofs.ByteLemmas.{bytes-drop, determines_by_more}
 use Rattle.enc_decoder.proofs.StageLemmas.{Stage, HasWritten, IsPartAt, stage_at, stage_after}
-use Rattle.enc_decoder.proofs.InnerInputLemmas.{ShiftsInput, MatchesRead, sequence_at_end, most_or_more, none_shown}
-use Rattle.enc_decoder.proofs.InnerInputLemmas.{determines_outside}
+use Rattle.enc_decoder.proofs.InnerInputLemmas.{ShiftsInput, MatchesRead, none_after_shown, determines_outside}
 use Rattle.enc_decoder.proofs.InnerCallLemmas.{call_outside, reports_escape}
 
 -- Calls that have come to this stage leave the remainder `mid` for the bytes after those read.
@@ -243,15 +242,20 @@ module _ {old mid : Remainder} {stage : Stage} (bytes : AreBytes stage.src)
             (omega (arith, leaves.soon)) within_src (omega arith)
             (next.shown (k - stage.read) (omega (arith, next.soon))
             (omega (arith, length-drop stage.read stage.src)));
-        none_after = elim (most_or_more (stage.read + n) 0) [
-          | inl none_read ↦ inl (omega arith)
-          | inr some_read ↦ inr (λ s determines. elim (none_shown shift_on (reads n next.within)
-              (ss ++ s ∷ []) (sequence_at_end ss s)
-              (elim next.none_after [ inl none ↦ inl none | inr hidden ↦ inr (hidden s) ])) [
-                | inl none_read ↦ absurd (omega arith)
-                | inr hidden ↦ hidden
-                    (subst (Determines old.sequences (take (stage.read + n) stage.src))
-                    (append_assoc stage.done ss (s ∷ [])) determines)
-              ])
-        ];
+        none_after = none_after_shown shift_on (reads n next.within) ss next.none_after;
       }
+
+-- nothing is read or done yet
+abbrev pub nothing_read : {old : Remainder} (stage : Stage)
+    → Leaves old old (record stage { read = 0; done = [] })
+nothing_read stage = record {
+  sure = 0;
+  surely = omega arith;
+  soon = omega arith;
+  within = omega arith;
+  residual = λ z _. refl;
+  goes_on = λ y _. refl;
+  set = refl;
+  shown = λ n _ _ z _. (_, refl);
+  none_after = inl refl;
+}

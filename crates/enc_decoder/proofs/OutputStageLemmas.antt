@@ -1,6 +1,8 @@
 -- How far calls have come over an output, and the call that goes on there.
+use Rattle.enc_decoder.proofs.StageLemmas.{start_stage}
+use Rattle.enc_decoder.proofs.LeavesLemmas.{nothing_read}
 use Rattle.std.proofs.Common.{◌≡◌, ℕ, ◌+◌, ◌-◌, ◌≤◌, Bool, true, false, List, [], ◌++◌, length, drop, refl, ap, ◌∙◌}
-use Rattle.std.proofs.Common.{sym, arith, append-nil, ◌||◌, subst, inl}
+use Rattle.std.proofs.Common.{sym, append-nil, ◌||◌, subst}
 use Rattle.enc_units.specs.declared.decoder_result.DecoderResult.{DecoderResult}
 use Rattle.enc_units.specs.declared.decoder_result.DecoderResult.TheVariants.{Malformed}
 use Rattle.enc_units.specs.Output.{Output, with_appended}
@@ -63,22 +65,12 @@ progress_at {units_of} {old} {now} {before} {after} {stage} {read} reaches same_
 pub start : {units_of : ℕ → List ℕ} {old : Remainder} {src : List ℕ} {last : Bool}
     {mode : DecodeErrorMode} {before : Output} → AreBytes src
     → Progress units_of old old src last mode before before 0 false
-start {old} {before = before} bytes = record {
+start {old} {src} {last} {mode} {before} bytes = record {
   done = [];
   wrote = [];
   reaches = record {
     bytes = bytes;
-    leaves = record {
-      sure = 0;
-      surely = omega arith;
-      soon = omega arith;
-      within = omega arith;
-      residual = λ z _. refl;
-      goes_on = λ y _. refl;
-      set = refl;
-      shown = λ n _ _ z _. (_, refl);
-      none_after = inl refl;
-    };
+    leaves = nothing_read (start_stage src last mode before.room);
     written = nothing_written;
     accounted = append-nil old.pending;
     onto = sym (with_appended-nil before);

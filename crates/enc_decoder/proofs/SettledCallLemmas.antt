@@ -1,9 +1,9 @@
 -- What a call leaves that has read its chunk, or whose malformed sequence is replaced.
 use Rattle.std.proofs.Common.{◌≡◌, ℕ, ◌+◌, ◌<◌, Bool, true, false, List, [], ◌∷◌, ◌++◌, length, take, drop}
-use Rattle.std.proofs.Common.{refl, ap, ◌∙◌, sym, arith, append_assoc, ◌||◌, inl, inr, subst, ◌⊎◌}
+use Rattle.std.proofs.Common.{refl, ap, ◌∙◌, sym, arith, append_assoc, ◌||◌, inr, subst, ◌⊎◌}
 use Rattle.std.proofs.lemmas.Bool.{false≢true}
 use Rattle.std.proofs.lemmas.List.{length-append, take-append-le, drop-append-le, append-nil}
-use Rattle.std.proofs.Math.Seq.{take-append_seam, take-length}
+use Rattle.std.proofs.Math.Seq.{take-length}
 use Rattle.enc_units.specs.declared.decoder_result.DecoderResult.{DecoderResult}
 use Rattle.enc_units.specs.declared.decoder_result.DecoderResult.TheVariants.{InputEmpty, OutputFull, Malformed}
 use Rattle.enc_units.specs.Output.{AreScalars, units_of_text}
@@ -13,9 +13,8 @@ use Rattle.enc_decoder.specs.Call.{DecodeErrorMode, Replacement, ReadsToReported
 use Rattle.enc_decoder.specs.Call.{is_replacement_mode}
 use Rattle.enc_decoder.specs.CallRecord.{Call, IsRawCall}
 use Rattle.enc_decoder.proofs.SequenceLemmas.{scalars_of-one, units-one, any_malformed-one, or_true}
-use Rattle.enc_decoder.proofs.ByteLemmas.{bytes-append, determines_by_more}
+use Rattle.enc_decoder.proofs.ByteLemmas.{determines_with, determines_by_more}
 use Rattle.enc_decoder.proofs.StageLemmas.{Stage, HasWritten}
-use Rattle.enc_decoder.proofs.InnerInputLemmas.{most_or_more}
 use Rattle.enc_decoder.proofs.LeavesLemmas.{Leaves}
 
 -- the text after a call, with U+FFFD for the sequence that it reports
@@ -175,16 +174,8 @@ module _ {old mid : Remainder} {stage : Stage} (more : List ℕ) (bytes : AreByt
             ∙ leaves.goes_on y
             (subst (λ x. AreFirstSequences stage.done (old.sequences (x ++ y))) same_taken first);
         set = leaves.set;
-        shown = λ n is_sure within_all. elim (most_or_more n (length stage.src)) [
-          | inl within_src ↦ subst (λ x. Determines old.sequences x stage.done)
-              (sym (take-append-le n stage.src more within_src))
-              (leaves.shown n is_sure within_src)
-          | inr past_src ↦ determines_by_more old.sequences (stage.src ++ more) (length stage.src) n
-              stage.done (bytes-append stage.src more bytes also) (omega arith)
-              (subst (λ x. Determines old.sequences x stage.done)
-              (sym (take-append_seam stage.src more))
-              (λ z _. (_, leaves.residual z (going z))))
-        ];
+        shown = λ n is_sure _. determines_with old.sequences stage.src more stage.done bytes also
+            (λ z _. (_, leaves.residual z (going z))) n (leaves.shown n is_sure);
         none_after = subst (λ x. (stage.read ≡ 0)
             ⊎ ((s : Sequence) → Determines old.sequences x (stage.done ++ s ∷ []) → ⊥))
             (sym same_taken) leaves.none_after;
