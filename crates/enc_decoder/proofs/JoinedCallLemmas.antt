@@ -30,14 +30,12 @@ module _ {units_of : ℕ → List ℕ} {old new : Remainder} {c : CallInto} wher
   with_bytes : {src : List ℕ} {read : ℕ} → c.src ≡ src → c.read ≡ read
       → IsCallInto units_of old new c
       → IsPrefixedInto units_of old new (record c { src = src; read = read })
-  with_bytes {read = read} same_src same_read call =
-      subst (λ x. IsPrefixedInto units_of old new (record c { src = x; read = read })) same_src
-      (subst (λ n. IsPrefixedInto units_of old new (record c { read = n })) same_read (record {
-        wrote = call.wrote;
-        onto = call.onto;
-        call = call.call.call;
-        accounted = call.call.accounted;
-      }))
+  with_bytes same_src same_read call = rw (← same_src, ← same_read) (record {
+    wrote = call.wrote;
+    onto = call.onto;
+    call = call.call.call;
+    accounted = call.call.accounted;
+  })
 
   -- no bytes are held
   pub none_held : {held : List ℕ} → held ≡ [] → IsCallInto units_of old new c
