@@ -147,9 +147,7 @@ module _ {C : Type 0} (state : C → CodecState) (c : C) (stage : Stage) where
       -- the next byte determines it
       shown_next : stage.read < length stage.src
           → Determines now.sequences (take 1 (unread stage)) (emitted ∷ [])
-      shown_next has_next z _ =
-          subst (λ x. AreFirstSequences (emitted ∷ []) (now.sequences (x ++ z)))
-          (sym (taken true (λ _. has_next)))
+      shown_next has_next z _ = rw (taken true (λ _. has_next))
           (comes (byte ∷ z) (byte_follows stage.src stage.read stage.last z has_next))
 
       shown_then : 0 < length (unread stage)

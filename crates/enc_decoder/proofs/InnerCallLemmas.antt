@@ -112,6 +112,11 @@ module _ {units_of : ℕ → List ℕ} {old mid : Remainder} {stage : Stage} {in
     OuterStops result = DecoderStops units_of old new stage.src inner.last stage.mode stage.room
         (stage.done ++ call.put) (stage.done ++ call.done) read result
 
+    -- a repeated escape has all its bytes read, or fewer than it has
+    abbrev EscapeRead : Bool → Type 0
+    EscapeRead is_escape = (is_escape ≡ true → shift.sure ≤ read)
+        ⊎ ((inner.read ≤ 5) × AreAllRead mid then inner call.done)
+
     regrouped : (P : List Sequence → Type 0) (s : Sequence)
         → P (stage.done ++ (call.done ++ s ∷ [])) → P ((stage.done ++ call.done) ++ s ∷ [])
     regrouped P s = subst P (sym (append_assoc stage.done call.done (s ∷ [])))
@@ -183,8 +188,7 @@ module _ {units_of : ℕ → List ℕ} {old mid : Remainder} {stage : Stage} {in
             (omega (arith, few_read, some_read)) one_left.0 stops.bounds
       ]
 
-      sure_at_escape : (is_repeated_escape stops.next.kind ≡ true → shift.sure ≤ read)
-          ⊎ ((inner.read ≤ 5) × AreAllRead mid then inner call.done)
+      sure_at_escape : EscapeRead (is_repeated_escape stops.next.kind)
           → is_repeated_escape stops.next.kind ≡ true → shift.sure ≤ read
       sure_at_escape escape is_escape = elim escape [
         | inl all_there ↦ all_there is_escape
@@ -239,9 +243,7 @@ module _ {units_of : ℕ → List ℕ} {old mid : Remainder} {stage : Stage} {in
       }
 
       stops_malformed : inner.result ≡ Malformed l a
-          → (is_repeated_escape stops.next.kind ≡ true → shift.sure ≤ read)
-          ⊎ ((inner.read ≤ 5) × AreAllRead mid then inner call.done)
-          → OuterStops (Malformed l (a + left))
+          → EscapeRead (is_repeated_escape stops.next.kind) → OuterStops (Malformed l (a + left))
       stops_malformed is_malformed escape = record {
         next = stops.next;
         then_next = ap (λ x. stage.done ++ x) stops.then_next
@@ -267,9 +269,7 @@ module _ {units_of : ℕ → List ℕ} {old mid : Remainder} {stage : Stage} {in
 
     stops_outside : (result : DecoderResult) → inner.result ≡ result
         → (stops : InnerStops result)
-        → (stops_at_escape units_of mid then inner call.put call.done result stops ≡ true
-        → shift.sure ≤ read)
-        ⊎ ((inner.read ≤ 5) × AreAllRead mid then inner call.done)
+        → EscapeRead (stops_at_escape units_of mid then inner call.put call.done result stops)
         → OuterStops (shifted_result result left)
     stops_outside InputEmpty is_result stops escape = stops_empty is_result stops
     stops_outside OutputFull is_result stops escape = stops_full stops
@@ -295,10 +295,8 @@ module _ {units_of : ℕ → List ℕ} {old mid : Remainder} {stage : Stage} {in
         put = stage.done ++ call.put;
         done = stage.done ++ call.done;
         within = reads.within;
-        residual = λ z ends. shift.plain z ends ∙ ap (λ x. stage.done ++ x) (call.residual z ends)
-            ∙ sym (append_assoc stage.done call.done
-            (then.sequences (drop inner.read inner.src ++ z)))
-            ∙ ap (λ x. (stage.done ++ call.done) ++ x) (state.after z ends);
+        residual = λ z ends. rw (shift.plain z ends, call.residual z ends, state.after z ends,
+            append_assoc stage.done call.done) refl;
         set = state.set;
         text = both.text;
         scalars = both.scalars;

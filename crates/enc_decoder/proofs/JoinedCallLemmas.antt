@@ -149,19 +149,16 @@ stops_in_held {units_of} {old} {new} {c} src {last} bytes also stopped not_last 
     let call = into.call.call in
     let all_read : c.read ≡ length c.src - (length c.src - c.read) + 0 =
     omega (arith, call.within) in
-    subst (λ n. IsPrefixedInto units_of old new
-    (record c { src = c.src ++ src; last = last; read = n })) all_read (record {
+    rw (← all_read) (record {
       wrote = into.wrote;
       onto = into.onto;
       call = record {
         put = call.put;
         done = call.done;
         within = omega (arith, call.within, length-append c.src src);
-        residual = λ z _. ap old.sequences (append_assoc c.src src z)
-            ∙ call.residual (src ++ z) (λ e. absurd (false≢true e))
-            ∙ ap (λ x. call.done ++ new.sequences x)
-            (sym (append_assoc (drop c.read c.src) src z)
-            ∙ ap (λ x. x ++ z) (sym (drop-append-le c.read c.src src call.within)));
+        residual = λ z _. rw (append_assoc c.src src z,
+            drop-append-le c.read c.src src call.within, append_assoc (drop c.read c.src) src z)
+            (call.residual (src ++ z) (λ e. absurd (false≢true e)));
         set = call.set;
         text = call.text;
         scalars = call.scalars;

@@ -126,14 +126,9 @@ module _ {units_of : ℕ → List ℕ} {old mid : Remainder} (c : Call) where
       let stops = call.call.stops in
       let replaces = is_settled.replaces l a refl in
       record {
-        text = ap (λ x. x ++ units_of 0xFFFD) call.call.text
-            ∙ ap (λ x. units_of_text units_of (sequence_text call.call.put) ++ x)
-            (sym (append-nil (units_of 0xFFFD))
-            ∙ ap (units_of_text units_of) (sym stops.replacement))
-            ∙ sym (units-one units_of call.call.put stops.next)
-            ∙ ap (λ x. units_of_text units_of (sequence_text x)) (sym stops.then_next);
-        scalars = subst (λ x. AreScalars (sequence_text x)) (sym stops.then_next)
-            (scalars_of-one call.call.put stops.next call.call.scalars
+        text = rw (stops.then_next, units-one units_of call.call.put stops.next, stops.replacement,
+            append-nil (units_of 0xFFFD)) (ap (λ x. x ++ units_of 0xFFFD) call.call.text);
+        scalars = rw stops.then_next (scalars_of-one call.call.put stops.next call.call.scalars
             (subst AreScalars (sym stops.replacement) refl));
         fits = omega (
           arith,
@@ -141,10 +136,8 @@ module _ {units_of : ℕ → List ℕ} {old mid : Remainder} (c : Call) where
           ap length call.call.text,
           stops.room_kept (sym is_settled.keeps ∙ ap keeps_room replaces),
         );
-        flag = sym (ap any_malformed stops.then_next
-            ∙ any_malformed-one call.call.put stops.next
-            ∙ ap (λ b. any_malformed call.call.put || b) stops.malformed
-            ∙ or_true (any_malformed call.call.put));
+        flag = rw (stops.then_next, any_malformed-one call.call.put stops.next, stops.malformed,
+            or_true) refl;
         none_replaced = λ is_fatal.
             absurd (false≢true (sym is_fatal ∙ ap is_replacement_mode replaces));
       }
@@ -165,18 +158,13 @@ module _ {old mid : Remainder} {stage : Stage} (more : List ℕ) (bytes : AreByt
         surely = leaves.surely;
         soon = leaves.soon;
         within = omega (arith, leaves.within, length-append stage.src more);
-        residual = λ z ends. ap old.sequences (append_assoc stage.src more z)
-            ∙ leaves.residual (more ++ z) (going (more ++ z))
-            ∙ ap (λ x. stage.done ++ mid.sequences x)
-            (sym (append_assoc (drop stage.read stage.src) more z)
-            ∙ ap (λ x. x ++ z) (sym (drop-append-le stage.read stage.src more leaves.within)));
-        goes_on = λ y first. ap (λ x. old.sequences (x ++ y)) same_taken
-            ∙ leaves.goes_on y
-            (subst (λ x. AreFirstSequences stage.done (old.sequences (x ++ y))) same_taken first);
+        residual = λ z ends. rw (append_assoc stage.src more z,
+            drop-append-le stage.read stage.src more leaves.within,
+            append_assoc (drop stage.read stage.src) more z)
+            (leaves.residual (more ++ z) (going (more ++ z)));
+        goes_on = λ y first. rw same_taken (leaves.goes_on y (rw same_taken at first));
         set = leaves.set;
         shown = λ n is_sure _. determines_with old.sequences stage.src more stage.done bytes also
             (λ z _. (_, leaves.residual z (going z))) n (leaves.shown n is_sure);
-        none_after = subst (λ x. (stage.read ≡ 0)
-            ⊎ ((s : Sequence) → Determines old.sequences x (stage.done ++ s ∷ []) → ⊥))
-            (sym same_taken) leaves.none_after;
+        none_after = rw same_taken leaves.none_after;
       }
