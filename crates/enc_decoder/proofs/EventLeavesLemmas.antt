@@ -161,10 +161,9 @@ module _ {C : Type 0} (state : C → CodecState) (c : C) (stage : Stage) where
             within = omega (arith, ap length read_with, length-take count (unread stage));
             same_rule = emits.0.same_rule;
             set = refl;
-            accounted = ap (λ x. (state c).pending ++ x) read_with ∙ emits.0.parts
-                ∙ ap (λ x. x ++ (state s.next).pending) (sym (append-nil emits.0.bytes));
-            first = λ y follows. ap (λ x. now.sequences (x ++ y)) read_with
-                ∙ emits.0.first y (followed s.takes_byte has_byte y follows);
+            accounted = rw (read_with, emits.0.parts, append-nil) refl;
+            first = λ y follows. rw read_with
+                (emits.0.first y (followed s.takes_byte has_byte y follows));
             undetermined = λ some. (emits.1 (takes_some s.takes_byte some)).2;
           }
         where

@@ -68,10 +68,9 @@ module _ {old mid : Remainder} {stage : Stage} {inner : Call}
       let first = determines_by_more mid.sequences inner.src m (k + shift.held - stage.read) ss
       bytes few determines z are_bytes in (
         first.0,
-        shift.by_prefix k (omega (arith, shift.surely)) within_src z
-            (shift.begun k is_sure within_src z are_bytes)
-            ∙ ap (λ x. stage.done ++ x) first.1
-            ∙ sym (append_assoc stage.done ss first.0),
+        rw (shift.by_prefix k (omega (arith, shift.surely)) within_src z
+            (shift.begun k is_sure within_src z are_bytes), first.1, append_assoc stage.done ss)
+            refl,
       )
 
   -- and the other way

@@ -227,8 +227,12 @@ module _ {old mid : Remainder} {stage : Stage} (bytes : AreBytes stage.src)
         surely = omega arith;
         soon = omega arith;
         within = omega (arith, next.within, length-drop stage.read stage.src, leaves.within);
-        residual = λ z ends. rw (leaves.residual z ends, next.residual z ends,
-            drop-drop n stage.read stage.src, append_assoc stage.done ss) refl;
+        residual = λ z ends. rw (
+          leaves.residual z ends,
+          next.residual z ends,
+          drop-drop n stage.read stage.src,
+          append_assoc stage.done ss,
+        ) refl;
         goes_on = λ y first. goes_on_after new n ss y (next.goes_on y) first;
         set = next.set ∙ ap (λ x. set_after x ss) leaves.set
             ∙ sym (set_after-append old.set stage.done ss);

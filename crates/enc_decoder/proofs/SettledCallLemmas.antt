@@ -1,14 +1,14 @@
 -- What a call leaves that has read its chunk, or whose malformed sequence is replaced.
 use Rattle.std.proofs.Common.{◌≡◌, ℕ, ◌+◌, ◌<◌, Bool, true, false, List, [], ◌∷◌, ◌++◌, length, take, drop}
-use Rattle.std.proofs.Common.{refl, ap, ◌∙◌, sym, arith, append_assoc, ◌||◌, inr, subst, ◌⊎◌}
+use Rattle.std.proofs.Common.{refl, ap, ◌∙◌, sym, arith, append_assoc, inr, subst}
 use Rattle.std.proofs.lemmas.Bool.{false≢true}
 use Rattle.std.proofs.lemmas.List.{length-append, take-append-le, drop-append-le, append-nil}
 use Rattle.std.proofs.Math.Seq.{take-length}
 use Rattle.enc_units.specs.declared.decoder_result.DecoderResult.{DecoderResult}
 use Rattle.enc_units.specs.declared.decoder_result.DecoderResult.TheVariants.{InputEmpty, OutputFull, Malformed}
-use Rattle.enc_units.specs.Output.{AreScalars, units_of_text}
-use Rattle.enc_decoder.specs.Sequence.{Sequence, sequence_text, is_repeated_escape, any_malformed}
-use Rattle.enc_decoder.specs.Remainder.{Remainder, AreBytes, AreFirstSequences, Determines}
+use Rattle.enc_units.specs.Output.{AreScalars}
+use Rattle.enc_decoder.specs.Sequence.{Sequence, is_repeated_escape}
+use Rattle.enc_decoder.specs.Remainder.{Remainder, AreBytes, Determines}
 use Rattle.enc_decoder.specs.Call.{DecodeErrorMode, Replacement, ReadsToReported, reaches_end, keeps_room}
 use Rattle.enc_decoder.specs.Call.{is_replacement_mode}
 use Rattle.enc_decoder.specs.CallRecord.{Call, IsRawCall}
@@ -126,8 +126,12 @@ module _ {units_of : ℕ → List ℕ} {old mid : Remainder} (c : Call) where
       let stops = call.call.stops in
       let replaces = is_settled.replaces l a refl in
       record {
-        text = rw (stops.then_next, units-one units_of call.call.put stops.next, stops.replacement,
-            append-nil (units_of 0xFFFD)) (ap (λ x. x ++ units_of 0xFFFD) call.call.text);
+        text = rw (
+          stops.then_next,
+          units-one units_of call.call.put stops.next,
+          stops.replacement,
+          append-nil (units_of 0xFFFD),
+        ) (ap (λ x. x ++ units_of 0xFFFD) call.call.text);
         scalars = rw stops.then_next (scalars_of-one call.call.put stops.next call.call.scalars
             (subst AreScalars (sym stops.replacement) refl));
         fits = omega (
@@ -136,8 +140,12 @@ module _ {units_of : ℕ → List ℕ} {old mid : Remainder} (c : Call) where
           ap length call.call.text,
           stops.room_kept (sym is_settled.keeps ∙ ap keeps_room replaces),
         );
-        flag = rw (stops.then_next, any_malformed-one call.call.put stops.next, stops.malformed,
-            or_true) refl;
+        flag = rw (
+          stops.then_next,
+          any_malformed-one call.call.put stops.next,
+          stops.malformed,
+          or_true,
+        ) refl;
         none_replaced = λ is_fatal.
             absurd (false≢true (sym is_fatal ∙ ap is_replacement_mode replaces));
       }
@@ -158,9 +166,11 @@ module _ {old mid : Remainder} {stage : Stage} (more : List ℕ) (bytes : AreByt
         surely = leaves.surely;
         soon = leaves.soon;
         within = omega (arith, leaves.within, length-append stage.src more);
-        residual = λ z ends. rw (append_assoc stage.src more z,
-            drop-append-le stage.read stage.src more leaves.within,
-            append_assoc (drop stage.read stage.src) more z)
+        residual = λ z ends. rw (
+          append_assoc stage.src more z,
+          drop-append-le stage.read stage.src more leaves.within,
+          append_assoc (drop stage.read stage.src) more z,
+        )
             (leaves.residual (more ++ z) (going (more ++ z)));
         goes_on = λ y first. rw same_taken (leaves.goes_on y (rw same_taken at first));
         set = leaves.set;
