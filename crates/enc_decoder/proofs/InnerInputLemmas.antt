@@ -1,7 +1,7 @@
 -- What bytes determine for an outer decoder, whose chunk is that of an inner one, shifted: after
 -- sequences that are done, after bytes that are dropped, or with held bytes before it.
 use Rattle.std.proofs.Common.{◌≡◌, ℕ, ◌+◌, ◌-◌, ◌<◌, ◌≤◌, true, List, [], ◌∷◌, ◌++◌, length, take}
-use Rattle.std.proofs.Common.{refl, ap, ◌∙◌, sym, arith, append_assoc, inl, inr, subst, ◌⊎◌}
+use Rattle.std.proofs.Common.{refl, arith, append_assoc, inl, inr, subst, ◌⊎◌}
 use Rattle.std.proofs.lemmas.Bool.Decides.{nat_tests, leb_tells}
 use Rattle.enc_decoder.specs.Sequence.{Sequence}
 use Rattle.enc_decoder.specs.Remainder.{Remainder, AreBytes, AreFirstSequences, Determines, AreDetermined}
@@ -68,8 +68,12 @@ module _ {old mid : Remainder} {stage : Stage} {inner : Call}
       let first = determines_by_more mid.sequences inner.src m (k + shift.held - stage.read) ss
       bytes few determines z are_bytes in (
         first.0,
-        rw (shift.by_prefix k (omega (arith, shift.surely)) within_src z
-            (shift.begun k is_sure within_src z are_bytes), first.1, append_assoc stage.done ss)
+        rw (
+          shift.by_prefix k (omega (arith, shift.surely)) within_src z
+              (shift.begun k is_sure within_src z are_bytes),
+          first.1,
+          append_assoc stage.done ss,
+        )
             refl,
       )
 
