@@ -295,12 +295,8 @@ module _ {units_of : ℕ → List ℕ} {old mid : Remainder} {stage : Stage} {in
         put = stage.done ++ call.put;
         done = stage.done ++ call.done;
         within = reads.within;
-        residual = λ z ends. rw (
-          shift.plain z ends,
-          call.residual z ends,
-          state.after z ends,
-          append_assoc stage.done call.done,
-        ) refl;
+        residual = λ z ends.
+            rw (shift.plain z ends, call.residual z ends, state.after z ends, append_assoc) refl;
         set = state.set;
         text = both.text;
         scalars = both.scalars;

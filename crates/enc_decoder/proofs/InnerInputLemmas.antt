@@ -66,16 +66,10 @@ module _ {old mid : Remainder} {stage : Stage} {inner : Call}
       → Determines old.sequences (take k stage.src) (stage.done ++ ss)
   determines_outside bytes m k ss is_sure within_src few determines z are_bytes =
       let first = determines_by_more mid.sequences inner.src m (k + shift.held - stage.read) ss
-      bytes few determines z are_bytes in (
-        first.0,
-        rw (
-          shift.by_prefix k (omega (arith, shift.surely)) within_src z
-              (shift.begun k is_sure within_src z are_bytes),
-          first.1,
-          append_assoc stage.done ss,
-        )
-            refl,
-      )
+      bytes few determines z are_bytes in
+      let outer = shift.by_prefix k (omega (arith, shift.surely)) within_src z
+      (shift.begun k is_sure within_src z are_bytes) in
+      (first.0, rw (outer, first.1, append_assoc) refl)
 
   -- and the other way
   pub determines_inside : (m k : ℕ) (ss : List Sequence) → shift.from ≤ k → k ≤ length stage.src

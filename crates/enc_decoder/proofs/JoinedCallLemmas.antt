@@ -156,11 +156,9 @@ stops_in_held {units_of} {old} {new} {c} src {last} bytes also stopped not_last 
         put = call.put;
         done = call.done;
         within = omega (arith, call.within, length-append c.src src);
-        residual = λ z _. rw (
-          append_assoc c.src src z,
-          drop-append-le c.read c.src src call.within,
-          append_assoc (drop c.read c.src) src z,
-        )
+        residual = λ z _.
+            let same_rest = drop-append-le c.read c.src src call.within in
+            rw (append_assoc, same_rest, append_assoc)
             (call.residual (src ++ z) (λ e. absurd (false≢true e)));
         set = call.set;
         text = call.text;

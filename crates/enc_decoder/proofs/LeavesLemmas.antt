@@ -183,15 +183,8 @@ module _ {old mid : Remainder} {stage : Stage} (bytes : AreBytes stage.src)
       → old.pending ++ take (stage.read + n) stage.src
       ≡ sequence_bytes (stage.done ++ ss) ++ new.pending
   accounted_on new n ss before after =
-      rw (
-        take-add stage.read n stage.src,
-        ← append_assoc old.pending (take stage.read stage.src),
-        before,
-        append_assoc (sequence_bytes stage.done) mid.pending,
-        after,
-        sequence_bytes-append,
-        append_assoc (sequence_bytes stage.done) (sequence_bytes ss) new.pending,
-      ) refl
+      rw (take-add, ← append_assoc, before, append_assoc)
+      (rw (after, sequence_bytes-append, append_assoc) refl)
 
   -- the same for decoders that look for no byte order mark
   pub raw_call : {units_of : ℕ → List ℕ} {new : Remainder} {mode : DecodeErrorMode}
@@ -227,12 +220,8 @@ module _ {old mid : Remainder} {stage : Stage} (bytes : AreBytes stage.src)
         surely = omega arith;
         soon = omega arith;
         within = omega (arith, next.within, length-drop stage.read stage.src, leaves.within);
-        residual = λ z ends. rw (
-          leaves.residual z ends,
-          next.residual z ends,
-          drop-drop n stage.read stage.src,
-          append_assoc stage.done ss,
-        ) refl;
+        residual = λ z ends.
+            rw (leaves.residual z ends, next.residual z ends, drop-drop, append_assoc) refl;
         goes_on = λ y first. goes_on_after new n ss y (next.goes_on y) first;
         set = next.set ∙ ap (λ x. set_after x ss) leaves.set
             ∙ sym (set_after-append old.set stage.done ss);

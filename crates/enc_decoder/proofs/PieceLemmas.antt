@@ -40,11 +40,8 @@ module _ (rule : Rule) (set : ℕ) where
       → sequences_of rule set (piece.piece_bytes ps ++ y)
       ≡ whole ps mean ++ sequences_of rule set y
   whole_first [] mean y = refl
-  whole_first (p ∷ ps) mean y = rw (
-    append_assoc p.bytes,
-    mean.0.1 (piece.piece_bytes ps ++ y),
-    whole_first ps mean.1 y,
-  ) refl
+  whole_first (p ∷ ps) mean y =
+      rw (append_assoc, mean.0.1 (piece.piece_bytes ps ++ y), whole_first ps mean.1 y) refl
 
   whole_none : (ps : List Piece) (mean : AreReplaced ps) → ps ≡ [] → whole ps mean ≡ []
   whole_none [] mean e = refl

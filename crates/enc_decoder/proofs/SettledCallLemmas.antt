@@ -126,12 +126,8 @@ module _ {units_of : ℕ → List ℕ} {old mid : Remainder} (c : Call) where
       let stops = call.call.stops in
       let replaces = is_settled.replaces l a refl in
       record {
-        text = rw (
-          stops.then_next,
-          units-one units_of call.call.put stops.next,
-          stops.replacement,
-          append-nil (units_of 0xFFFD),
-        ) (ap (λ x. x ++ units_of 0xFFFD) call.call.text);
+        text = rw (stops.then_next, units-one, stops.replacement, append-nil)
+            (ap (λ x. x ++ units_of 0xFFFD) call.call.text);
         scalars = rw stops.then_next (scalars_of-one call.call.put stops.next call.call.scalars
             (subst AreScalars (sym stops.replacement) refl));
         fits = omega (
@@ -140,12 +136,7 @@ module _ {units_of : ℕ → List ℕ} {old mid : Remainder} (c : Call) where
           ap length call.call.text,
           stops.room_kept (sym is_settled.keeps ∙ ap keeps_room replaces),
         );
-        flag = rw (
-          stops.then_next,
-          any_malformed-one call.call.put stops.next,
-          stops.malformed,
-          or_true,
-        ) refl;
+        flag = rw (stops.then_next, any_malformed-one, stops.malformed, or_true) refl;
         none_replaced = λ is_fatal.
             absurd (false≢true (sym is_fatal ∙ ap is_replacement_mode replaces));
       }
@@ -166,11 +157,9 @@ module _ {old mid : Remainder} {stage : Stage} (more : List ℕ) (bytes : AreByt
         surely = leaves.surely;
         soon = leaves.soon;
         within = omega (arith, leaves.within, length-append stage.src more);
-        residual = λ z ends. rw (
-          append_assoc stage.src more z,
-          drop-append-le stage.read stage.src more leaves.within,
-          append_assoc (drop stage.read stage.src) more z,
-        )
+        residual = λ z ends.
+            let same_rest = drop-append-le stage.read stage.src more leaves.within in
+            rw (append_assoc, same_rest, append_assoc)
             (leaves.residual (more ++ z) (going (more ++ z)));
         goes_on = λ y first. rw same_taken (leaves.goes_on y (rw same_taken at first));
         set = leaves.set;
