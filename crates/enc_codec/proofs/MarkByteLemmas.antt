@@ -7,6 +7,7 @@ use Rattle.enc_decoder.proofs.FirstSequenceLemmas.{true_or_false}
 use Rattle.enc_decoder_utf.specs.Utf8.{sequence_len, is_second_byte, is_continuation, utf_8_rule}
 use Rattle.enc_decoder_utf.specs.Utf16.{code_unit, is_lead_surrogate as is_lead_unit, is_trail_surrogate, utf_16_rule}
 use Rattle.enc_decoder_single_byte.specs.OneByte.{one_byte_rule}
+use Rattle.enc_decoder_single_byte.proofs.OneByteLemmas.{no_more}
 use Rattle.enc_decoder_single_byte.specs.Replacement.{replacement_rule}
 use Rattle.enc_decoder_multi_byte.specs.declared.multi_byte.Prefix.{Prefix}
 use Rattle.enc_decoder_multi_byte.specs.declared.multi_byte.Prefix.TheVariants.{Incomplete}
@@ -32,18 +33,9 @@ utf_16_shows_bb false z e y = absurd (cc)
 
 pub one_byte_shows_bb : (character : ℕ → Option ℕ) → DeterminesBbByItself (one_byte_rule character)
 unfolding one_byte_rule
-one_byte_shows_bb character z e y = (
-  alone _ (character 0xBB),
-  record {
-    there = (let none_more = alone (one_byte_head 0 (character 0xEF)).set (character 0xBB) in
-        omega arith);
-    same = λ x. refl;
-  },
-)
-  where
-    alone : (set : ℕ) (found : Option ℕ) → (one_byte_head set found).more ≡ 0
-    alone set None = refl
-    alone set (Some c) = refl
+one_byte_shows_bb character z e y =
+    let none_more = no_more character (one_byte_head 0 (character 0xEF)).set (character 0xBB) in
+    (none_more, record { there = omega arith; same = λ x. refl })
 
 -- where EF leads, BB is its trail, or is malformed with it
 pub multi_byte_shows_bb : (prefix : List ℕ → Prefix) (text : Option Text)

@@ -1,6 +1,6 @@
 -- Which rules are ASCII-compatible, which are single-byte, and which have sequences without a text.
 use Rattle.std.proofs.Common.{◌≡◌, ℕ, ◌<◌, Bool, true, false, Option, Some, None, List, [], ◌∷◌, length, refl, ap, ◌∙◌}
-use Rattle.std.proofs.Common.{sym, subst, arith, zero, suc, ◌≤◌}
+use Rattle.std.proofs.Common.{sym, subst, arith}
 use Rattle.std.specs.List.{AllByRecursion}
 use Rattle.enc_decoder.specs.Sequence.{Sequence}
 use Rattle.enc_decoder.specs.Segmentation.{Head, Rule, one_byte_head, head_sequence, sequences_after, sequences_of}
@@ -27,11 +27,10 @@ first_text e = cc
 
 replaced : (rule : Rule) (b : ℕ) → b < 0x80 → (rule 0 b []).text ≡ 0xFFFD ∷ []
     → ¬ (IsAsciiCompatible rule)
-replaced rule b is_ascii e h =
-    differs b is_ascii (sym e ∙ first_text (sym (sequences_of-cons rule 0 b []) ∙ h b is_ascii []))
-  where
-    differs : (b : ℕ) → b < 0x80 → 0xFFFD ∷ [] ≡ b ∷ [] → ⊥
-    differs b l e = let byte_is_fffd : 0xFFFD ≡ b = cc in omega arith
+replaced rule b is_ascii is_text h =
+    let same = sym is_text ∙ first_text (sym (sequences_of-cons rule 0 b []) ∙ h b is_ascii []) in
+    let byte_is_fffd : 0xFFFD ≡ b = cc in
+    omega arith
 
 more_bytes : (rule : Rule) (b : ℕ) (z : List ℕ) → AreBytes (b ∷ z)
     → (length (head_sequence (rule 0 b z) b z).bytes ≡ 1 → ⊥) → ¬ (IsSingleByte rule)
@@ -115,15 +114,9 @@ multi_byte_is_not_single_byte prefix laws =
     let broken = laws.can_be_malformed (lead ∷ []) (omega arith) laws.leads.incomplete in
     let bounds = laws.malformed (lead ∷ broken.byte ∷ []) broken.len broken.malformed in
     let other : broken.len ≡ 1 → ⊥ = broken.other in
-    let len_is_two : broken.len ≡ 2 = two broken.len bounds.0 bounds.1 other in
+    let len_is_two : broken.len ≡ 2 = omega (arith, bounds.0, bounds.1, other) in
     broken_pair prefix lead broken.byte laws.leads.is_byte broken.is_byte laws.leads.incomplete
     (broken.malformed ∙ ap Malformed len_is_two)
-  where
-    two : (n : ℕ) → 0 < n → n ≤ 2 → (n ≡ 1 → ⊥) → n ≡ 2
-    two zero some few other = omega (arith, some)
-    two (suc zero) some few other = absurd (other refl)
-    two (suc (suc zero)) some few other = refl
-    two (suc (suc (suc n))) some few other = omega (arith, few)
 
 -- ISO-2022-JP, in which an escape sequence is skipped, and 1B by itself is malformed
 

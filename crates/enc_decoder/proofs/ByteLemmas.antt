@@ -1,7 +1,9 @@
 -- Lists of bytes.
 use Rattle.std.proofs.Common.{◌≡◌, ℕ, ◌≤◌, zero, suc, List, [], ◌∷◌, ◌++◌, get_or, take, drop, Fits, w8, ap, ◌∙◌, sym}
-use Rattle.std.proofs.Common.{append_assoc}
-use Rattle.std.proofs.lemmas.List.{take-append-drop, take-take}
+use Rattle.std.proofs.Common.{append_assoc, length, subst, inl, inr, arith}
+use Rattle.std.proofs.lemmas.List.{take-append-drop, take-take, take-append-le}
+use Rattle.std.proofs.lemmas.Bool.{cases_lt}
+use Rattle.std.proofs.Math.Seq.{take-append_seam}
 use Rattle.enc_decoder.specs.Sequence.{Sequence}
 use Rattle.enc_decoder.specs.Remainder.{AreBytes, Determines}
 
@@ -40,3 +42,17 @@ determines_by_more remaining src m n ss b h d z c =
           ∙ ap remaining (append_assoc (take m src) (drop m (take n src)) z)
           ∙ first.1,
     )
+
+-- what bytes determine, those of them and of others do that do so by themselves or are all of them
+pub determines_with : (remaining : List ℕ → List Sequence) (src more : List ℕ) (ss : List Sequence)
+    → AreBytes src → AreBytes more → Determines remaining src ss
+    → (n : ℕ) → (n ≤ length src → Determines remaining (take n src) ss)
+    → Determines remaining (take n (src ++ more)) ss
+determines_with remaining src more ss bytes also determines n fewer =
+    elim (cases_lt (length src) n) [
+      | inl past ↦ determines_by_more remaining (src ++ more) (length src) n ss
+          (bytes-append src more bytes also) (omega arith)
+          (subst (λ x. Determines remaining x ss) (sym (take-append_seam src more)) determines)
+      | inr within ↦ subst (λ x. Determines remaining x ss)
+          (sym (take-append-le n src more within)) (fewer within)
+    ]

@@ -44,21 +44,15 @@ module _ (old new : List ℕ → List Sequence) (src rest : List ℕ) (done : Li
   LeavesOff last = (z : List ℕ) → (last ≡ true → z ≡ []) → old (src ++ z) ≡ done ++ new (rest ++ z)
 
   at_end : LeavesOff true → old src ≡ done ++ new rest
-  at_end leaves_off = ap old (sym (append-nil src)) ∙ leaves_off [] (λ _. refl)
-      ∙ ap (λ x. done ++ new x) (append-nil rest)
+  at_end leaves_off = rw (append-nil src, append-nil rest) at (leaves_off [] (λ _. refl))
 
   pub determined_after : (last : Bool) → LeavesOff last → (ts : List Sequence)
       → AreDetermined last new rest ts → AreDetermined last old src (done ++ ts)
-  determined_after true leaves_off ts first = (
-    first.0,
-    at_end leaves_off ∙ ap (λ ss. done ++ ss) first.1 ∙ sym (append_assoc done ts first.0),
-  )
+  determined_after true leaves_off ts first =
+      (first.0, rw (at_end leaves_off, first.1, append_assoc done ts) refl)
   determined_after false leaves_off ts determines = λ z are_bytes.
-      let first = determines z are_bytes in (
-        first.0,
-        leaves_off z (λ e. absurd (false≢true e)) ∙ ap (λ ss. done ++ ss) first.1
-            ∙ sym (append_assoc done ts first.0),
-      )
+      let first = determines z are_bytes in
+      (first.0, rw (leaves_off z (λ e. absurd (false≢true e)), first.1, append_assoc done ts) refl)
 
   pub determined_past : (last : Bool) → LeavesOff last → (ts : List Sequence)
       → AreDetermined last old src (done ++ ts) → AreDetermined last new rest ts

@@ -90,21 +90,14 @@ before_less : (units_of : ℕ → List ℕ) (keeps : Bool) (ss : List Sequence)
     → units units_of (sequences_before_malformed keeps ss) ≤ units units_of ss
 before_less units_of keeps [] = omega arith
 before_less units_of keeps (s ∷ ss) =
-    by_test (is_malformed s.kind) keeps (before_less units_of keeps ss)
+    by_test (is_malformed s.kind) keeps _ (before_less units_of keeps ss)
   where
-    by_test : (t k : Bool)
-        → units units_of (sequences_before_malformed keeps ss) ≤ units units_of ss
-        → units units_of (cond t (cond k (s ∷ []) []) (s ∷ sequences_before_malformed keeps ss))
-        ≤ units units_of (s ∷ ss)
-    by_test true true h = omega (arith, units-both units_of (s ∷ []) ss)
-    by_test true false h = omega arith
-    by_test false k h = omega (
-      arith,
-      h,
-      units-both units_of (s ∷ []) ss,
-      units-both units_of (s ∷ [])
-          (sequences_before_malformed keeps ss),
-    )
+    by_test : (t k : Bool) (others : List Sequence) → units units_of others ≤ units units_of ss
+        → units units_of (cond t (cond k (s ∷ []) []) (s ∷ others)) ≤ units units_of (s ∷ ss)
+    by_test true true others less = omega (arith, units-both units_of (s ∷ []) ss)
+    by_test true false others less = omega arith
+    by_test false k others less =
+        omega (arith, units-both units_of (s ∷ []) ss, units-both units_of (s ∷ []) others)
 
 pub needed_less : (units_of : ℕ → List ℕ) (mode : DecodeErrorMode) (ss : List Sequence)
     → needed_units units_of mode ss ≤ units units_of ss

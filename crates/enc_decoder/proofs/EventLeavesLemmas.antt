@@ -23,21 +23,21 @@ use Rattle.enc_decoder.proofs.DeterminedLemmas.{determined_at}
 use Rattle.enc_decoder.proofs.ByteLemmas.{bytes-drop, determines_by_more}
 use Rattle.enc_decoder.proofs.NextEventLemmas as event
 use Rattle.enc_decoder.proofs.StageLemmas.{Stage}
-use Rattle.enc_decoder.proofs.LeavesLemmas.{Leaves}
+use Rattle.enc_decoder.proofs.LeavesLemmas.{Leaves, AreAccounted, nothing_read}
 use Rattle.enc_decoder.proofs.StateLeavesLemmas.{LeadsOn, unread, byte_follows, rest_follows, state_leaves}
 
--- a call that reads and does nothing
-nothing_done : {units_of : ℕ → List ℕ} {now : Remainder} {src : List ℕ} {last : Bool}
-    {mode : DecodeErrorMode} {room : ℕ} {result : DecoderResult}
-    → DecoderStops units_of now now src last mode room [] [] 0 result
-    → RawDecoderCall units_of now now src last mode room result 0 [] false
-nothing_done {now = now} stops = record {
+-- a call that puts nothing out, by what it leaves
+abbrev pub quiet_call : {units_of : ℕ → List ℕ} {now new : Remainder} {mode : DecodeErrorMode} {room : ℕ}
+    {result : DecoderResult} (stage : Stage) → Leaves now new stage → AreAccounted now new stage
+    → DecoderStops units_of now new stage.src stage.last mode room [] stage.done stage.read result
+    → RawDecoderCall units_of now new stage.src stage.last mode room result stage.read [] false
+quiet_call stage leaves accounted stops = record {
   call = record {
     put = [];
-    done = [];
-    within = omega arith;
-    residual = λ z _. refl;
-    set = refl;
+    done = stage.done;
+    within = leaves.within;
+    residual = leaves.residual;
+    set = leaves.set;
     text = refl;
     scalars = refl;
     fits = omega arith;
@@ -45,8 +45,8 @@ nothing_done {now = now} stops = record {
     none_replaced = λ _. refl;
     stops = stops;
   };
-  accounted = append-nil now.pending;
-  goes_on = λ y _ _. refl;
+  accounted = accounted;
+  goes_on = λ y _ first. leaves.goes_on y first;
 }
 
 module _ {C : Type 0} (state : C → CodecState) (c : C) (stage : Stage) where
@@ -55,6 +55,10 @@ module _ {C : Type 0} (state : C → CodecState) (c : C) (stage : Stage) where
 
   abbrev byte : ℕ
   byte = get_or stage.src stage.read 0
+
+  -- nothing of the unread bytes is read
+  abbrev at_start : Stage
+  at_start = stage_at stage 0 [] [] false
 
   byte_first : stage.read < length stage.src
       → unread stage ≡ byte ∷ drop (suc stage.read) stage.src
@@ -94,7 +98,7 @@ module _ {C : Type 0} (state : C → CodecState) (c : C) (stage : Stage) where
       false
   input_empty needs =
       let all_read : unread stage ≡ [] = drop_of_length-le stage.src needs.0 in
-      nothing_done (record {
+      quiet_call at_start (nothing_read at_start) (append-nil (state c).pending) (record {
         only_put = refl;
         all_read = sym (ap length all_read);
         none_determined = λ _ s determines. needs.2 s
@@ -143,9 +147,7 @@ module _ {C : Type 0} (state : C → CodecState) (c : C) (stage : Stage) where
       -- the next byte determines it
       shown_next : stage.read < length stage.src
           → Determines now.sequences (take 1 (unread stage)) (emitted ∷ [])
-      shown_next has_next z _ =
-          subst (λ x. AreFirstSequences (emitted ∷ []) (now.sequences (x ++ z)))
-          (sym (taken true (λ _. has_next)))
+      shown_next has_next z _ = rw (taken true (λ _. has_next))
           (comes (byte ∷ z) (byte_follows stage.src stage.read stage.last z has_next))
 
       shown_then : 0 < length (unread stage)
@@ -159,10 +161,9 @@ module _ {C : Type 0} (state : C → CodecState) (c : C) (stage : Stage) where
             within = omega (arith, ap length read_with, length-take count (unread stage));
             same_rule = emits.0.same_rule;
             set = refl;
-            accounted = ap (λ x. (state c).pending ++ x) read_with ∙ emits.0.parts
-                ∙ ap (λ x. x ++ (state s.next).pending) (sym (append-nil emits.0.bytes));
-            first = λ y follows. ap (λ x. now.sequences (x ++ y)) read_with
-                ∙ emits.0.first y (followed s.takes_byte has_byte y follows);
+            accounted = rw (read_with, emits.0.parts, append-nil) refl;
+            first = λ y follows. rw read_with
+                (emits.0.first y (followed s.takes_byte has_byte y follows));
             undetermined = λ some. (emits.1 (takes_some s.takes_byte some)).2;
           }
         where
@@ -201,16 +202,17 @@ module _ {C : Type 0} (state : C → CodecState) (c : C) (stage : Stage) where
           → room < length (units_of_text units_of (text_chars s.text))
           → RawDecoderCall units_of now now (unread stage) stage.last mode room OutputFull 0 []
           false
-      output_full not_reported full = nothing_done (record {
-        only_put = refl;
-        next = emitted;
-        determined = determined_at stage.last now.sequences (unread stage) (emitted ∷ [])
-            (λ z ends. comes (unread stage ++ z)
-            (rest_follows stage.src stage.read stage.last z ends));
-        not_reported = not_reported;
-        full = omega (arith, full);
-        reads = record { not_shown = inl refl; shown_next = shown_then };
-      })
+      output_full not_reported full = quiet_call at_start (nothing_read at_start)
+          (append-nil (state c).pending) (record {
+            only_put = refl;
+            next = emitted;
+            determined = determined_at stage.last now.sequences (unread stage) (emitted ∷ [])
+                (λ z ends. comes (unread stage ++ z)
+                (rest_follows stage.src stage.read stage.last z ends));
+            not_reported = not_reported;
+            full = omega (arith, full);
+            reads = record { not_shown = inl refl; shown_next = shown_then };
+          })
 
       -- it is malformed, and is reported
       abbrev pub reported : {units_of : ℕ → List ℕ} {mode : DecodeErrorMode} {room a : ℕ}
@@ -222,36 +224,20 @@ module _ {C : Type 0} (state : C → CodecState) (c : C) (stage : Stage) where
       reported bytes fatal malformed is_pending kept =
           let leaves : Leaves now (remainder_of (state s.next))
           (stage_at stage count (emitted ∷ []) [] false) = state_leaves bytes leads in
-          record {
-            call = record {
-              put = [];
-              done = emitted ∷ [];
-              within = leaves.within;
-              residual = leaves.residual;
-              set = refl;
-              text = refl;
-              scalars = refl;
-              fits = omega arith;
-              flag = refl;
-              none_replaced = λ _. refl;
-              stops = record {
-                next = emitted;
-                then_next = refl;
-                malformed = malformed;
-                replacement = emits.0.replacement malformed;
-                not_replaced = fatal;
-                len = emits.0.len;
-                not_empty = omega (arith, emits.0.len, emits.0.some);
-                pending = is_pending;
-                bounds = subst (AreReportedLens s.kind s.len) (sym is_pending)
-                    (emits.0.bounds malformed);
-                room_kept = λ keeps. omega (arith, kept keeps);
-                determined = determined_at stage.last now.sequences (unread stage) (emitted ∷ [])
-                    (λ z ends. (_, leaves.residual z ends));
-                none_after = leaves.none_after;
-                reads = reads bytes;
-              };
-            };
-            accounted = leads.accounted;
-            goes_on = λ y _ first. leaves.goes_on y first;
-          }
+          quiet_call (stage_at stage count (emitted ∷ []) [] false) leaves leads.accounted (record {
+            next = emitted;
+            then_next = refl;
+            malformed = malformed;
+            replacement = emits.0.replacement malformed;
+            not_replaced = fatal;
+            len = emits.0.len;
+            not_empty = omega (arith, emits.0.len, emits.0.some);
+            pending = is_pending;
+            bounds = subst (AreReportedLens s.kind s.len) (sym is_pending)
+                (emits.0.bounds malformed);
+            room_kept = λ keeps. omega (arith, kept keeps);
+            determined = determined_at stage.last now.sequences (unread stage) (emitted ∷ [])
+                (λ z ends. (_, leaves.residual z ends));
+            none_after = leaves.none_after;
+            reads = reads bytes;
+          })

@@ -29,6 +29,14 @@ pub looks_at_none : (rule : Rule) (set b : ℕ) (z : List ℕ) → IsDeterminedW
     → IsLookahead rule set b z 0
 looks_at_none rule set b z t = record { determined = t; least = λ a m l f. omega (arith, l) }
 
+-- If only the end determines it, no first bytes do: with all of `more` after them it is another.
+pub more_differs : (rule : Rule) (set b : ℕ) (z : List ℕ) (k : ℕ)
+    (by_end : IsDeterminedByEnd rule set b z)
+    → rule set b (take k z ++ (drop k z ++ by_end.more)) ≡ rule set b z → ⊥
+more_differs rule set b z k by_end same = by_end.other (ap (rule set b)
+    (ap (λ x. x ++ by_end.more) (sym (take-append-drop k z))
+    ∙ append_assoc (take k z) (drop k z) by_end.more) ∙ same)
+
 -- n bytes after it determine it, and after one less only the end would
 pub looks_by : (rule : Rule) (set b : ℕ) (z : List ℕ) (n k : ℕ)
     → IsDeterminedWithin rule set b z (suc n)
@@ -37,19 +45,18 @@ pub looks_by : (rule : Rule) (set b : ℕ) (z : List ℕ) (n k : ℕ)
 looks_by rule set b z n k determined is_short by_end = record {
   determined = determined;
   least = λ are_bytes m less same.
-      let short_input = take k z in
+      let short = take k z in
       let fewer = (rule set b z).more + m in
-      let few : fewer ≤ k = omega (arith, is_short, less) in
-      let front : take fewer z ++ drop fewer short_input ≡ short_input =
-      ap (λ w. w ++ drop fewer short_input) (sym (take-take fewer k z few))
-      ∙ take-append-drop fewer short_input in
-      let rest = bytes-drop fewer short_input (bytes-take k z are_bytes) in
-      let first = ap (rule set b) (sym front) ∙ same (drop fewer short_input) rest in
-      let then = ap (rule set b) (ap (λ w. w ++ by_end.more) (sym front)
-      ∙ append_assoc (take fewer z) (drop fewer short_input) by_end.more)
-      ∙ same (drop fewer short_input ++ by_end.more)
-      (bytes-append (drop fewer short_input) by_end.more rest by_end.bytes) in
-      by_end.other (then ∙ sym first);
+      let front : take fewer short ≡ take fewer z =
+      take-take fewer k z (omega (arith, is_short, less)) in
+      let rest = bytes-drop fewer short (bytes-take k z are_bytes) in
+      let whole = ap (rule set b)
+      (sym (take-append-drop fewer short) ∙ ap (λ w. w ++ drop fewer short) front)
+      ∙ same (drop fewer short) rest in
+      more_differs rule set b short fewer by_end
+      (ap (λ w. rule set b (w ++ (drop fewer short ++ by_end.more))) front
+      ∙ same (drop fewer short ++ by_end.more)
+      (bytes-append (drop fewer short) by_end.more rest by_end.bytes) ∙ sym whole);
 }
 
 -- What the law asks of one sequence: its own bytes determine it, or it is not valid and a few more

@@ -11,7 +11,8 @@ use Rattle.enc_units.specs.declared.decoder_result.DecoderResult.{DecoderResult}
 use Rattle.enc_units.specs.declared.decoder_result.DecoderResult.TheVariants.{InputEmpty, OutputFull, Malformed}
 use Rattle.enc_decoder.specs.Sequence.{Sequence, sequence_bytes, is_repeated_escape, set_after, is_malformed}
 use Rattle.enc_decoder.specs.Remainder.{Remainder, AreBytes, AreFirstSequences, Determines, AreDetermined}
-use Rattle.enc_decoder.specs.Call.{DecoderCall, DecoderStops, AreReportedLens, ReadsToReported}
+use Rattle.enc_decoder.specs.Call.{DecoderCall, DecoderStops, AreReportedLens, ReadsToReported, AtMalformed}
+use Rattle.enc_decoder.specs.Call.{DecodeErrorMode}
 use Rattle.enc_decoder.specs.CallRecord.{Call, IsCall}
 use Rattle.enc_decoder.specs.Converting.{shifted_result}
 use Rattle.enc_decoder.proofs.SequenceLemmas.{sequence_bytes-one}
@@ -19,7 +20,7 @@ use Rattle.enc_decoder.proofs.DeterminedLemmas.{begins_after}
 use Rattle.enc_decoder.proofs.StageLemmas.{Stage, HasWritten, IsPartAt, stage_after, written_on, length_on}
 use Rattle.enc_decoder.proofs.InnerInputLemmas.{ShiftsInput, MatchesRead, HasSequence, sequence_at_end, most_or_more}
 use Rattle.enc_decoder.proofs.InnerInputLemmas.{determines_outside, determines_inside, none_before, determined_outside}
-use Rattle.enc_decoder.proofs.InnerInputLemmas.{none_shown, shown_next, inner_within, reads_all}
+use Rattle.enc_decoder.proofs.InnerInputLemmas.{none_shown, none_after_shown, shown_next, reads_all}
 
 -- whether a call that stops so reports a repeated escape
 abbrev pub stops_at_escape : (units_of : ℕ → List ℕ) (old new : Remainder) (c : Call)
@@ -43,6 +44,23 @@ pub escape_is_fatal : {units_of : ℕ → List ℕ} {old new : Remainder} {repla
 escape_is_fatal c InputEmpty call reported escape = absurd (false≢true escape)
 escape_is_fatal c OutputFull call reported escape = absurd (false≢true escape)
 escape_is_fatal c (Malformed l a) call reported escape = reported l a refl
+
+-- A sequence that is reported, and the bytes pending after it, are among those pending and read.
+pub reported_within : {units_of : ℕ → List ℕ} {old new : Remainder} {src : List ℕ} {last : Bool}
+    {mode : DecodeErrorMode} {room read l a : ℕ} {put done : List Sequence}
+    → AtMalformed units_of old new src last mode room put done read l a
+    → old.pending ++ take read src ≡ sequence_bytes done ++ new.pending
+    → l + length new.pending ≤ length old.pending + read
+reported_within {old = old} {new} {src} {read = read} {put = put} {done} stops accounted = omega (
+  arith,
+  ap length accounted,
+  length-append old.pending (take read src),
+  length-take read src,
+  length-append (sequence_bytes done) new.pending,
+  ap length (ap sequence_bytes stops.then_next ∙ sequence_bytes-one put stops.next),
+  length-append (sequence_bytes put) stops.next.bytes,
+  stops.len,
+)
 
 -- No byte is pending before the inner call, which reads those of what it does and holds.
 abbrev pub AreAllRead : Remainder → Remainder → Call → List Sequence → Type 0
@@ -93,6 +111,11 @@ module _ {units_of : ℕ → List ℕ} {old mid : Remainder} {stage : Stage} {in
     abbrev OuterStops : DecoderResult → Type 0
     OuterStops result = DecoderStops units_of old new stage.src inner.last stage.mode stage.room
         (stage.done ++ call.put) (stage.done ++ call.done) read result
+
+    -- a repeated escape has all its bytes read, or fewer than it has
+    abbrev EscapeRead : Bool → Type 0
+    EscapeRead is_escape = (is_escape ≡ true → shift.sure ≤ read)
+        ⊎ ((inner.read ≤ 5) × AreAllRead mid then inner call.done)
 
     regrouped : (P : List Sequence → Type 0) (s : Sequence)
         → P (stage.done ++ (call.done ++ s ∷ [])) → P ((stage.done ++ call.done) ++ s ∷ [])
@@ -150,20 +173,7 @@ module _ {units_of : ℕ → List ℕ} {old mid : Remainder} {stage : Stage} {in
           (last_one.0, last_one.1, stops.then_next ∙ last_one.2)
 
       few : AreAllRead mid then inner call.done → l + a ≤ inner.read
-      few all_read =
-          omega (
-            arith,
-            inner_within shift reads,
-            ap length all_read.1,
-            ap length (ap (λ x. x ++ take inner.read inner.src) all_read.0),
-            length-take inner.read inner.src,
-            length-append (sequence_bytes call.done) then.pending,
-            ap length (ap sequence_bytes stops.then_next
-                ∙ sequence_bytes-one call.put stops.next),
-            length-append (sequence_bytes call.put) stops.next.bytes,
-            stops.len,
-            stops.pending,
-          )
+      few all_read = omega (arith, reported_within stops all_read.1, ap length all_read.0, stops.pending)
 
       lens : (left ≡ 0) ⊎ ((left ≡ 1) × (inner.read ≡ 1) × AreAllRead mid then inner call.done)
           → AreReportedLens stops.next.kind l (a + left)
@@ -178,8 +188,7 @@ module _ {units_of : ℕ → List ℕ} {old mid : Remainder} {stage : Stage} {in
             (omega (arith, few_read, some_read)) one_left.0 stops.bounds
       ]
 
-      sure_at_escape : (is_repeated_escape stops.next.kind ≡ true → shift.sure ≤ read)
-          ⊎ ((inner.read ≤ 5) × AreAllRead mid then inner call.done)
+      sure_at_escape : EscapeRead (is_repeated_escape stops.next.kind)
           → is_repeated_escape stops.next.kind ≡ true → shift.sure ≤ read
       sure_at_escape escape is_escape = elim escape [
         | inl all_there ↦ all_there is_escape
@@ -234,9 +243,7 @@ module _ {units_of : ℕ → List ℕ} {old mid : Remainder} {stage : Stage} {in
       }
 
       stops_malformed : inner.result ≡ Malformed l a
-          → (is_repeated_escape stops.next.kind ≡ true → shift.sure ≤ read)
-          ⊎ ((inner.read ≤ 5) × AreAllRead mid then inner call.done)
-          → OuterStops (Malformed l (a + left))
+          → EscapeRead (is_repeated_escape stops.next.kind) → OuterStops (Malformed l (a + left))
       stops_malformed is_malformed escape = record {
         next = stops.next;
         then_next = ap (λ x. stage.done ++ x) stops.then_next
@@ -256,24 +263,13 @@ module _ {units_of : ℕ → List ℕ} {old mid : Remainder} {stage : Stage} {in
           part.room,
         );
         determined = determined_outside shift call.done stops.determined;
-        none_after = elim (most_or_more read 0) [
-          | inl none_read ↦ inl (omega arith)
-          | inr some_read ↦ inr (λ s. regrouped
-              (λ x. Determines old.sequences (take read stage.src) x → ⊥) s
-              (elim (none_shown shift reads (call.done ++ s ∷ []) (sequence_at_end call.done s)
-              (elim stops.none_after [ inl none ↦ inl none | inr hidden ↦ inr (hidden s) ])) [
-                | inl none_read ↦ absurd (omega arith)
-                | inr hidden ↦ hidden
-              ]))
-        ];
+        none_after = none_after_shown shift reads call.done stops.none_after;
         reads = reads_on (is_repeated_escape stops.next.kind) (sure_at_escape escape) stops.reads;
       }
 
     stops_outside : (result : DecoderResult) → inner.result ≡ result
         → (stops : InnerStops result)
-        → (stops_at_escape units_of mid then inner call.put call.done result stops ≡ true
-        → shift.sure ≤ read)
-        ⊎ ((inner.read ≤ 5) × AreAllRead mid then inner call.done)
+        → EscapeRead (stops_at_escape units_of mid then inner call.put call.done result stops)
         → OuterStops (shifted_result result left)
     stops_outside InputEmpty is_result stops escape = stops_empty is_result stops
     stops_outside OutputFull is_result stops escape = stops_full stops
@@ -299,10 +295,8 @@ module _ {units_of : ℕ → List ℕ} {old mid : Remainder} {stage : Stage} {in
         put = stage.done ++ call.put;
         done = stage.done ++ call.done;
         within = reads.within;
-        residual = λ z ends. shift.plain z ends ∙ ap (λ x. stage.done ++ x) (call.residual z ends)
-            ∙ sym (append_assoc stage.done call.done
-            (then.sequences (drop inner.read inner.src ++ z)))
-            ∙ ap (λ x. (stage.done ++ call.done) ++ x) (state.after z ends);
+        residual = λ z ends.
+            rw (shift.plain z ends, call.residual z ends, state.after z ends, append_assoc) refl;
         set = state.set;
         text = both.text;
         scalars = both.scalars;

@@ -1,7 +1,7 @@
 -- What bytes determine for an outer decoder, whose chunk is that of an inner one, shifted: after
 -- sequences that are done, after bytes that are dropped, or with held bytes before it.
 use Rattle.std.proofs.Common.{◌≡◌, ℕ, ◌+◌, ◌-◌, ◌<◌, ◌≤◌, true, List, [], ◌∷◌, ◌++◌, length, take}
-use Rattle.std.proofs.Common.{refl, ap, ◌∙◌, sym, arith, append_assoc, inl, inr, subst, ◌⊎◌}
+use Rattle.std.proofs.Common.{refl, arith, append_assoc, inl, inr, subst, ◌⊎◌}
 use Rattle.std.proofs.lemmas.Bool.Decides.{nat_tests, leb_tells}
 use Rattle.enc_decoder.specs.Sequence.{Sequence}
 use Rattle.enc_decoder.specs.Remainder.{Remainder, AreBytes, AreFirstSequences, Determines, AreDetermined}
@@ -66,13 +66,10 @@ module _ {old mid : Remainder} {stage : Stage} {inner : Call}
       → Determines old.sequences (take k stage.src) (stage.done ++ ss)
   determines_outside bytes m k ss is_sure within_src few determines z are_bytes =
       let first = determines_by_more mid.sequences inner.src m (k + shift.held - stage.read) ss
-      bytes few determines z are_bytes in (
-        first.0,
-        shift.by_prefix k (omega (arith, shift.surely)) within_src z
-            (shift.begun k is_sure within_src z are_bytes)
-            ∙ ap (λ x. stage.done ++ x) first.1
-            ∙ sym (append_assoc stage.done ss first.0),
-      )
+      bytes few determines z are_bytes in
+      let outer = shift.by_prefix k (omega (arith, shift.surely)) within_src z
+      (shift.begun k is_sure within_src z are_bytes) in
+      (first.0, rw (outer, first.1, append_assoc) refl)
 
   -- and the other way
   pub determines_inside : (m k : ℕ) (ss : List Sequence) → shift.from ≤ k → k ≤ length stage.src
@@ -118,6 +115,22 @@ module _ {old mid : Remainder} {stage : Stage} {inner : Call}
               hidden (determines_inside inner.read read ts far.0 reads.within far.1 determines))
         ]
       ]
+    ]
+
+    -- none is shown after sequences, if none is for the inner one
+    pub none_after_shown : (ts : List Sequence)
+        → (inner.read ≡ 0) ⊎ ((s : Sequence)
+        → Determines mid.sequences (take inner.read inner.src) (ts ++ s ∷ []) → ⊥)
+        → (read ≡ 0) ⊎ ((s : Sequence)
+        → Determines old.sequences (take read stage.src) ((stage.done ++ ts) ++ s ∷ []) → ⊥)
+    none_after_shown ts inside = elim (most_or_more read 0) [
+      | inl none_read ↦ inl (omega arith)
+      | inr some_read ↦ inr (λ s determines. elim (none_shown (ts ++ s ∷ []) (sequence_at_end ts s)
+          (elim inside [ inl none ↦ inl none | inr hidden ↦ inr (hidden s) ])) [
+            | inl none_read ↦ absurd (omega arith)
+            | inr hidden ↦ hidden (subst (Determines old.sequences (take read stage.src))
+                (append_assoc stage.done ts (s ∷ [])) determines)
+          ])
     ]
 
     pub shown_next : AreBytes inner.src → (ts : List Sequence)

@@ -1,11 +1,10 @@
 -- A call over bytes that were held back, and one over those that follow them, are a call over all
 -- of them.
 pub use Rattle.std.proofs.lemmas.List.{nil_from_length as no_bytes}
-use Rattle.std.proofs.Common.{◌≡◌, ℕ, ◌+◌, ◌-◌, ◌<◌, ◌≤◌, Bool, true, false, List, [], ◌∷◌, ◌++◌, length, take, drop}
+use Rattle.std.proofs.Common.{◌≡◌, ℕ, ◌+◌, ◌-◌, ◌<◌, ◌≤◌, Bool, true, false, List, [], ◌∷◌, ◌++◌, length, take}
 use Rattle.std.proofs.Common.{refl, ap, ◌∙◌, sym, arith, append_assoc, ◌||◌, inl, inr, subst, ◌⊎◌}
 use Rattle.std.proofs.lemmas.Bool.{false≢true}
 use Rattle.std.proofs.lemmas.List.{append-nil, length-append, take-append-le, drop-append-le}
-use Rattle.std.proofs.Math.Seq.{take-append_seam}
 use Rattle.enc_units.specs.declared.decoder_result.DecoderResult.{DecoderResult}
 use Rattle.enc_units.specs.declared.decoder_result.DecoderResult.TheVariants.{InputEmpty, OutputFull, Malformed}
 use Rattle.enc_units.specs.Output.{Output, with_appended}
@@ -14,9 +13,8 @@ use Rattle.enc_decoder.specs.Remainder.{Remainder, AreBytes, Determines, AreDete
 use Rattle.enc_decoder.specs.Call.{DecoderCallInto, DecoderStops, ReadsToReported}
 use Rattle.enc_decoder.specs.CallRecord.{Call, CallInto, IsCallInto, call_writing}
 use Rattle.enc_decoder.specs.Converting.{PrefixedCallInto}
-use Rattle.enc_decoder.proofs.ByteLemmas.{bytes-append, determines_by_more}
+use Rattle.enc_decoder.proofs.ByteLemmas.{bytes-append, determines_with}
 use Rattle.enc_decoder.proofs.StageLemmas.{reports_in}
-use Rattle.enc_decoder.proofs.InnerInputLemmas.{most_or_more}
 use Rattle.enc_decoder.proofs.TwoCallsLemmas.{two_calls}
 use Rattle.enc_units.proofs.OutputLemmas.{with_appended-with_appended, room_left}
 use Rattle.std.proofs.Math.ListN.{drop_of_length-le}
@@ -32,14 +30,12 @@ module _ {units_of : ℕ → List ℕ} {old new : Remainder} {c : CallInto} wher
   with_bytes : {src : List ℕ} {read : ℕ} → c.src ≡ src → c.read ≡ read
       → IsCallInto units_of old new c
       → IsPrefixedInto units_of old new (record c { src = src; read = read })
-  with_bytes {read = read} same_src same_read call =
-      subst (λ x. IsPrefixedInto units_of old new (record c { src = x; read = read })) same_src
-      (subst (λ n. IsPrefixedInto units_of old new (record c { read = n })) same_read (record {
-        wrote = call.wrote;
-        onto = call.onto;
-        call = call.call.call;
-        accounted = call.call.accounted;
-      }))
+  with_bytes same_src same_read call = rw (← same_src, ← same_read) (record {
+    wrote = call.wrote;
+    onto = call.onto;
+    call = call.call.call;
+    accounted = call.call.accounted;
+  })
 
   -- no bytes are held
   pub none_held : {held : List ℕ} → held ≡ [] → IsCallInto units_of old new c
@@ -60,12 +56,6 @@ module _ {units_of : ℕ → List ℕ} {old new : Remainder} {c : CallInto} wher
 
 module _ (remaining : List ℕ → List Sequence) (held src : List ℕ) (bytes : AreBytes held)
     (also : AreBytes src) where
-  known : (ss : List Sequence) → Determines remaining held ss → (n : ℕ) → length held ≤ n
-      → Determines remaining (take n (held ++ src)) ss
-  known ss determines n past_held = determines_by_more remaining (held ++ src) (length held) n ss
-      (bytes-append held src bytes also) past_held
-      (subst (λ x. Determines remaining x ss) (sym (take-append_seam held src)) determines)
-
   known_at : (last : Bool) (ss : List Sequence) → Determines remaining held ss
       → AreDetermined last remaining (held ++ src) ss
   known_at true ss determines = determines src also
@@ -88,10 +78,8 @@ module _ (remaining : List ℕ → List Sequence) (held src : List ℕ) (bytes :
       (determines : Determines remaining held ss) where
     next_known : (read < length held → Determines remaining (take (read + 1) held) ss)
         → Determines remaining (take (read + 1) (held ++ src)) ss
-    next_known next = elim (most_or_more (length held) read) [
-      | inl all_read ↦ known ss determines (read + 1) (omega arith)
-      | inr unread ↦ still (read + 1) (omega arith) (λ x. Determines remaining x ss) (next unread)
-    ]
+    next_known next = determines_with remaining held src ss bytes also determines (read + 1)
+        (λ there. next (omega (arith, there)))
 
     reads_still : (late : Bool) (pending : List ℕ)
         → ReadsToReported late remaining held ss read pending
@@ -161,19 +149,17 @@ stops_in_held {units_of} {old} {new} {c} src {last} bytes also stopped not_last 
     let call = into.call.call in
     let all_read : c.read ≡ length c.src - (length c.src - c.read) + 0 =
     omega (arith, call.within) in
-    subst (λ n. IsPrefixedInto units_of old new
-    (record c { src = c.src ++ src; last = last; read = n })) all_read (record {
+    rw (← all_read) (record {
       wrote = into.wrote;
       onto = into.onto;
       call = record {
         put = call.put;
         done = call.done;
         within = omega (arith, call.within, length-append c.src src);
-        residual = λ z _. ap old.sequences (append_assoc c.src src z)
-            ∙ call.residual (src ++ z) (λ e. absurd (false≢true e))
-            ∙ ap (λ x. call.done ++ new.sequences x)
-            (sym (append_assoc (drop c.read c.src) src z)
-            ∙ ap (λ x. x ++ z) (sym (drop-append-le c.read c.src src call.within)));
+        residual = λ z _.
+            let same_rest = drop-append-le c.read c.src src call.within in
+            rw (append_assoc, same_rest, append_assoc)
+            (call.residual (src ++ z) (λ e. absurd (false≢true e)));
         set = call.set;
         text = call.text;
         scalars = call.scalars;

@@ -93,10 +93,8 @@ module _ {C : Type 0} {state : C → CodecState} {v : CodecState} {bytes : List 
       → (remainder_of v).sequences (take (k + 1) bytes ++ y)
       ≡ latin1_front.front ++ (remainder_of (state now)).sequences
       (get_or bytes k 0 ∷ y)
-  further h y =
-      ap (remainder_of v).sequences (ap (λ x. x ++ y) (take_more bytes k 0 h)
-      ∙ append_assoc (take k bytes) (get_or bytes k 0 ∷ []) y)
-      ∙ latin1_front.rest (get_or bytes k 0 ∷ y)
+  further h y = rw (take_more bytes k 0 h, append_assoc (take k bytes))
+      (latin1_front.rest (get_or bytes k 0 ∷ y))
 
   -- the next byte is held, and nothing is determined
   pub latin1_ends_waiting : k < length bytes → (n : C)

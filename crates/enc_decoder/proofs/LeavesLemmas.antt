@@ -14,8 +14,7 @@ use Rattle.enc_decoder.proofs.SequenceLemmas.{sequence_bytes-append, set_after-a
 use Rattle.enc_decoder.proofs.DeterminedLemmas.{begins_after, determines_fewer}
 use Rattle.enc_decoder.proofs.ByteLemmas.{bytes-drop, determines_by_more}
 use Rattle.enc_decoder.proofs.StageLemmas.{Stage, HasWritten, IsPartAt, stage_at, stage_after}
-use Rattle.enc_decoder.proofs.InnerInputLemmas.{ShiftsInput, MatchesRead, sequence_at_end, most_or_more, none_shown}
-use Rattle.enc_decoder.proofs.InnerInputLemmas.{determines_outside}
+use Rattle.enc_decoder.proofs.InnerInputLemmas.{ShiftsInput, MatchesRead, none_after_shown, determines_outside}
 use Rattle.enc_decoder.proofs.InnerCallLemmas.{call_outside, reports_escape}
 
 -- Calls that have come to this stage leave the remainder `mid` for the bytes after those read.
@@ -169,31 +168,23 @@ module _ {old mid : Remainder} {stage : Stage} (bytes : AreBytes stage.src)
       ≡ (stage.done ++ ss) ++ new.sequences y
   goes_on_after new n ss y inside first =
       let tail : List ℕ = take n (drop stage.read stage.src) ++ y in
-      let all_first : AreFirstSequences (stage.done ++ ss)
-      (old.sequences (take stage.read stage.src ++ tail)) =
-      subst (λ x. AreFirstSequences (stage.done ++ ss) (old.sequences x)) (into n y) first in
+      let all_first = rw (into n y) at first in
       let outside : old.sequences (take stage.read stage.src ++ tail)
       ≡ stage.done ++ mid.sequences tail =
       leaves.goes_on tail
       (ss ++ all_first.0, all_first.1 ∙ append_assoc stage.done ss all_first.0) in
-      ap old.sequences (into n y) ∙ outside
+      rw (into n y) (outside
       ∙ ap (λ u. stage.done ++ u) (inside (begins_after stage.done ss (mid.sequences tail)
       (old.sequences (take stage.read stage.src ++ tail)) outside all_first))
-      ∙ sym (append_assoc stage.done ss (new.sequences y))
+      ∙ sym (append_assoc stage.done ss (new.sequences y)))
 
   pub accounted_on : (new : Remainder) (n : ℕ) (ss : List Sequence) → AreAccounted old mid stage
       → mid.pending ++ take n (drop stage.read stage.src) ≡ sequence_bytes ss ++ new.pending
       → old.pending ++ take (stage.read + n) stage.src
       ≡ sequence_bytes (stage.done ++ ss) ++ new.pending
   accounted_on new n ss before after =
-      let rest = take n (drop stage.read stage.src) in
-      ap (λ x. old.pending ++ x) (take-add stage.read n stage.src)
-      ∙ sym (append_assoc old.pending (take stage.read stage.src) rest)
-      ∙ ap (λ x. x ++ rest) before
-      ∙ append_assoc (sequence_bytes stage.done) mid.pending rest
-      ∙ ap (λ x. sequence_bytes stage.done ++ x) after
-      ∙ sym (append_assoc (sequence_bytes stage.done) (sequence_bytes ss) new.pending)
-      ∙ ap (λ x. x ++ new.pending) (sym (sequence_bytes-append stage.done ss))
+      rw (take-add, ← append_assoc, before, append_assoc)
+      (rw (after, sequence_bytes-append, append_assoc) refl)
 
   -- the same for decoders that look for no byte order mark
   pub raw_call : {units_of : ℕ → List ℕ} {new : Remainder} {mode : DecodeErrorMode}
@@ -229,12 +220,8 @@ module _ {old mid : Remainder} {stage : Stage} (bytes : AreBytes stage.src)
         surely = omega arith;
         soon = omega arith;
         within = omega (arith, next.within, length-drop stage.read stage.src, leaves.within);
-        residual = λ z ends. leaves.residual z ends
-            ∙ ap (λ u. stage.done ++ u) (next.residual z ends)
-            ∙ sym (append_assoc stage.done ss
-            (new.sequences (drop n (drop stage.read stage.src) ++ z)))
-            ∙ ap (λ x. (stage.done ++ ss) ++ new.sequences (x ++ z))
-            (drop-drop n stage.read stage.src);
+        residual = λ z ends.
+            rw (leaves.residual z ends, next.residual z ends, drop-drop, append_assoc) refl;
         goes_on = λ y first. goes_on_after new n ss y (next.goes_on y) first;
         set = next.set ∙ ap (λ x. set_after x ss) leaves.set
             ∙ sym (set_after-append old.set stage.done ss);
@@ -243,15 +230,20 @@ module _ {old mid : Remainder} {stage : Stage} (bytes : AreBytes stage.src)
             (omega (arith, leaves.soon)) within_src (omega arith)
             (next.shown (k - stage.read) (omega (arith, next.soon))
             (omega (arith, length-drop stage.read stage.src)));
-        none_after = elim (most_or_more (stage.read + n) 0) [
-          | inl none_read ↦ inl (omega arith)
-          | inr some_read ↦ inr (λ s determines. elim (none_shown shift_on (reads n next.within)
-              (ss ++ s ∷ []) (sequence_at_end ss s)
-              (elim next.none_after [ inl none ↦ inl none | inr hidden ↦ inr (hidden s) ])) [
-                | inl none_read ↦ absurd (omega arith)
-                | inr hidden ↦ hidden
-                    (subst (Determines old.sequences (take (stage.read + n) stage.src))
-                    (append_assoc stage.done ss (s ∷ [])) determines)
-              ])
-        ];
+        none_after = none_after_shown shift_on (reads n next.within) ss next.none_after;
       }
+
+-- nothing is read or done yet
+abbrev pub nothing_read : {old : Remainder} (stage : Stage)
+    → Leaves old old (record stage { read = 0; done = [] })
+nothing_read stage = record {
+  sure = 0;
+  surely = omega arith;
+  soon = omega arith;
+  within = omega arith;
+  residual = λ z _. refl;
+  goes_on = λ y _. refl;
+  set = refl;
+  shown = λ n _ _ z _. (_, refl);
+  none_after = inl refl;
+}

@@ -11,7 +11,7 @@ use Rattle.enc_decoder.specs.RuleLaws.{IsDeterminedWithin, IsLookahead, IsDeterm
 use Rattle.enc_decoder.specs.Lookahead.{CoverLookahead}
 use Rattle.enc_decoder.proofs.ByteLemmas.{bytes-append, bytes-drop}
 use Rattle.enc_decoder.proofs.SegmentationLemmas.{sequences_of-nil, sequences_of-cons, first_of, rest_of}
-use Rattle.enc_decoder.proofs.FirstSequenceLemmas.{same_by_sequence, within_by}
+use Rattle.enc_decoder.proofs.FirstSequenceLemmas.{same_by_sequence, within_by, more_differs}
 
 none_begin : (s : Sequence) (ss : List Sequence) → AreFirstSequences (s ∷ ss) [] → ⊥
 none_begin s ss first = let none_is_one : [] ≡ s ∷ (ss ++ first.0) = first.1 in cc
@@ -74,11 +74,7 @@ module _ (rule : Rule) (law : HasLookahead rule) where
       same_after y bytes = same_head (take j z ++ y) ss (determines y bytes)
 
       not_by_end : IsDeterminedByEnd rule set b z → ⊥
-      not_by_end by_end =
-          let rejoined : take j z ++ (drop j z ++ by_end.more) ≡ z ++ by_end.more =
-          sym (append_assoc (take j z) (drop j z) by_end.more)
-          ∙ ap (λ y. y ++ by_end.more) (take-append-drop j z) in
-          by_end.other (sym (ap (rule set b) rejoined) ∙ same_after (drop j z ++ by_end.more)
+      not_by_end by_end = more_differs rule set b z j by_end (same_after (drop j z ++ by_end.more)
           (bytes-append (drop j z) by_end.more (bytes-drop j z are_bytes) by_end.bytes))
 
       -- they contain the sequence
@@ -172,11 +168,7 @@ pub determined_not_by_end : (rule : Rule) (set b : ℕ) (z : List ℕ) (n : ℕ)
     → IsDeterminedByEnd rule set b z → ⊥
 determined_not_by_end rule set b z n determined by_end =
     let enough_len = (rule set b z).more + n in
-    by_end.other (
-    ap (rule set b) (ap (λ x. x ++ by_end.more) (sym (take-append-drop enough_len z))
-    ∙ append_assoc (take enough_len z) (drop enough_len z) by_end.more)
-    ∙ determined.same (drop enough_len z ++ by_end.more)
-    )
+    more_differs rule set b z enough_len by_end (determined.same (drop enough_len z ++ by_end.more))
 
 -- the lookahead is the least
 pub no_more_than : (rule : Rule) (set b : ℕ) (z : List ℕ) (n m : ℕ) → AreBytes z

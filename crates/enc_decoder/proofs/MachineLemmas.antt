@@ -18,7 +18,7 @@ use Rattle.enc_decoder.proofs.StageLemmas.{Stage, reports_in, nothing_written}
 use Rattle.enc_decoder.proofs.InnerCallLemmas.{reports_escape}
 use Rattle.enc_decoder.proofs.StateLeavesLemmas.{unread}
 use Rattle.enc_decoder.specs.Taking.{TakesRun}
-use Rattle.enc_decoder.proofs.TakenRunLemmas.{past_run}
+use Rattle.enc_decoder.proofs.TakenRunLemmas.{reaches_run}
 use Rattle.enc_decoder.proofs.LeavesLemmas.{call_at}
 use Rattle.enc_decoder.proofs.OutputStageLemmas.{Reaches, Progress, progress_at, room_at, call_into, reaches_state}
 use Rattle.enc_decoder.proofs.FirstSequenceLemmas.{true_or_false}
@@ -36,26 +36,24 @@ module _ {units_of : ℕ → List ℕ} {old now : Remainder} {before at : Output
       → then ≡ at → stage.read + n ≡ read
       → DecoderCallInto units_of old new stage.src stage.last stage.mode before then result read
       stage.replaced
-  goes_on {new} {then} {result} {n} next sure unchanged same_read =
-      subst (λ k. DecoderCallInto units_of old new stage.src stage.last stage.mode before then
-      result k stage.replaced) same_read
-      (subst (DecoderCallInto units_of old new stage.src stage.last stage.mode before then result
-      (stage.read + n)) (or_false stage.replaced)
-      (call_into reaches refl (λ is_fatal. is_fatal)
+  goes_on {result = result} {n} next sure unchanged same_read =
+      call_into reaches refl (λ is_fatal. is_fatal)
       (reports_in (call_at stage stage.mode at.room result n [] false) result next.call)
-      (record { wrote = []; onto = unchanged ∙ sym (with_appended-nil at); call = next }) sure))
+      (record { wrote = []; onto = unchanged ∙ sym (with_appended-nil at); call = next }) sure
+      same_read
 
 module _ {C : Type 0} {units_of : ℕ → List ℕ} (state : C → CodecState) {old : Remainder} (c : C)
     {before at : Output} {stage : Stage}
     (reaches : Reaches units_of old (remainder_of (state c)) before at stage) where
-  -- a run is taken
+  -- a run without malformed sequences is taken
   pub after_run : {n : C} {then : Output} {took : ℕ} {rest : List ℕ} → rest ≡ unread stage
       → TakesRun units_of state c n rest took at then
       → Progress units_of old (remainder_of (state n)) stage.src stage.last stage.mode before then
       (stage.read + took) stage.replaced
   after_run {n} {then} {took} is_rest given =
       let run = subst (λ x. TakesRun units_of state c n x took at then) is_rest given in
-      past_run reaches run.run run.none_malformed
+      progress_at (reaches_run stage run.run reaches (λ _. run.none_malformed)) refl
+      (ap (λ b. stage.replaced || b) run.none_malformed ∙ or_false stage.replaced)
 
   pub stays : IsNextEvent state c stage.src stage.read stage.last NeedsInput
       → DecoderCallInto units_of old (remainder_of (state c)) stage.src stage.last stage.mode before

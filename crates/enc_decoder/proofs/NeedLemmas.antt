@@ -82,13 +82,6 @@ pub needed_clean : (mode : DecodeErrorMode) (ss ts : List Sequence)
 needed_clean Replacement ss ts n = refl
 needed_clean (Fatal keeps) ss ts n = before_clean keeps ss ts (n refl)
 
--- one that is malformed ends it
-before_cut : (keeps : Bool) (ss : List Sequence) (s : Sequence) (ts : List Sequence)
-    → any_malformed ss ≡ false → is_malformed s.kind ≡ true
-    → sequences_before_malformed keeps (ss ++ s ∷ ts) ≡ ss ++ cond keeps (s ∷ []) []
-before_cut keeps ss s ts n m = before_clean keeps ss (s ∷ ts) n
-    ∙ ap (λ x. ss ++ x) (cond-true _ _ _ m)
-
 -- determined sequences come first
 
 pub at_end : (last : Bool) (remaining : List ℕ → List Sequence) (x : List ℕ) (ss : List Sequence)
@@ -120,26 +113,22 @@ module _ (units_of : ℕ → List ℕ) where
       ap (λ t. length (units_of_text units_of t)) (append-nil s.text ∙ is_text)
 
   -- after one that is reported nothing more is needed
-  needed_cut : (mode : DecodeErrorMode) (put : List Sequence) (s : Sequence) (ts : List Sequence)
-      → any_malformed put ≡ false → is_malformed s.kind ≡ true → s.text ≡ 0xFFFD ∷ []
-      → is_replacement_mode mode ≡ false
-      → needed_units units_of mode (put ++ s ∷ ts) ≡ units units_of put + kept_room units_of mode
-  needed_cut Replacement put s ts valid malformed replaced fatal = absurd (false≢true (sym fatal))
-  needed_cut (Fatal true) put s ts valid malformed replaced fatal =
-      ap (units units_of) (before_cut true put s ts valid malformed)
-      ∙ units-both units_of put (s ∷ [])
-      ∙ ap (λ k. units units_of put + k)
-      (units-one s (0xFFFD ∷ []) replaced ∙ ap length (append-nil (units_of 0xFFFD)))
-  needed_cut (Fatal false) put s ts valid malformed replaced fatal =
-      ap (units units_of) (before_cut false put s ts valid malformed) ∙ units-both units_of put []
+  reported_need : (mode : DecodeErrorMode) (s : Sequence) (ts : List Sequence)
+      → is_malformed s.kind ≡ true → s.text ≡ 0xFFFD ∷ [] → is_replacement_mode mode ≡ false
+      → needed_units units_of mode (s ∷ ts) ≡ kept_room units_of mode
+  reported_need Replacement s ts malformed is_text fatal = absurd (false≢true (sym fatal))
+  reported_need (Fatal true) s ts malformed is_text fatal =
+      ap (units units_of) (cond-true _ _ _ malformed) ∙ units-one s (0xFFFD ∷ []) is_text
+      ∙ ap length (append-nil (units_of 0xFFFD))
+  reported_need (Fatal false) s ts malformed is_text fatal =
+      ap (units units_of) (cond-true _ _ _ malformed)
 
   kept_fits : (mode : DecodeErrorMode) (n room : ℕ)
       → (keeps_room mode ≡ true → n + length (units_of 0xFFFD) ≤ room) → n ≤ room
-      → is_replacement_mode mode ≡ false
       → n + kept_room units_of mode ≤ room
-  kept_fits Replacement n room kept fits fatal = absurd (false≢true (sym fatal))
-  kept_fits (Fatal true) n room kept fits fatal = kept refl
-  kept_fits (Fatal false) n room kept fits fatal = omega (arith, fits)
+  kept_fits Replacement n room kept fits = omega (arith, fits)
+  kept_fits (Fatal true) n room kept fits = kept refl
+  kept_fits (Fatal false) n room kept fits = omega (arith, fits)
 
 module _ {units_of : ℕ → List ℕ} {old new : Remainder} (c : Call)
     (call : IsCall units_of old new c) where
@@ -200,14 +189,14 @@ module _ {units_of : ℕ → List ℕ} {old new : Remainder} (c : Call)
           )
         ]
 
+  needed_past : (ts : List Sequence) → need (call.put ++ ts) ≡ put_units + need ts
+  needed_past ts = ap (units units_of) (needed_clean c.mode call.put ts none_malformed)
+      ∙ units-both units_of call.put (needed_sequences c.mode ts)
+
   -- where all that is done was put out
   module _ (all_put : call.done ≡ call.put) where
     needed_put : (ts : List Sequence) → need (call.done ++ ts) ≡ put_units + need ts
-    needed_put ts =
-        ap (units units_of) (needed_clean c.mode call.done ts
-        (λ fatal. ap any_malformed all_put ∙ none_malformed fatal))
-        ∙ units-both units_of call.done (needed_sequences c.mode ts)
-        ∙ ap (λ ss. units units_of ss + need ts) all_put
+    needed_put ts = ap (λ ss. need (ss ++ ts)) all_put ∙ needed_past ts
 
     left : (n : ℕ) → Exceeds (put_units + n) ↔ NeedExceeds units_of c.mode new rest c.last n
     left n = (
@@ -306,8 +295,9 @@ module _ {units_of : ℕ → List ℕ} {old new : Remainder} (c : Call)
     needed_all ts =
         ap (λ ss. need (ss ++ ts)) stops.then_next
         ∙ ap need (append_assoc call.put (stops.next ∷ []) ts)
-        ∙ needed_cut units_of c.mode call.put stops.next ts (none_malformed stops.not_replaced)
-        stops.malformed stops.replacement stops.not_replaced
+        ∙ needed_past (stops.next ∷ ts)
+        ∙ ap (λ k. put_units + k) (reported_need units_of c.mode stops.next ts stops.malformed
+        stops.replacement stops.not_replaced)
 
     bounded : (n : ℕ) → Exceeds n → n < put_units + kept
     bounded n exceeds =
@@ -320,7 +310,7 @@ module _ {units_of : ℕ → List ℕ} {old new : Remainder} (c : Call)
         λ exceeds. absurd (omega (
           arith,
           bounded c.room exceeds,
-          kept_fits units_of c.mode put_units c.room stops.room_kept fits stops.not_replaced,
+          kept_fits units_of c.mode put_units c.room stops.room_kept fits,
         )),
       );
       reaches = reaches (λ _. kept) needed_all;

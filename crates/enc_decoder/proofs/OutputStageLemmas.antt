@@ -1,13 +1,16 @@
 -- How far calls have come over an output, and the call that goes on there.
+use Rattle.enc_decoder.proofs.SequenceLemmas.{or_false}
+use Rattle.enc_decoder.proofs.StageLemmas.{start_stage}
+use Rattle.enc_decoder.proofs.LeavesLemmas.{nothing_read}
 use Rattle.std.proofs.Common.{◌≡◌, ℕ, ◌+◌, ◌-◌, ◌≤◌, Bool, true, false, List, [], ◌++◌, length, drop, refl, ap, ◌∙◌}
-use Rattle.std.proofs.Common.{sym, arith, append-nil, ◌||◌, subst, inl}
+use Rattle.std.proofs.Common.{sym, append-nil, subst}
 use Rattle.enc_units.specs.declared.decoder_result.DecoderResult.{DecoderResult}
 use Rattle.enc_units.specs.declared.decoder_result.DecoderResult.TheVariants.{Malformed}
 use Rattle.enc_units.specs.Output.{Output, with_appended}
 use Rattle.enc_units.proofs.OutputLemmas.{with_appended-nil, with_appended-with_appended, room_left}
 use Rattle.enc_decoder.specs.Sequence.{Sequence}
 use Rattle.enc_decoder.specs.Remainder.{Remainder, AreBytes}
-use Rattle.enc_decoder.specs.Call.{RawDecoderCall, DecoderCallInto, DecodeErrorMode, is_replacement_mode, keeps_room}
+use Rattle.enc_decoder.specs.Call.{DecoderCallInto, DecodeErrorMode, is_replacement_mode, keeps_room}
 use Rattle.enc_decoder.proofs.StageLemmas.{stage_after, stage_at, written_on}
 use Rattle.enc_decoder.proofs.StageLemmas.{Stage, HasWritten, nothing_written}
 use Rattle.enc_decoder.proofs.InnerCallLemmas.{reports_escape}
@@ -47,38 +50,23 @@ pub progress_at : {units_of : ℕ → List ℕ} {old now : Remainder} {before af
     {stage : Stage} {read : ℕ} {replaced : Bool} → Reaches units_of old now before after stage
     → stage.read ≡ read → stage.replaced ≡ replaced
     → Progress units_of old now stage.src stage.last stage.mode before after read replaced
-progress_at {units_of} {old} {now} {before} {after} {stage} {read} reaches same_read same_flag =
-    record {
-      done = stage.done;
-      wrote = stage.wrote;
-      reaches = subst (λ b. Reaches units_of old now before after
-          (record stage { room = before.room; read = read; replaced = b })) same_flag
-          (subst (λ n. Reaches units_of old now before after
-          (record stage { room = before.room; read = n })) same_read
-          (subst (λ r. Reaches units_of old now before after (record stage { room = r }))
-          reaches.room reaches));
-    }
+progress_at {units_of} {old} {now} {before} {after} {stage} reaches same_read same_flag = record {
+  done = stage.done;
+  wrote = stage.wrote;
+  reaches = rw (← same_flag, ← same_read) (subst (λ r. Reaches units_of old now before after
+      (record stage { room = r })) reaches.room reaches);
+}
 
 -- nothing is read yet
 pub start : {units_of : ℕ → List ℕ} {old : Remainder} {src : List ℕ} {last : Bool}
     {mode : DecodeErrorMode} {before : Output} → AreBytes src
     → Progress units_of old old src last mode before before 0 false
-start {old} {before = before} bytes = record {
+start {old} {src} {last} {mode} {before} bytes = record {
   done = [];
   wrote = [];
   reaches = record {
     bytes = bytes;
-    leaves = record {
-      sure = 0;
-      surely = omega arith;
-      soon = omega arith;
-      within = omega arith;
-      residual = λ z _. refl;
-      goes_on = λ y _. refl;
-      set = refl;
-      shown = λ n _ _ z _. (_, refl);
-      none_after = inl refl;
-    };
+    leaves = nothing_read (start_stage src last mode before.room);
     written = nothing_written;
     accounted = append-nil old.pending;
     onto = sym (with_appended-nil before);
@@ -97,23 +85,21 @@ module _ {units_of : ℕ → List ℕ} {old now : Remainder} {before at : Output
   onto_on more onto = onto ∙ ap (λ o. with_appended o more) reaches.onto
       ∙ with_appended-with_appended before stage.wrote more
 
-  -- one more call, with the earlier ones, is a call
+  -- one more call, which replaces nothing, is a call with the earlier ones
   pub call_into : {new : Remainder} {then : Output} {mode : DecodeErrorMode}
-      {result : DecoderResult} {n : ℕ} {replaced : Bool}
-      → keeps_room stage.mode ≡ keeps_room mode
+      {result : DecoderResult} {n read : ℕ} → keeps_room stage.mode ≡ keeps_room mode
       → (is_replacement_mode stage.mode ≡ false → is_replacement_mode mode ≡ false)
       → ((l a : ℕ) → result ≡ Malformed l a → is_replacement_mode stage.mode ≡ false)
       → (next : DecoderCallInto units_of now new (drop stage.read stage.src) stage.last mode at then
-      result n replaced)
-      → (reports_escape (call_at stage mode at.room result n next.wrote replaced) next.call.call
-      ≡ true → reaches.leaves.sure ≤ stage.read + n)
-      → DecoderCallInto units_of old new stage.src stage.last stage.mode before then result
-      (stage.read + n) (stage.replaced || replaced)
-  call_into {new} {result = result} {n} {replaced} keeps fatal reported next sure = record {
+      result n false)
+      → (reports_escape (call_at stage mode at.room result n next.wrote false) next.call.call ≡ true
+      → reaches.leaves.sure ≤ stage.read + n) → stage.read + n ≡ read
+      → DecoderCallInto units_of old new stage.src stage.last stage.mode before then result read
+      stage.replaced
+  call_into keeps fatal reported next sure same_read = record {
     wrote = stage.wrote ++ next.wrote;
     onto = onto_on next.wrote next.onto;
-    call = subst (λ r. RawDecoderCall units_of old new stage.src stage.last stage.mode r result
-        (stage.read + n) (stage.wrote ++ next.wrote) (stage.replaced || replaced)) reaches.room
+    call = rw (← reaches.room, ← same_read, ← or_false stage.replaced)
         (raw_call reaches.bytes reaches.leaves reaches.written reaches.accounted
         (record { room = room_at; keeps = keeps; fatal = fatal; reported = reported })
         next.call sure);

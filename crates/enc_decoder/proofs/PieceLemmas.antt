@@ -41,10 +41,7 @@ module _ (rule : Rule) (set : ℕ) where
       ≡ whole ps mean ++ sequences_of rule set y
   whole_first [] mean y = refl
   whole_first (p ∷ ps) mean y =
-      ap (sequences_of rule set) (append_assoc p.bytes (piece.piece_bytes ps) y)
-      ∙ mean.0.1 (piece.piece_bytes ps ++ y)
-      ∙ ap (λ ss. record { bytes = p.bytes; text = p.char ∷ []; kind = mean.0.0; set = set } ∷ ss)
-      (whole_first ps mean.1 y)
+      rw (append_assoc, mean.0.1 (piece.piece_bytes ps ++ y), whole_first ps mean.1 y) refl
 
   whole_none : (ps : List Piece) (mean : AreReplaced ps) → ps ≡ [] → whole ps mean ≡ []
   whole_none [] mean e = refl
@@ -74,11 +71,8 @@ takes_each {units_of} v {src} {n} {before} {after} none_pending puts mean =
       taken = ss;
       within = reads.within;
       bytes = whole_bytes v.rule v.set reads.pieces mean ∙ reads.bytes;
-      first =
-          λ y _. ap (λ q. sequences_of v.rule v.set (q ++ (take n src ++ y))) none_pending
-          ∙ ap (λ x. sequences_of v.rule v.set (x ++ y)) (sym reads.bytes)
-          ∙ whole_first v.rule v.set reads.pieces mean y
-          ∙ ap (λ q. ss ++ sequences_of v.rule v.set (q ++ y)) (sym none_pending);
+      first = λ y _.
+          rw (none_pending, ← reads.bytes, whole_first v.rule v.set reads.pieces mean y) refl;
       next_state = ap (λ s. record v { set = s })
           (sym (whole_set v.rule v.set reads.pieces mean));
       scalars = subst AreScalars

@@ -69,11 +69,3 @@ module _ {units_of : ℕ → List ℕ} (v : CodecState) {src : List ℕ} {at n c
         none_pending = λ _. none_pending;
         none_taken = λ none. absurd (omega arith);
       })
-
--- the same over an output that is known to be as it was
-pub same_after : {units_of : ℕ → List ℕ} (v : CodecState) {src : List ℕ} {n : ℕ}
-    {before mid after : Output}
-    → after ≡ mid → TakesSequences units_of v v src n before mid
-    → TakesSequences units_of v v src n before after
-same_after {units_of} v {src} {n} {before} same taken =
-    subst (λ (o : Output). TakesSequences units_of v v src n before o) (sym same) taken

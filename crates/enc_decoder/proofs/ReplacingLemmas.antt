@@ -1,22 +1,21 @@
 -- Error mode "replacement" over an output: the loop that puts U+FFFD out for malformed sequences.
-use Rattle.std.proofs.Common.{◌≡◌, ℕ, ◌+◌, ◌-◌, ◌<◌, true, false, List, length, take, drop, refl}
-use Rattle.std.proofs.Common.{ap, ◌∙◌, sym, arith, subst, nat_le, length-append, length-drop, ◌||◌}
-use Rattle.std.proofs.Math.ListN.{length-take}
+use Rattle.std.proofs.Common.{◌≡◌, ℕ, ◌+◌, ◌-◌, ◌<◌, true, false, List, length, drop, refl}
+use Rattle.std.proofs.Common.{ap, ◌∙◌, sym, arith, subst, nat_le, length-drop, ◌||◌}
 use Rattle.std.proofs.lemmas.Bool.{false≢true, le-leb}
 use Rattle.enc_units.specs.declared.decoder_result.DecoderResult.{DecoderResult}
 use Rattle.enc_units.specs.declared.decoder_result.DecoderResult.TheVariants.{Malformed}
 use Rattle.enc_units.specs.Output.{Output, with_appended}
 use Rattle.enc_units.proofs.OutputLemmas.{with_appended-with_appended, room_left}
-use Rattle.enc_decoder.specs.Sequence.{sequence_bytes, any_malformed}
+use Rattle.enc_decoder.specs.Sequence.{any_malformed}
 use Rattle.enc_decoder.specs.Remainder.{Remainder}
 use Rattle.enc_decoder.specs.Call.{DecoderCallInto, Replacement, Fatal, is_replacement_mode, keeps_room}
 use Rattle.enc_decoder.specs.CallRecord.{Call, IsRawCall}
 use Rattle.enc_decoder.specs.CodecState.{CodecState, remainder_of}
 use Rattle.enc_decoder.specs.Taking.{TakesSequences}
-use Rattle.enc_decoder.proofs.SequenceLemmas.{sequence_bytes-one, or_false, or_true}
+use Rattle.enc_decoder.proofs.SequenceLemmas.{or_true}
 use Rattle.enc_decoder.proofs.ByteLemmas.{bytes-drop}
 use Rattle.enc_decoder.proofs.StageLemmas.{Stage}
-use Rattle.enc_decoder.proofs.InnerCallLemmas.{escape_is_fatal}
+use Rattle.enc_decoder.proofs.InnerCallLemmas.{escape_is_fatal, reported_within}
 use Rattle.enc_decoder.proofs.LeavesLemmas.{call_at}
 use Rattle.enc_decoder.proofs.SettledCallLemmas.{IsSettledIn, malformed_leaves, settled_written}
 use Rattle.enc_decoder.proofs.OutputStageLemmas.{Reaches, Progress, progress_at, room_at, call_into, reaches_on}
@@ -31,14 +30,11 @@ module _ {units_of : ℕ → List ℕ} {old now : Remainder} {before at : Output
       result n false
       → DecoderCallInto units_of old new stage.src stage.last stage.mode before then result
       (stage.read + n) stage.replaced
-  last_call {new} {then} {result} {n} none next =
-      subst (DecoderCallInto units_of old new stage.src stage.last stage.mode before then result
-      (stage.read + n)) (or_false stage.replaced)
-      (call_into reaches (ap keeps_room replaces) (λ _. refl)
+  last_call {result = result} {n} none next = call_into reaches (ap keeps_room replaces) (λ _. refl)
       (λ l a reported. absurd (none l a reported)) next
       (λ escape. absurd (false≢true (sym (escape_is_fatal {replaces = true}
       (call_at stage (Fatal true) at.room result n next.wrote false) result next.call.call
-      (λ l a reported. absurd (none l a reported)) escape)))))
+      (λ l a reported. absurd (none l a reported)) escape)))) refl
 
   -- a malformed sequence is replaced, and whole sequences are put out after it
   pub replaces_one : {v : CodecState} {then end after : Output} {n m l a : ℕ} {rest : List ℕ}
@@ -90,16 +86,9 @@ module _ {units_of : ℕ → List ℕ} {old now : Remainder} {before at : Output
         let stops = next.call.call.stops in
         omega (
           arith,
-          ap length next.call.accounted,
-          length-append now.pending (take n (drop stage.read stage.src)),
-          length-append (sequence_bytes next.call.call.done) new.pending,
-          ap length (ap sequence_bytes stops.then_next
-              ∙ sequence_bytes-one next.call.call.put stops.next),
-          length-append (sequence_bytes next.call.call.put) stops.next.bytes,
-          length-take n (drop stage.read stage.src),
+          reported_within stops next.call.accounted,
           length-drop stage.read stage.src,
           stops.not_empty,
-          stops.len,
           next.call.call.within,
           reaches.leaves.within,
         )

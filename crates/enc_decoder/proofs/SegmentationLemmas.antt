@@ -68,14 +68,10 @@ pub goes_on : (v w : CodecState) (x y : List ℕ) (done : List Sequence) → w.r
     → w.set ≡ set_after v.set done → v.pending ++ x ≡ sequence_bytes done ++ w.pending
     → AreFirstSequences done ((remainder_of v).sequences (x ++ y))
     → (remainder_of v).sequences (x ++ y) ≡ done ++ (remainder_of w).sequences y
-goes_on v w x y done r s p first =
-    first.1 ∙ ap (λ t. done ++ t)
+goes_on v w x y done same_rule set_is parts first =
+    rw (same_rule, set_is) (first.1 ∙ ap (λ ss. done ++ ss)
     (sequences_after-first v.rule v.set (v.pending ++ (x ++ y)) (w.pending ++ y) done first.0
-    first.1
-    (sym (append_assoc v.pending x y) ∙ ap (λ t. t ++ y) p
-    ∙ append_assoc (sequence_bytes done) w.pending y)
-    ∙ ap (λ n. sequences_of v.rule n (w.pending ++ y)) (sym s)
-    ∙ ap (λ (t : Rule). sequences_of t w.set (w.pending ++ y)) (sym r))
+    first.1 (rw (← append_assoc v.pending x, parts, append_assoc (sequence_bytes done)) refl)))
 
 -- the bytes before determine no more than the sequences done, if none is determined after them
 pub none_further : (v w : CodecState) (x : List ℕ) (done : List Sequence) → w.rule ≡ v.rule

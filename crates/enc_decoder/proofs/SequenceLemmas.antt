@@ -1,5 +1,5 @@
 -- Lists of sequences that follow one another.
-use Rattle.std.proofs.Common.{◌≡◌, ℕ, List, [], ◌∷◌, ◌++◌, refl, ap, ◌∙◌, sym, subst, append_assoc}
+use Rattle.std.proofs.Common.{◌≡◌, ℕ, List, [], ◌∷◌, ◌++◌, refl, sym, subst, append_assoc}
 use Rattle.std.proofs.Common.{◌||◌}
 use Rattle.std.proofs.lemmas.List.{append-nil}
 pub use Rattle.std.proofs.Math.Bool.{or_assoc, or-false as or_false, or-true as or_true}
@@ -10,35 +10,31 @@ use Rattle.enc_units.proofs.ScalarLemmas.{scalars-append}
 pub sequence_bytes-append : (ss ts : List Sequence)
     → sequence_bytes (ss ++ ts) ≡ sequence_bytes ss ++ sequence_bytes ts
 sequence_bytes-append [] ts = refl
-sequence_bytes-append (s ∷ ss) ts = ap (λ z. s.bytes ++ z) (sequence_bytes-append ss ts)
-    ∙ sym (append_assoc s.bytes (sequence_bytes ss) (sequence_bytes ts))
+sequence_bytes-append (s ∷ ss) ts =
+    rw (sequence_bytes-append ss ts, append_assoc s.bytes (sequence_bytes ss)) refl
 
 pub sequence_text-append : (ss ts : List Sequence)
     → sequence_text (ss ++ ts) ≡ sequence_text ss ++ sequence_text ts
 sequence_text-append [] ts = refl
-sequence_text-append (s ∷ ss) ts = ap (λ z. s.text ++ z) (sequence_text-append ss ts)
-    ∙ sym (append_assoc s.text (sequence_text ss) (sequence_text ts))
+sequence_text-append (s ∷ ss) ts =
+    rw (sequence_text-append ss ts, append_assoc s.text (sequence_text ss)) refl
 
 pub units_of_text-append : (units_of : ℕ → List ℕ) (a b : List ℕ)
     → units_of_text units_of (a ++ b) ≡ units_of_text units_of a ++ units_of_text units_of b
 units_of_text-append units_of [] b = refl
 units_of_text-append units_of (c ∷ cs) b =
-    ap (λ t. units_of c ++ t) (units_of_text-append units_of cs b)
-    ∙ sym (append_assoc (units_of c) (units_of_text units_of cs) (units_of_text units_of b))
+    rw (units_of_text-append units_of cs b, append_assoc (units_of c)) refl
 
 -- the units of two lists of sequences
 pub units-append : (units_of : ℕ → List ℕ) (ss ts : List Sequence)
     → units_of_text units_of (sequence_text (ss ++ ts)) ≡ units_of_text units_of (sequence_text ss)
     ++ units_of_text units_of (sequence_text ts)
-units-append units_of ss ts = ap (units_of_text units_of) (sequence_text-append ss ts)
-    ∙ units_of_text-append units_of (sequence_text ss) (sequence_text ts)
+units-append units_of ss ts = rw (sequence_text-append, units_of_text-append) refl
 
 pub any_malformed-append : (ss ts : List Sequence)
     → any_malformed (ss ++ ts) ≡ (any_malformed ss || any_malformed ts)
 any_malformed-append [] ts = refl
-any_malformed-append (s ∷ ss) ts =
-    ap (λ z. is_malformed s.kind || z) (any_malformed-append ss ts)
-    ∙ sym (or_assoc (is_malformed s.kind) (any_malformed ss) (any_malformed ts))
+any_malformed-append (s ∷ ss) ts = rw (any_malformed-append ss ts, or_assoc) refl
 
 pub set_after-append : (set : ℕ) (ss ts : List Sequence)
     → set_after set (ss ++ ts) ≡ set_after (set_after set ss) ts
@@ -47,9 +43,8 @@ set_after-append set (s ∷ ss) ts = set_after-append s.set ss ts
 
 pub scalars_of-append : (ss ts : List Sequence) → AreScalars (sequence_text ss)
     → AreScalars (sequence_text ts) → AreScalars (sequence_text (ss ++ ts))
-scalars_of-append ss ts h k =
-    subst AreScalars (sym (sequence_text-append ss ts))
-    (scalars-append (sequence_text ss) (sequence_text ts) h k)
+scalars_of-append ss ts scalars also =
+    rw sequence_text-append (scalars-append (sequence_text ss) (sequence_text ts) scalars also)
 
 -- one sequence more
 
@@ -60,17 +55,13 @@ scalars_of-one ss s h k =
 
 pub sequence_bytes-one : (ss : List Sequence) (s : Sequence)
     → sequence_bytes (ss ++ s ∷ []) ≡ sequence_bytes ss ++ s.bytes
-sequence_bytes-one ss s = sequence_bytes-append ss (s ∷ [])
-    ∙ ap (λ t. sequence_bytes ss ++ t) (append-nil s.bytes)
+sequence_bytes-one ss s = rw (sequence_bytes-append, append-nil) refl
 
 pub units-one : (units_of : ℕ → List ℕ) (ss : List Sequence) (s : Sequence)
     → units_of_text units_of (sequence_text (ss ++ s ∷ []))
     ≡ units_of_text units_of (sequence_text ss) ++ units_of_text units_of s.text
-units-one units_of ss s = units-append units_of ss (s ∷ [])
-    ∙ ap (λ t. units_of_text units_of (sequence_text ss) ++ units_of_text units_of t)
-    (append-nil s.text)
+units-one units_of ss s = rw (units-append, append-nil) refl
 
 pub any_malformed-one : (ss : List Sequence) (s : Sequence)
     → any_malformed (ss ++ s ∷ []) ≡ (any_malformed ss || is_malformed s.kind)
-any_malformed-one ss s = any_malformed-append ss (s ∷ [])
-    ∙ ap (λ b. any_malformed ss || b) (or_false (is_malformed s.kind))
+any_malformed-one ss s = rw (any_malformed-append, or_false) refl

@@ -1,21 +1,20 @@
 -- What a call leaves that has read its chunk, or whose malformed sequence is replaced.
-use Rattle.std.proofs.Common.{◌≡◌, ℕ, ◌+◌, ◌<◌, Bool, true, false, List, [], ◌∷◌, ◌++◌, length, take, drop}
-use Rattle.std.proofs.Common.{refl, ap, ◌∙◌, sym, arith, append_assoc, ◌||◌, inl, inr, subst, ◌⊎◌}
+use Rattle.std.proofs.Common.{◌≡◌, ℕ, ◌+◌, ◌<◌, Bool, true, false, List, [], ◌∷◌, ◌++◌, length, take}
+use Rattle.std.proofs.Common.{refl, ap, ◌∙◌, sym, arith, append_assoc, inr, subst}
 use Rattle.std.proofs.lemmas.Bool.{false≢true}
 use Rattle.std.proofs.lemmas.List.{length-append, take-append-le, drop-append-le, append-nil}
-use Rattle.std.proofs.Math.Seq.{take-append_seam, take-length}
+use Rattle.std.proofs.Math.Seq.{take-length}
 use Rattle.enc_units.specs.declared.decoder_result.DecoderResult.{DecoderResult}
 use Rattle.enc_units.specs.declared.decoder_result.DecoderResult.TheVariants.{InputEmpty, OutputFull, Malformed}
-use Rattle.enc_units.specs.Output.{AreScalars, units_of_text}
-use Rattle.enc_decoder.specs.Sequence.{Sequence, sequence_text, is_repeated_escape, any_malformed}
-use Rattle.enc_decoder.specs.Remainder.{Remainder, AreBytes, AreFirstSequences, Determines}
+use Rattle.enc_units.specs.Output.{AreScalars}
+use Rattle.enc_decoder.specs.Sequence.{Sequence, is_repeated_escape}
+use Rattle.enc_decoder.specs.Remainder.{Remainder, AreBytes, Determines}
 use Rattle.enc_decoder.specs.Call.{DecodeErrorMode, Replacement, ReadsToReported, reaches_end, keeps_room}
 use Rattle.enc_decoder.specs.Call.{is_replacement_mode}
 use Rattle.enc_decoder.specs.CallRecord.{Call, IsRawCall}
 use Rattle.enc_decoder.proofs.SequenceLemmas.{scalars_of-one, units-one, any_malformed-one, or_true}
-use Rattle.enc_decoder.proofs.ByteLemmas.{bytes-append, determines_by_more}
+use Rattle.enc_decoder.proofs.ByteLemmas.{determines_with, determines_by_more}
 use Rattle.enc_decoder.proofs.StageLemmas.{Stage, HasWritten}
-use Rattle.enc_decoder.proofs.InnerInputLemmas.{most_or_more}
 use Rattle.enc_decoder.proofs.LeavesLemmas.{Leaves}
 
 -- the text after a call, with U+FFFD for the sequence that it reports
@@ -127,14 +126,9 @@ module _ {units_of : ℕ → List ℕ} {old mid : Remainder} (c : Call) where
       let stops = call.call.stops in
       let replaces = is_settled.replaces l a refl in
       record {
-        text = ap (λ x. x ++ units_of 0xFFFD) call.call.text
-            ∙ ap (λ x. units_of_text units_of (sequence_text call.call.put) ++ x)
-            (sym (append-nil (units_of 0xFFFD))
-            ∙ ap (units_of_text units_of) (sym stops.replacement))
-            ∙ sym (units-one units_of call.call.put stops.next)
-            ∙ ap (λ x. units_of_text units_of (sequence_text x)) (sym stops.then_next);
-        scalars = subst (λ x. AreScalars (sequence_text x)) (sym stops.then_next)
-            (scalars_of-one call.call.put stops.next call.call.scalars
+        text = rw (stops.then_next, units-one, stops.replacement, append-nil)
+            (ap (λ x. x ++ units_of 0xFFFD) call.call.text);
+        scalars = rw stops.then_next (scalars_of-one call.call.put stops.next call.call.scalars
             (subst AreScalars (sym stops.replacement) refl));
         fits = omega (
           arith,
@@ -142,10 +136,7 @@ module _ {units_of : ℕ → List ℕ} {old mid : Remainder} (c : Call) where
           ap length call.call.text,
           stops.room_kept (sym is_settled.keeps ∙ ap keeps_room replaces),
         );
-        flag = sym (ap any_malformed stops.then_next
-            ∙ any_malformed-one call.call.put stops.next
-            ∙ ap (λ b. any_malformed call.call.put || b) stops.malformed
-            ∙ or_true (any_malformed call.call.put));
+        flag = rw (stops.then_next, any_malformed-one, stops.malformed, or_true) refl;
         none_replaced = λ is_fatal.
             absurd (false≢true (sym is_fatal ∙ ap is_replacement_mode replaces));
       }
@@ -166,26 +157,13 @@ module _ {old mid : Remainder} {stage : Stage} (more : List ℕ) (bytes : AreByt
         surely = leaves.surely;
         soon = leaves.soon;
         within = omega (arith, leaves.within, length-append stage.src more);
-        residual = λ z ends. ap old.sequences (append_assoc stage.src more z)
-            ∙ leaves.residual (more ++ z) (going (more ++ z))
-            ∙ ap (λ x. stage.done ++ mid.sequences x)
-            (sym (append_assoc (drop stage.read stage.src) more z)
-            ∙ ap (λ x. x ++ z) (sym (drop-append-le stage.read stage.src more leaves.within)));
-        goes_on = λ y first. ap (λ x. old.sequences (x ++ y)) same_taken
-            ∙ leaves.goes_on y
-            (subst (λ x. AreFirstSequences stage.done (old.sequences (x ++ y))) same_taken first);
+        residual = λ z ends.
+            let same_rest = drop-append-le stage.read stage.src more leaves.within in
+            rw (append_assoc, same_rest, append_assoc)
+            (leaves.residual (more ++ z) (going (more ++ z)));
+        goes_on = λ y first. rw same_taken (leaves.goes_on y (rw same_taken at first));
         set = leaves.set;
-        shown = λ n is_sure within_all. elim (most_or_more n (length stage.src)) [
-          | inl within_src ↦ subst (λ x. Determines old.sequences x stage.done)
-              (sym (take-append-le n stage.src more within_src))
-              (leaves.shown n is_sure within_src)
-          | inr past_src ↦ determines_by_more old.sequences (stage.src ++ more) (length stage.src) n
-              stage.done (bytes-append stage.src more bytes also) (omega arith)
-              (subst (λ x. Determines old.sequences x stage.done)
-              (sym (take-append_seam stage.src more))
-              (λ z _. (_, leaves.residual z (going z))))
-        ];
-        none_after = subst (λ x. (stage.read ≡ 0)
-            ⊎ ((s : Sequence) → Determines old.sequences x (stage.done ++ s ∷ []) → ⊥))
-            (sym same_taken) leaves.none_after;
+        shown = λ n is_sure _. determines_with old.sequences stage.src more stage.done bytes also
+            (λ z _. (_, leaves.residual z (going z))) n (leaves.shown n is_sure);
+        none_after = rw same_taken leaves.none_after;
       }

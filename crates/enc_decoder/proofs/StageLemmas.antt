@@ -87,14 +87,10 @@ pub written_on : {units_of : ℕ → List ℕ} {stage : Stage} {n : ℕ} {ss : L
     → HasWritten units_of (stage_at stage n ss more replaced)
     → HasWritten units_of (stage_after stage n ss more replaced)
 written_on {units_of} {stage} {ss = ss} {more} {replaced} written next = record {
-  text = ap (λ x. x ++ more) written.text
-      ∙ ap (λ x. units_of_text units_of (sequence_text stage.done) ++ x) next.text
-      ∙ sym (units-append units_of stage.done ss);
+  text = rw (written.text, next.text, units-append) refl;
   scalars = scalars_of-append stage.done ss written.scalars next.scalars;
   fits = omega (arith, written.fits, next.fits, length-append stage.wrote more);
-  flag = ap (λ b. b || replaced) written.flag
-      ∙ ap (λ b. any_malformed stage.done || b) next.flag
-      ∙ sym (any_malformed-append stage.done ss);
+  flag = rw (written.flag, next.flag, any_malformed-append) refl;
   none_replaced = λ is_fatal.
       rw (written.none_replaced is_fatal, next.none_replaced is_fatal) refl;
 }

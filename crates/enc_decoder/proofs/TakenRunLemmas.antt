@@ -1,5 +1,5 @@
 -- A run of whole sequences leads from a stage of calls to a later one.
-use Rattle.std.proofs.Common.{◌≡◌, ℕ, ◌+◌, ◌<◌, false, List, [], ◌++◌, ◌||◌}
+use Rattle.std.proofs.Common.{◌≡◌, ℕ, ◌<◌, false, List, [], ◌++◌}
 use Rattle.std.proofs.Common.{take, refl, ap, ◌∙◌, sym, arith, append-nil, inl, inr}
 use Rattle.std.proofs.lemmas.Bool.{cases_lt}
 use Rattle.enc_units.specs.Output.{Output, units_of_text}
@@ -9,11 +9,10 @@ use Rattle.enc_decoder.specs.Call.{is_replacement_mode}
 use Rattle.enc_decoder.specs.CodecState.{CodecState, remainder_of}
 use Rattle.enc_decoder.specs.Taking.{TakesSequences}
 use Rattle.enc_decoder.proofs.StageLemmas.{stage_after}
-use Rattle.enc_decoder.proofs.SequenceLemmas.{or_false}
 use Rattle.enc_decoder.proofs.EmissionLemmas.{nothing_pending}
 use Rattle.enc_decoder.proofs.StateLeavesLemmas.{LeadsOn, unread}
 use Rattle.enc_decoder.proofs.StageLemmas.{Stage}
-use Rattle.enc_decoder.proofs.OutputStageLemmas.{Reaches, Progress, progress_at, room_at, reaches_state}
+use Rattle.enc_decoder.proofs.OutputStageLemmas.{Reaches, room_at, reaches_state}
 
 -- At a stage, a codec takes whole sequences: the next n bytes lead it from the state v to w, and
 -- their text is put out, from the output `at` to `then`.
@@ -64,15 +63,3 @@ module _ {units_of : ℕ → List ℕ} {v w : CodecState} (stage : Stage) {n : �
         flag = refl;
         none_replaced = none_replaced;
       }) run.written
-
--- The same as a loop knows it, after a run without malformed sequences: `replaced` stays as it was.
-pub past_run : {units_of : ℕ → List ℕ} {v w : CodecState} {old : Remainder}
-    {before at then : Output} {stage : Stage} {n : ℕ}
-    → Reaches units_of old (remainder_of v) before at stage
-    → (run : TakesSequences units_of v w (unread stage) n at then)
-    → any_malformed run.taken ≡ false
-    → Progress units_of old (remainder_of w) stage.src stage.last stage.mode before then
-    (stage.read + n) stage.replaced
-past_run {stage = stage} reaches run none_malformed =
-    progress_at (reaches_run stage run reaches (λ _. none_malformed)) refl
-    (ap (λ b. stage.replaced || b) none_malformed ∙ or_false stage.replaced)

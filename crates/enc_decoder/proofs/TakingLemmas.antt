@@ -3,10 +3,10 @@ use Rattle.std.proofs.Common.{◌≡◌, ℕ, zero, suc, ◌+◌, ◌<◌, List,
 use Rattle.std.proofs.Common.{drop, refl, ap, ◌∙◌, sym, subst, arith, append_assoc, length-append}
 use Rattle.std.proofs.Common.{length-drop, take-add, drop-cons, get_or-drop, inl, inr}
 use Rattle.std.proofs.lemmas.Bool.{cases_lt}
-use Rattle.enc_units.specs.Output.{Output, with_appended, units_of_text}
+use Rattle.enc_units.specs.Output.{Output, units_of_text}
 use Rattle.enc_units.proofs.OutputLemmas.{with_appended-nil, with_appended-with_appended, room_left}
-use Rattle.enc_decoder.specs.Sequence.{sequence_bytes, sequence_text, set_after}
-use Rattle.enc_decoder.specs.CodecState.{CodecState, remainder_of}
+use Rattle.enc_decoder.specs.Sequence.{sequence_text, set_after}
+use Rattle.enc_decoder.specs.CodecState.{CodecState}
 use Rattle.enc_decoder.specs.CodecLaw.{MayFollow}
 use Rattle.enc_decoder.specs.Taking.{TakesSequences, TakesRun}
 use Rattle.enc_decoder.proofs.SequenceLemmas.{sequence_bytes-append, units-append, any_malformed-append}
@@ -72,16 +72,14 @@ module _ {units_of : ℕ → List ℕ} {u v : CodecState} {src : List ℕ} {read
       record {
         taken = first.taken ++ next.taken;
         within = omega (arith, first.within, next.within, length-drop read src);
-        bytes = sequence_bytes-append first.taken next.taken
-            ∙ ap (λ z. z ++ sequence_bytes next.taken) first.bytes
-            ∙ ap (λ z. take read src ++ z) next.bytes
-            ∙ sym (take-add read more src);
-        first = λ y may_follow. ap (remainder_of u).sequences
-            (ap (λ z. z ++ y) (take-add read more src) ∙ append_assoc (take read src) bytes y)
-            ∙ first.first (bytes ++ y) (follows_first src read more y may_follow)
-            ∙ ap (λ ss. first.taken ++ ss)
-            (next.first y (follows_second src read more y may_follow))
-            ∙ sym (append_assoc first.taken next.taken ((remainder_of w).sequences y));
+        bytes = rw (sequence_bytes-append, first.bytes, next.bytes, take-add read more src) refl;
+        first = λ y may_follow. rw (
+          take-add read more src,
+          append_assoc (take read src) bytes y,
+          first.first (bytes ++ y) (follows_first src read more y may_follow),
+          next.first y (follows_second src read more y may_follow),
+          append_assoc first.taken next.taken,
+        ) refl;
         next_state = next.next_state
             ∙ ap (λ (s : CodecState). record s { set = set_after s.set next.taken })
             first.next_state
@@ -95,9 +93,12 @@ module _ {units_of : ℕ → List ℕ} {u v : CodecState} {src : List ℕ} {read
           next.fits,
           room_left before mid first_units first.written,
         );
-        written = next.written ∙ ap (λ o. with_appended o more_units) first.written
-            ∙ with_appended-with_appended before first_units more_units
-            ∙ ap (with_appended before) (sym both);
+        written = rw (
+          next.written,
+          first.written,
+          with_appended-with_appended before first_units more_units,
+          both,
+        ) refl;
         none_pending = λ some. elim (cases_lt 0 read) [
           | inl some_first ↦ first.none_pending some_first
           | inr none_first ↦ sym (ap (λ (s : CodecState). s.pending) first.next_state)

@@ -57,13 +57,8 @@ grown_or : {old mid : Remainder} {stage : Stage} (more : List ℕ) (was last : B
     → (was ≡ true → (last ≡ true) × (more ≡ [])) → (leaves : Leaves old mid stage)
     → (e : Leaves old mid (record stage { src = stage.src ++ more; last = last }))
     × (e.sure ≡ leaves.sure)
-grown_or {old} {mid} {stage} more true last is_last bytes also at_end leaves =
-    let no_more : stage.src ≡ stage.src ++ more =
-    sym (append-nil stage.src) ∙ ap (λ x. stage.src ++ x) (sym (at_end refl).1) in
-    subst (λ x. (e : Leaves old mid (record stage { src = x; last = last }))
-    × (e.sure ≡ leaves.sure)) no_more
-    (subst (λ b. (e : Leaves old mid (record stage { last = b })) × (e.sure ≡ leaves.sure))
-    (is_last ∙ sym (at_end refl).0) (leaves, refl))
+grown_or {stage = stage} more true last is_last bytes also at_end leaves =
+    rw ((at_end refl).1, append-nil stage.src, (at_end refl).0 ∙ sym is_last) (leaves, refl)
 grown_or more false last not_last bytes also at_end leaves =
     (grown more bytes also leaves last not_last, refl)
 

@@ -34,30 +34,24 @@ entry_is_basic n c e = by_test (is_entry_code_point Basic n) refl e
         omega (arith, in_basic_plane, same_some n c is_char)
     by_test false f is_char = absurd (cc)
 
+either_is_basic : (t : Bool) (x y : Option ℕ) (c : ℕ) → (x ≡ Some c → c < 0x1_0000)
+    → (y ≡ Some c → c < 0x1_0000) → cond t x y ≡ Some c → c < 0x1_0000
+either_is_basic true x y c first second is_char = first is_char
+either_is_basic false x y c first second is_char = second is_char
+
 index_is_basic : (runs : List Run) (p c : ℕ) → index_at Basic runs p ≡ Some c → c < 0x1_0000
-index_is_basic [] p c e = absurd (cc)
-index_is_basic (run ∷ runs) p c e =
-    by_test (nat_le run.0 p && nat_le p run.1) (index_is_basic runs p c) e
-  where
-    by_test : (t : Bool) → (index_at Basic runs p ≡ Some c → c < 0x1_0000)
-        → cond t (entry_character Basic (run.2 + (p - run.0))) (index_at Basic runs p) ≡ Some c
-        → c < 0x1_0000
-    by_test true h is_char = entry_is_basic (run.2 + (p - run.0)) c is_char
-    by_test false h is_char = h is_char
+index_is_basic [] p c = λ is_char. absurd (cc)
+index_is_basic (run ∷ runs) p c = either_is_basic (nat_le run.0 p && nat_le p run.1) _ _ c
+    (entry_is_basic (run.2 + (p - run.0)) c) (index_is_basic runs p c)
 
 single_byte_is_basic : (runs : List Run) → AreBasic (single_byte_char runs)
-single_byte_is_basic runs b c is_byte e = by_test (nat_lt b 0x80) e
-  where
-    by_test : (t : Bool) → cond t (Some b) (index_at Basic runs (b - 0x80)) ≡ Some c → c < 0x1_0000
-    by_test true is_char = omega (arith, is_byte, same_some b c is_char)
-    by_test false is_char = index_is_basic runs (b - 0x80) c is_char
+single_byte_is_basic runs b c is_byte = either_is_basic (nat_lt b 0x80) _ _ c
+    (λ is_char. omega (arith, is_byte, same_some b c is_char)) (index_is_basic runs (b - 0x80) c)
 
 x_user_defined_is_basic : AreBasic x_user_defined_char
-x_user_defined_is_basic b c is_byte e = by_test (nat_lt b 0x80) e
-  where
-    by_test : (t : Bool) → cond t (Some b) (Some (0xF780 + (b - 0x80))) ≡ Some c → c < 0x1_0000
-    by_test true is_char = omega (arith, is_byte, same_some b c is_char)
-    by_test false is_char = omega (arith, is_byte, same_some (0xF780 + (b - 0x80)) c is_char)
+x_user_defined_is_basic b c is_byte = either_is_basic (nat_lt b 0x80) _ _ c
+    (λ is_char. omega (arith, is_byte, same_some b c is_char))
+    (λ is_char. omega (arith, is_byte, same_some (0xF780 + (b - 0x80)) c is_char))
 
 module _ (character : ℕ → Option ℕ) (is_basic : AreBasic character) where
   abbrev rule : Rule

@@ -1,6 +1,6 @@
 use Rattle.std.proofs.Common.{◌∙◌, sym, rules}
 use Rattle.enc_decoder.proofs.TakingLemmas.{takes_nothing}
-use Rattle.enc_decoder.proofs.ReplacedCharLemmas.{one_more, same_after}
+use Rattle.enc_decoder.proofs.ReplacedCharLemmas.{one_more}
 use Rattle.enc_decoder.proofs.replaced.replace_some.Goals as goal
 
 pub loop-at-init : goal.loop-at-init
@@ -10,7 +10,7 @@ loop-at-init g c =
 
 pub returns-then-not-put : goal.returns-then-not-put
 returns-then-not-put g c =
-    same_after _ (c.put.ensures.unchanged c.if-not-put.true) c.loop-at.invariant
+    rw (c.put.ensures.unchanged c.if-not-put.true) c.loop-at.invariant
 
 pub loop-at-preserved : goal.loop-at-preserved
 loop-at-preserved g c =
