@@ -15,17 +15,9 @@ use Rattle.enc_stream.proofs.EndOfInputLemmas.{finishes}
 pub ends_read : {units_of : ℕ → List ℕ} {old new : DecoderState} (c : Call)
     → Decodes units_of old new c → has_finished new ≡ true
     → (c.last ≡ true) × (c.read ≡ length c.src)
-ends_read {units_of} {old} {new} c decodes finished =
-    let ends = at_end c.last c.result (sym (finishes decodes) ∙ finished) in (
-      ends.0,
-      all_read c.result decodes ends.1,
-    )
-  where
-    all_read : (result : DecoderResult) → Decodes units_of old new (record c { result = result })
-        → result ≡ InputEmpty → c.read ≡ length c.src
-    all_read InputEmpty by_result is_empty = by_result.call.stops.all_read
-    all_read OutputFull by_result is_empty = cc
-    all_read (Malformed l a) by_result is_empty = cc
+ends_read c decodes finished =
+    let ends = at_end c.last c.result (sym (finishes decodes) ∙ finished) in
+    let at_empty = rw ends.1 at decodes in (ends.0, at_empty.call.stops.all_read)
 
 -- Bytes unread count twice, and those pending once: where a call doesn't end the input, fewer are
 -- left.

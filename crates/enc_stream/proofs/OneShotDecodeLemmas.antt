@@ -176,8 +176,7 @@ pub asks_for_memory : {handling : BomHandling} {e : Encoding} {bytes : List ℕ}
     → false ≡ (length bytes == 0) → length_answered ≢ None → MayLackMemory handling e bytes
 asks_for_memory {bytes} is_fresh length_is not_empty fits = record {
   some = something not_empty;
-  length_fits = λ none. fits (length_is
-      ∙ ap (λ d. max_length Utf8Reporting d (length bytes)) is_fresh ∙ none);
+  length_fits = rw (length_is, is_fresh) at fits;
 }
 
 -- The first call answers `OutputFull`, and the length query after it overflows usize.
@@ -196,9 +195,7 @@ too_long_after is_fresh length_is exact coder.InputEmpty goes_on call passes = a
 too_long_after {handling} {e} {bytes} {new} is_fresh length_is {room} exact coder.OutputFull
     goes_on {read} {wrote} {replaced} call passes =
     let exactly_for_first : HasRoomExactlyFor (first_length handling e bytes) room =
-    subst (λ (n : Option ℕ). HasRoomExactlyFor n room)
-    (length_is ∙ ap (λ d. max_length Utf8Reporting d (length bytes)) is_fresh)
-    exact in
+    rw (length_is, is_fresh) at exact in
     record {
       room = room;
       enough = has_room _ room exactly_for_first;
@@ -207,11 +204,7 @@ too_long_after {handling} {e} {bytes} {new} is_fresh length_is {room} exact code
       read = read;
       wrote = wrote;
       replaced = replaced;
-      call =
-          subst (λ d. AnswersDecodeReplacing encode_utf8 4 d new bytes true room coder.OutputFull
-          read wrote replaced)
-          is_fresh
-          call;
+      call = rw is_fresh at call;
       passes = passes;
     }
 
@@ -250,26 +243,24 @@ module _ {e : Encoding} {old new : DecoderState} (is_fresh : old ≡ fresh_decod
       (drop (length before) after) false
       → take (length before) after ≡ before → result ≡ InputEmpty
       → Some after ≡ utf_8_without_replacement e bytes
-  strict_end InputEmpty {bytes} {before} none_before decodes keeps at_end =
+  strict_end result {bytes} {before} none_before decodes keeps at_end =
       let none_so_far : HasDecoded Off e bytes bytes true old before false =
       rw (is_fresh, none_before) (none_decoded Off e bytes) in
-      let decoded = goes_on none_so_far decodes keeps (sym decodes.call.stops.only_put) in
-      let finished = finishes decodes in
+      let ends = rw at_end at decodes in
+      let decoded = goes_on none_so_far ends keeps (sym ends.call.stops.only_put) in
+      let finished = finishes ends in
       rw (← whole_flag decoded finished, ← whole_text decoded finished) refl
-  strict_end OutputFull none_before decodes keeps at_end = cc
-  strict_end (Malformed l a) none_before decodes keeps at_end = cc
 
   pub strict_report : (result : DecoderResult) {l a : ℕ} {bytes wrote : List ℕ} {room read : ℕ}
       → DecodesChunk encode_utf8 (Fatal false) old new bytes true room result read wrote false
       → result ≡ Malformed l a → None ≡ utf_8_without_replacement e bytes
-  strict_report InputEmpty decodes reported = cc
-  strict_report OutputFull decodes reported = cc
-  strict_report (Malformed l a) {bytes} {read = read} decodes reported =
-      let stops = decodes.call.stops in
+  strict_report result {bytes = bytes} {read = read} decodes reported =
+      let call = (rw reported at decodes).call in
+      let stops = call.stops in
       let rest = remaining_sequences new (drop read bytes ++ []) in
-      let sequences : whole_sequences Off e bytes ≡ (decodes.call.put ++ stops.next ∷ []) ++ rest =
+      let sequences : whole_sequences Off e bytes ≡ (call.put ++ stops.next ∷ []) ++ rest =
       ap (whole_sequences Off e) (sym (append-nil bytes)) ∙ fresh_sequences Off e (bytes ++ [])
-      ∙ rw (is_fresh, stops.then_next) at (decodes.call.residual [] (λ _. refl)) in
+      ∙ rw (is_fresh, stops.then_next) at (call.residual [] (λ _. refl)) in
       let is_malformed_now : whole_malformed Off e bytes ≡ true =
-      ap any_malformed sequences ∙ any_of_last decodes.call.put rest stops.next stops.malformed in
+      ap any_malformed sequences ∙ any_of_last call.put rest stops.next stops.malformed in
       rw is_malformed_now refl

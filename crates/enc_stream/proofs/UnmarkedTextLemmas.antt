@@ -143,14 +143,10 @@ module _ {e : Encoding} {life : LifeCycle} {v : CodecState} {src : List ℕ} {la
     where
       by_bytes : (x : List ℕ) → src ≡ x → awaits_mark (phase_of life) ≡ true
           → mark_in (phase_of life) (held_mark_bytes life ++ (src ++ z)) ≡ None
-      by_bytes [] src_is a =
-          ap (λ x. mark_in (phase_of life) (held_mark_bytes life ++ (x ++ z))) src_is
-          ∙ ap (λ x. mark_in (phase_of life) (held_mark_bytes life ++ x))
-          (l (text.no_mark.ends src_is a))
-          ∙ held_unmarked life
-      by_bytes (b ∷ x) src_is a =
-          ap (λ t. mark_in (phase_of life) (held_mark_bytes life ++ (t ++ z))) src_is
-          ∙ (text.no_mark.rules_out b x src_is).no_mark (x ++ z)
+      by_bytes [] src_is awaits =
+          rw (src_is, l (text.no_mark.ends src_is awaits)) (held_unmarked life)
+      by_bytes (b ∷ x) src_is awaits =
+          rw src_is ((text.no_mark.rules_out b x src_is).no_mark (x ++ z))
 
   -- so the sequences are those of the codec
   pub by_codec : (y : List ℕ) → mark_in (phase_of life) (pending ++ y) ≡ None

@@ -68,9 +68,9 @@ pub all_read : (result : CoderResult) → result ≡ InputEmpty
     (encodes : EncodesChunk encode_utf8 (html_mode old) old new text last room
     (encoder_result_of result) read wrote replaced)
     → [] ≡ encodes.rest
-all_read InputEmpty at_end {new = new} {last = last} encodes =
-    rest_is_read (raw_state new) encodes.rest last encodes.call.stops
-all_read OutputFull at_end encodes = cc
+all_read result at_end {new = new} {last = last} encodes =
+    let at_empty = rw at_end at encodes.call in
+    rest_is_read (raw_state new) encodes.rest last at_empty.stops
 
 -- The same in UTF-16, of which a call reads no more than there is.
 module _ (text front rest : List ℕ) (n : ℕ) (are_units : AreUnits text)

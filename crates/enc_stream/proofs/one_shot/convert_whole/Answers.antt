@@ -30,10 +30,8 @@ pub returns-in_err-text-clause-too_long :
     goal.returns-in_err-text-clause-too_long
 returns-in_err-text-clause-too_long c = λ too_long.
     let none : c.max_utf8_buffer_length_without_replacement-length.result ≡ None = search rules in
-    inl (
-    ap (λ d. max_length Utf8Reporting d (length c.args.bytes.now)) (sym c.start-decoder.ensures)
-    ∙ sym c.max_utf8_buffer_length_without_replacement-length.ensures.length ∙ none
-    )
+    let asked = c.max_utf8_buffer_length_without_replacement-length.ensures.length in
+    inl (sym (rw c.start-decoder.ensures at asked) ∙ none)
 
 pub returns-in_err-text-clause-memory : goal.returns-in_err-text-clause-memory
 returns-in_err-text-clause-memory c = λ memory.
