@@ -64,6 +64,12 @@ none_decoded handling e bytes = record {
   flag = refl;
 }
 
+pub none_so_far : {handling : BomHandling} {e : Encoding} {bytes before : List ℕ}
+    {old : DecoderState} → old ≡ fresh_decoder handling e → before ≡ []
+    → HasDecoded handling e bytes bytes true old before false
+none_so_far {handling} {e} {bytes} is_fresh is_empty =
+    rw (is_fresh, is_empty) (none_decoded handling e bytes)
+
 -- One more call, whose text follows the text already written.
 module _ {handling : BomHandling} {e : Encoding} {bytes src : List ℕ} {old : DecoderState}
     {before : List ℕ} {had : Bool} (decoded : HasDecoded handling e bytes src true old before had)
@@ -108,20 +114,6 @@ next_call coder.InputEmpty decoded src_is before_is decodes keeps =
     goes_on (rw (src_is, before_is) decoded) decodes keeps (sym decodes.call.stops.only_put)
 next_call coder.OutputFull decoded src_is before_is decodes keeps =
     goes_on (rw (src_is, before_is) decoded) decodes keeps (sym decodes.call.stops.only_put)
-
--- and of the first call
-pub first_call : (result : CoderResult) {handling : BomHandling} {e : Encoding} {bytes : List ℕ}
-    {old new : DecoderState}
-    → old ≡ fresh_decoder handling e → {before after : List ℕ} → before ≡ []
-    → {room read : ℕ} {replaced : Bool}
-    → DecodesReplacing encode_utf8 old new bytes true room result read (drop (length before) after)
-    replaced
-    → take (length before) after ≡ before
-    → HasDecoded handling e bytes (drop read bytes) true new after replaced
-first_call result {handling} {e} {bytes} {old} is_fresh is_empty decodes keeps =
-    let none_so_far : HasDecoded handling e bytes bytes true old [] false =
-    rw is_fresh (none_decoded handling e bytes) in
-    next_call result none_so_far refl is_empty decodes keeps
 
 -- a malformed sequence is one of all
 any_of_last : (ss ts : List Sequence) (s : Sequence) → is_malformed s.kind ≡ true
@@ -244,10 +236,10 @@ module _ {e : Encoding} {old new : DecoderState} (is_fresh : old ≡ fresh_decod
       → take (length before) after ≡ before → result ≡ InputEmpty
       → Some after ≡ utf_8_without_replacement e bytes
   strict_end result {bytes} {before} none_before decodes keeps at_end =
-      let none_so_far : HasDecoded Off e bytes bytes true old before false =
-      rw (is_fresh, none_before) (none_decoded Off e bytes) in
+      let none : HasDecoded Off e bytes bytes true old before false =
+      none_so_far is_fresh none_before in
       let ends = rw at_end at decodes in
-      let decoded = goes_on none_so_far ends keeps (sym ends.call.stops.only_put) in
+      let decoded = goes_on none ends keeps (sym ends.call.stops.only_put) in
       let finished = finishes ends in
       rw (← whole_flag decoded finished, ← whole_text decoded finished) refl
 

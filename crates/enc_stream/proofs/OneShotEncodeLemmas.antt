@@ -83,7 +83,7 @@ none_encoded e text = record {
 
 -- no text
 pub nothing_written : (e : Encoding) (text : List ℕ) → text ≡ [] → [] ≡ whole_bytes [] e text
-nothing_written e text h = sym (none_due [] e) ∙ ap (whole_bytes [] e) (sym h)
+nothing_written e text none = sym (none_due [] e) ∙ ap (whole_bytes [] e) (sym none)
 
 -- no reference is left to the caller
 none_after : (stop : CoderResult) → reference_after (encoder_result_of stop) ≡ []

@@ -37,6 +37,7 @@ use Rattle.enc_stream.proofs.RemainingRuleLemmas.{by_rule}
 use Rattle.enc_stream.proofs.DecoderCallLemmas.{Decodes, fewer_left}
 use Rattle.enc_stream.proofs.EndOfInputLemmas.{finishes}
 use Rattle.enc_units.proofs.LengthLemmas.{lengths}
+use Rattle.enc_stream.proofs.UnmarkedTextLemmas.{none_unless_awaited}
 
 begins_at : (last : Bool) (remaining : List ℕ → List Sequence) (x : List ℕ) (ss : List Sequence)
     → AreDetermined last remaining x ss → (z : List ℕ) × (AreFirstSequences ss (remaining z))
@@ -105,13 +106,6 @@ module _ {units_of : ℕ → List ℕ} {least : ℕ} (takes : TakesSmallTexts un
         lengths,
       ))
 
--- the bytes pending are no mark
-own_unmarked : (p : Phase) (pending held : List ℕ) → mark_in p (held ++ []) ≡ None
-    → (awaits_mark p ≡ true → pending ≡ held) → mark_in p (pending ++ []) ≡ None
-own_unmarked (InFront looked_for) pending held none in_front = rw (in_front refl) none
-own_unmarked Within pending held none in_front = refl
-own_unmarked Ended pending held none in_front = refl
-
 same_state : (a b : DecoderState)
     → a.encoding ≡ b.encoding → a.life ≡ b.life → a.set ≡ b.set → a.pending ≡ b.pending → a ≡ b
 same_state a b encoding life set pending =
@@ -129,8 +123,8 @@ module _ {units_of : ℕ → List ℕ} (determine : DetermineTexts units_of) {ol
     done = decodes.call.done
 
     unmarked : mark_in (phase_of old.life) (old.pending ++ []) ≡ None
-    unmarked = own_unmarked (phase_of old.life) old.pending (held_mark_bytes old.life)
-        (held_unmarked old.life) are_held.in_front
+    unmarked = none_unless_awaited (phase_of old.life) (old.pending ++ [])
+        (λ awaits. rw (are_held.in_front awaits) (held_unmarked old.life))
 
     was_pending : old.pending ≡ sequence_bytes done ++ new.pending
     was_pending = sym (append-nil old.pending) ∙ decodes.accounted

@@ -23,11 +23,11 @@ use Rattle.enc_encoder.proofs.ReferenceStopLemmas.{rest_is_read}
 
 -- no bytes are no characters
 pub no_chars : (text : List ℕ) → text ≡ [] → chars text ≡ []
-no_chars text h = ap chars h ∙ chars-encodes [] refl
+no_chars text none = ap chars none ∙ chars-encodes [] refl
 
 scalars_after : (xs ys : List ℕ) → all_scalars (xs ++ ys) ≡ true → all_scalars ys ≡ true
-scalars_after [] ys h = h
-scalars_after (c ∷ xs) ys h = scalars_after xs ys (second_so _ _ h)
+scalars_after [] ys are_scalars = are_scalars
+scalars_after (c ∷ xs) ys are_scalars = scalars_after xs ys (second_so _ _ are_scalars)
 
 module _ (text front rest : List ℕ) (n : ℕ) (is_utf_8 : IsUtf8 text)
     (parts : chars text ≡ front ++ rest)

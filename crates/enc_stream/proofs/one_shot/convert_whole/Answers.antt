@@ -11,8 +11,9 @@ use Rattle.enc_stream.specs.declared.lengths.Query.TheVariants.{Utf8Reporting}
 use Rattle.enc_stream.specs.Lengths.{max_length}
 use Rattle.enc_stream.proofs.EndOfInputLemmas.{whole_text, whole_flag, finishes}
 use Rattle.enc_decoder.proofs.ByteLemmas.{bytes-drop}
-use Rattle.enc_stream.proofs.OneShotDecodeLemmas.{nothing, none_whole, first_call, next_call, still_open}
+use Rattle.enc_stream.proofs.OneShotDecodeLemmas.{nothing, none_whole, none_so_far, next_call, still_open}
 use Rattle.enc_stream.proofs.OneShotDecodeLemmas.{never_full, too_long_after, asks_for_memory, there_is_a_length}
+use Rattle.std.proofs.Common.{refl}
 use Rattle.enc_stream.proofs.one_shot.convert_whole.Goals as goal
 
 pub returns-then-is_empty-clause-text : goal.returns-then-is_empty-clause-text
@@ -44,8 +45,8 @@ returns-then-eq-clause-text c =
     let decodes = c.decode_to_string-stop.ensures.call.decodes in
     let at_end : c.decode_to_string-stop.result.0 ≡ InputEmpty = search rules in
     let decoded =
-    first_call _ c.start-decoder.ensures c.in_ok-text.ensures.bytes decodes
-    c.decode_to_string-stop.ensures.appended in
+    next_call _ (none_so_far c.start-decoder.ensures c.in_ok-text.ensures.bytes) refl refl
+    decodes c.decode_to_string-stop.ensures.appended in
     whole_text decoded (rw at_end at (finishes decodes))
 
 pub returns-then-eq-clause-flag : goal.returns-then-eq-clause-flag
@@ -53,8 +54,8 @@ returns-then-eq-clause-flag c =
     let decodes = c.decode_to_string-stop.ensures.call.decodes in
     let at_end : c.decode_to_string-stop.result.0 ≡ InputEmpty = search rules in
     let decoded =
-    first_call _ c.start-decoder.ensures c.in_ok-text.ensures.bytes decodes
-    c.decode_to_string-stop.ensures.appended in
+    next_call _ (none_so_far c.start-decoder.ensures c.in_ok-text.ensures.bytes) refl refl
+    decodes c.decode_to_string-stop.ensures.appended in
     whole_flag decoded (rw at_end at (finishes decodes))
 
 pub max_utf8_buffer_length-length-requires : goal.max_utf8_buffer_length-length-requires
@@ -97,8 +98,8 @@ pub returns-clause-text : goal.returns-clause-text
 returns-clause-text c =
     let decodes = c.decode_to_string-stop.ensures.call.decodes in
     let first =
-    first_call _ c.start-decoder.ensures c.in_ok-text.ensures.bytes decodes
-    c.decode_to_string-stop.ensures.appended in
+    next_call _ (none_so_far c.start-decoder.ensures c.in_ok-text.ensures.bytes) refl refl
+    decodes c.decode_to_string-stop.ensures.appended in
     let decodes_rest = c.decode_to_string.ensures.call.decodes in
     let both =
     next_call _ first c.split_at.ensures.back c.in_ok-make_room.ensures.bytes decodes_rest
@@ -109,8 +110,8 @@ pub returns-clause-flag : goal.returns-clause-flag
 returns-clause-flag c =
     let decodes = c.decode_to_string-stop.ensures.call.decodes in
     let first =
-    first_call _ c.start-decoder.ensures c.in_ok-text.ensures.bytes decodes
-    c.decode_to_string-stop.ensures.appended in
+    next_call _ (none_so_far c.start-decoder.ensures c.in_ok-text.ensures.bytes) refl refl
+    decodes c.decode_to_string-stop.ensures.appended in
     let decodes_rest = c.decode_to_string.ensures.call.decodes in
     let both =
     next_call _ first c.split_at.ensures.back c.in_ok-make_room.ensures.bytes decodes_rest

@@ -18,10 +18,7 @@ returns-clause-call c =
     })
 
 pub returns-clause-need : goal.returns-clause-need
-returns-clause-need c =
-    let made = c.encode_in_mode-outcome in
-    let fits : made.result.written ≤ length made.new.dst = search rules in
-    into_by_need fits (returns-clause-call c)
+returns-clause-need c = into_by_need (search rules) (returns-clause-call c)
 
 pub returns-clause-read : goal.returns-clause-read
 returns-clause-read c =

@@ -6,10 +6,7 @@ pub returns-clause-call : goal.returns-clause-call
 returns-clause-call c =
     let made = c.encode_from_utf8-stop in
     let len : c.len-len.result ≡ length c.args.dst.now.items = search rules in
-    let front : length (take c.len-len.result c.deref_mut.result.now) ≡ c.len-len.result =
-    search rules in
-    let written : made.result.2 ≤ length made.new.dst = search rules in
-    let within : c.len-len.result + made.result.2 ≤ c.resize.new.self.len = search rules in
-    let tail = tail_of _ made.new.dst _ _ _ _ front written within c.truncate.ensures.items in
+    let tail = tail_of _ made.new.dst _ _ _ _ (search rules) (search rules) (search rules)
+    c.truncate.ensures.items in
     in_tail (search rules) (tail ∙ ap (λ n. drop n c.truncate.new.self.items) len)
     made.ensures.call.encodes
