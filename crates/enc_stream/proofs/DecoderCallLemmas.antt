@@ -1,11 +1,9 @@
 -- A call of a decoder as one record: the bytes of what it does, and those that it leaves.
-use Rattle.std.proofs.Common.{◌≡◌, ℕ, ◌+◌, ◌<◌, ◌≤◌, true, List, ◌++◌, length, take}
-use Rattle.std.proofs.Common.{ap, ◌∙◌, sym, arith, length-append}
-use Rattle.std.proofs.Math.ListN.{length-take}
+use Rattle.std.proofs.Common.{◌≡◌, ℕ, ◌+◌, ◌<◌, ◌≤◌, true, List, length}
+use Rattle.std.proofs.Common.{ap, ◌∙◌, sym, arith}
 use Rattle.enc_units.specs.declared.decoder_result.DecoderResult.{DecoderResult}
 use Rattle.enc_units.specs.declared.decoder_result.DecoderResult.TheVariants.{InputEmpty, OutputFull, Malformed}
 use Rattle.enc_decoder.specs.Sequence.{sequence_bytes}
-use Rattle.enc_stream.specs.LifeCycle.{phase_of, mark_in, mark_bytes}
 use Rattle.enc_stream.specs.Decoding.{DecoderState}
 use Rattle.enc_stream.specs.Decoding.{DecodesChunk}
 use Rattle.std.proofs.lemmas.Bool.{true≢false}

@@ -1,7 +1,7 @@
 -- What a full output says of a decoder: with room for a small text something is done, and a call
 -- that does nothing leaves all as it was.
 use Rattle.std.proofs.Common.{◌≡◌, ℕ, ◌<◌, ◌≤◌, Bool, true, false, List, [], ◌∷◌, ◌++◌, length}
-use Rattle.std.proofs.Common.{refl, ap, ◌∙◌, sym, arith, append_assoc, length-append, None}
+use Rattle.std.proofs.Common.{refl, ap, ◌∙◌, sym, arith, append_assoc, None}
 use Rattle.std.proofs.lemmas.List.{append-nil}
 use Rattle.std.specs.Char.{encode_utf8}
 use Rattle.std.specs.Char.Escape.{encode_utf16}
@@ -17,8 +17,8 @@ use Rattle.enc_decoder.specs.Call.{DecodeErrorMode}
 use Rattle.enc_decoder.specs.RuleLaws.{HasTexts, HasSmallTexts}
 use Rattle.enc_stream.specs.Encodings.{rule_of}
 use Rattle.enc_stream.specs.Bom.{utf_8_mark, utf_16be_mark, utf_16le_mark}
-use Rattle.enc_stream.specs.LifeCycle.{Phase, InFront, Within, Ended, phase_of, awaits_mark, mark_in, mark_bytes}
-use Rattle.enc_stream.specs.LifeCycle.{encoding_of_mark_or, held_mark_bytes}
+use Rattle.enc_stream.specs.LifeCycle.{phase_of, mark_in, mark_bytes}
+use Rattle.enc_stream.specs.LifeCycle.{encoding_of_mark_or}
 use Rattle.enc_stream.specs.LifeCycle.{life_after}
 use Rattle.enc_stream.specs.Decoding.{DecoderState, has_finished, remaining_sequences, PendingAreHeldBytes}
 use Rattle.enc_stream.specs.Decoding.{DecodesInto, TakesSmallTexts, AnswersDecode, AnswersDecodeInto}

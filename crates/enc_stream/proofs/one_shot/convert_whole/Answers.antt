@@ -1,4 +1,4 @@
-use Rattle.std.proofs.Common.{rules, ◌≡◌, [], None, length, ap, ◌∙◌, sym, inl, inr}
+use Rattle.std.proofs.Common.{rules, ◌≡◌, [], None, ap, ◌∙◌, sym, inl, inr}
 use Rattle.std.specs.String.{string_bytes}
 use Rattle.std.specs.Char.{encode_utf8}
 use Rattle.enc_units.specs.declared.coder_result.CoderResult.TheVariants.{InputEmpty}
@@ -7,8 +7,6 @@ use Rattle.enc_units.specs.Output.{units_of_text}
 use Rattle.enc_decoder.specs.Sequence.{sequence_text, any_malformed}
 use Rattle.enc_decoder.specs.Remainder.{AreBytes}
 use Rattle.enc_decoder.proofs.ByteLemmas.{bytes_of_slice}
-use Rattle.enc_stream.specs.declared.lengths.Query.TheVariants.{Utf8Reporting}
-use Rattle.enc_stream.specs.Lengths.{max_length}
 use Rattle.enc_stream.proofs.EndOfInputLemmas.{whole_text, whole_flag, finishes}
 use Rattle.enc_decoder.proofs.ByteLemmas.{bytes-drop}
 use Rattle.enc_stream.proofs.OneShotDecodeLemmas.{nothing, none_whole, none_so_far, next_call, still_open}

@@ -1,4 +1,4 @@
-use Rattle.std.proofs.Common.{◌≤◌, length, refl, rules}
+use Rattle.std.proofs.Common.{refl, rules}
 use Rattle.enc_encoder.proofs.NeedInModeLemmas.{goes_on}
 use Rattle.enc_encoder.specs.Steps.{step_chars}
 use Rattle.enc_stream.proofs.EncoderLemmas.{encodes_by}

@@ -1,4 +1,4 @@
-use Rattle.std.proofs.Common.{◌≡◌, ◌≤◌, ◌+◌, ◌∙◌, ap, length, take, drop, rules, refl}
+use Rattle.std.proofs.Common.{◌≡◌, ◌∙◌, ap, length, drop, rules, refl}
 use Rattle.enc_stream.proofs.EncoderLemmas.{in_tail, tail_of}
 use Rattle.enc_stream.proofs.NeedLemmas.{by_need}
 use Rattle.enc_stream.proofs.encoder.Encoder.encode_from_utf8_to_vec_without_replacement.Goals as goal
