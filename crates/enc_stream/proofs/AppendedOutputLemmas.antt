@@ -1,7 +1,7 @@
 -- What calls of a decoder say of the output that they append to.
 use Rattle.std.proofs.Common.{◌≡◌, ℕ, ◌+◌, ◌-◌, ◌≤◌, Bool, List, [], ◌++◌, length, take, drop}
 use Rattle.std.proofs.lemmas.Bool.{false≢true}
-use Rattle.std.proofs.Common.{refl, ap, ◌∙◌, sym, arith, length-append}
+use Rattle.std.proofs.Common.{refl, ap, ◌∙◌, sym, arith}
 use Rattle.std.proofs.Math.Seq.{take-append_seam, drop-append_seam}
 use Rattle.enc_units.specs.declared.decoder_result.DecoderResult.{DecoderResult}
 use Rattle.enc_units.specs.declared.decoder_result.DecoderResult.TheVariants.{InputEmpty, Malformed}

@@ -1,11 +1,9 @@
 -- A call of a decoder as one record: the bytes of what it does, and those that it leaves.
-use Rattle.std.proofs.Common.{◌≡◌, ℕ, ◌+◌, ◌<◌, ◌≤◌, true, List, ◌++◌, length, take}
-use Rattle.std.proofs.Common.{ap, ◌∙◌, sym, arith, length-append}
-use Rattle.std.proofs.Math.ListN.{length-take}
+use Rattle.std.proofs.Common.{◌≡◌, ℕ, ◌+◌, ◌<◌, ◌≤◌, true, List, length}
+use Rattle.std.proofs.Common.{ap, ◌∙◌, sym, arith}
 use Rattle.enc_units.specs.declared.decoder_result.DecoderResult.{DecoderResult}
 use Rattle.enc_units.specs.declared.decoder_result.DecoderResult.TheVariants.{InputEmpty, OutputFull, Malformed}
 use Rattle.enc_decoder.specs.Sequence.{sequence_bytes}
-use Rattle.enc_stream.specs.LifeCycle.{phase_of, mark_in, mark_bytes}
 use Rattle.enc_stream.specs.Decoding.{DecoderState}
 use Rattle.enc_stream.specs.Decoding.{DecodesChunk}
 use Rattle.std.proofs.lemmas.Bool.{true≢false}
@@ -14,12 +12,8 @@ use Rattle.enc_decoder.specs.CallRecord.{Call}
 use Rattle.enc_stream.specs.Decoding.{LeavesFewerBytes}
 use Rattle.enc_units.proofs.LengthLemmas.{lengths}
 
--- a call of a decoder
-abbrev pub Decodes : (ℕ → List ℕ) → DecoderState → DecoderState → Call → Type 0
-Decodes units_of old new c = DecodesChunk units_of old new c
-
 module _ {units_of : ℕ → List ℕ} {old new : DecoderState} (c : Call)
-    (decodes : Decodes units_of old new c) where
+    (decodes : DecodesChunk units_of old new c) where
   -- The bytes pending and read are those of a byte order mark, those done, and those pending then.
   pub bytes_done : length (sequence_bytes decodes.call.done) + length new.pending
       ≤ length old.pending + c.read
@@ -34,7 +28,7 @@ module _ {units_of : ℕ → List ℕ} {old new : DecoderState} (c : Call)
   only_put replaces = by_result c.result decodes
     where
       by_result : (result : DecoderResult)
-          (made : Decodes units_of old new (record c { result = result }))
+          (made : DecodesChunk units_of old new (record c { result = result }))
           → made.call.put ≡ made.call.done
       by_result InputEmpty made = sym made.call.stops.only_put
       by_result OutputFull made = sym made.call.stops.only_put

@@ -7,35 +7,28 @@ use Rattle.enc_stream.specs.Decoding.{DecoderState, has_finished, TakesSmallText
 use Rattle.enc_stream.proofs.EndOfInputLemmas.{at_end}
 use Rattle.enc_decoder.specs.CallRecord.{Call}
 use Rattle.enc_decoder.proofs.FirstSequenceLemmas.{true_or_false}
-use Rattle.enc_stream.proofs.DecoderCallLemmas.{Decodes, bytes_done}
+use Rattle.enc_stream.proofs.DecoderCallLemmas.{bytes_done}
+use Rattle.enc_stream.specs.Decoding.{DecodesChunk}
 use Rattle.enc_stream.proofs.OutputFullLemmas.{less_left}
 use Rattle.enc_stream.proofs.EndOfInputLemmas.{finishes}
 
 -- a call that came to the end has read everything
 pub ends_read : {units_of : ℕ → List ℕ} {old new : DecoderState} (c : Call)
-    → Decodes units_of old new c → has_finished new ≡ true
+    → DecodesChunk units_of old new c → has_finished new ≡ true
     → (c.last ≡ true) × (c.read ≡ length c.src)
-ends_read {units_of} {old} {new} c decodes finished =
-    let ends = at_end c.last c.result (sym (finishes decodes) ∙ finished) in (
-      ends.0,
-      all_read c.result decodes ends.1,
-    )
-  where
-    all_read : (result : DecoderResult) → Decodes units_of old new (record c { result = result })
-        → result ≡ InputEmpty → c.read ≡ length c.src
-    all_read InputEmpty by_result is_empty = by_result.call.stops.all_read
-    all_read OutputFull by_result is_empty = cc
-    all_read (Malformed l a) by_result is_empty = cc
+ends_read c decodes finished =
+    let ends = at_end c.last c.result (sym (finishes decodes) ∙ finished) in
+    let at_empty = rw ends.1 at decodes in (ends.0, at_empty.call.stops.all_read)
 
 -- Bytes unread count twice, and those pending once: where a call doesn't end the input, fewer are
 -- left.
 pub nearer : {units_of : ℕ → List ℕ} {least : ℕ} → TakesSmallTexts units_of least
-    → {old new : DecoderState} (c : Call) → least ≤ c.room → Decodes units_of old new c
+    → {old new : DecoderState} (c : Call) → least ≤ c.room → DecodesChunk units_of old new c
     → (c.last ≡ false → 1 ≤ length c.src) → (has_finished new ≡ true)
     ⊎ (2 * (length c.src - c.read) + length new.pending < 2 * length c.src + length old.pending)
 nearer {units_of} takes {old} {new} c roomy decodes some = by_result c.result decodes
   where
-    by_result : (result : DecoderResult) → Decodes units_of old new (record c { result = result })
+    by_result : (result : DecoderResult) → DecodesChunk units_of old new (record c { result = result })
         → (has_finished new ≡ true)
         ⊎ (2 * (length c.src - c.read) + length new.pending < 2 * length c.src + length old.pending)
     by_result InputEmpty made = elim (true_or_false c.last) [

@@ -1,8 +1,8 @@
 -- The encoders of the encodings.
-use Rattle.std.proofs.Common.{◌≡◌, ℕ, ◌+◌, ◌-◌, ◌≤◌, Bool, true, false, not, is_some, Option, Some, None, option_map}
-use Rattle.std.proofs.Common.{List, [], ◌∷◌, ◌++◌, length, take, drop, refl, ap, sym, subst, ◌∙◌, arith, append_assoc}
-use Rattle.std.proofs.Common.{length-append, length-take, if◌then◌else◌}
-use Rattle.std.proofs.lemmas.List.{drop-take, take-append-le, take-append-drop}
+use Rattle.std.proofs.Common.{◌≡◌, ℕ, ◌+◌, ◌≤◌, Bool, true, false, not, is_some, Option, Some, None, option_map}
+use Rattle.std.proofs.Common.{List, [], ◌∷◌, ◌++◌, length, take, drop, refl, ap, sym, subst, ◌∙◌, append_assoc}
+use Rattle.std.proofs.Common.{if◌then◌else◌}
+use Rattle.std.proofs.lemmas.List.{drop-take, take-append-le}
 use Rattle.std.proofs.Math.Seq.{drop-append_seam}
 use Rattle.enc_encoder.specs.EncoderRule.{EncoderRule, RawEncoderState, is_escape_due}
 use Rattle.enc_encoder.specs.Stateless.{WritesAscii}
@@ -126,12 +126,10 @@ ascii_left Ascii h = refl
 ascii_left Roman h = cc
 ascii_left Jis0208 h = cc
 
-nothing_pending : (v : RawEncoderState) (rest : List ℕ) (last : Bool)
-    → is_nothing_left v rest last ≡ true
-    → last ≡ true → v.set ≡ Ascii
-nothing_pending v [] true h l = ascii_left v.set h
-nothing_pending v [] false h l = cc
-nothing_pending v (c ∷ t) last h l = cc
+nothing_pending : (v : RawEncoderState) (rest : List ℕ) → is_nothing_left v rest true ≡ true
+    → v.set ≡ Ascii
+nothing_pending v [] none_left = ascii_left v.set none_left
+nothing_pending v (c ∷ t) none_left = cc
 
 ends_in_ascii : (mode : EncodeErrorMode) (new : RawEncoderState) (rest : List ℕ) (last : Bool)
     (room : ℕ)
@@ -139,7 +137,7 @@ ends_in_ascii : (mode : EncodeErrorMode) (new : RawEncoderState) (rest : List �
     → result ≡ InputEmpty → last ≡ true → new.set ≡ Ascii
 ends_in_ascii Fatal new rest last room done InputEmpty s q l = s.ended l
 ends_in_ascii (Html kept) new rest last room done InputEmpty s q l =
-    nothing_pending new rest last s l
+    nothing_pending new rest (rw l at s)
 ends_in_ascii mode new rest last room done OutputFull s q l = cc
 ends_in_ascii mode new rest last room done (Unmappable k) s q l = cc
 

@@ -49,12 +49,12 @@ not_at_end last stop goes_on is_last is_empty =
     false≢true (sym goes_on ∙ ap (reaches_end last) is_empty ∙ is_last)
 
 pub first_open : (a b : Bool) → (a || b) ≡ false → a ≡ false
-first_open true b h = h
-first_open false b h = refl
+first_open true b none = none
+first_open false b none = refl
 
 pub others_open : (a b : Bool) → (a || b) ≡ false → b ≡ false
-others_open true b h = absurd (true≢false h)
-others_open false b h = h
+others_open true b none = absurd (true≢false none)
+others_open false b none = none
 
 -- no state that may come next is the end
 open_states : (life : LifeCycle)
@@ -101,8 +101,8 @@ fresh_sequences handling e bytes =
 -- at the end nothing is still to come
 pub none_left : (life : LifeCycle) (e : Encoding) (set : ℕ) (bytes : List ℕ) → has_ended life ≡ true
     → sequences_in (phase_of life) e set bytes ≡ []
-none_left Finished e set bytes h = refl
-none_left _ e set bytes h = absurd (true≢false (sym h))
+none_left Finished e set bytes ended = refl
+none_left _ e set bytes ended = absurd (true≢false (sym ended))
 
 -- so the text is that of the whole input
 module _ {handling : BomHandling} {e : Encoding} {bytes unread : List ℕ} {state : DecoderState}

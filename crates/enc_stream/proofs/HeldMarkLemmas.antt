@@ -1,23 +1,21 @@
 -- A codec's call over the bytes held and the chunk, as a call of the decoder over the chunk.
 use Rattle.std.proofs.Common.{◌≡◌, ℕ, ◌+◌, ◌-◌, ◌<◌, ◌≤◌, zero, suc, Bool, true, false, ◌&&◌, eqb, List, [], ◌∷◌}
 use Rattle.std.proofs.Common.{◌++◌, length, take, drop, refl, ap, ◌∙◌, sym, arith, append_assoc, inl, inr, ◌⊎◌, None}
-use Rattle.std.proofs.Common.{subst}
 use Rattle.std.proofs.lemmas.Bool.Decides.{nat_tests}
 use Rattle.std.proofs.lemmas.List.{append-nil, length-append}
-use Rattle.std.proofs.Math.ListN.{drop_of_length-le, length-take}
+use Rattle.std.proofs.Math.ListN.{drop_of_length-le}
 use Rattle.std.proofs.Math.Seq.{take-append-add, drop-append-add}
 use Rattle.enc_stream.specs.declared.encoding.Encoding.{Encoding}
 use Rattle.enc_stream.specs.declared.life_cycle.LifeCycle.{LifeCycle}
 use Rattle.enc_stream.specs.declared.life_cycle.LifeCycle.TheVariants.{SeenUtf8Second}
 use Rattle.enc_stream.specs.declared.life_cycle.LifeCycle.TheVariants.{ConvertingWithPendingBb, Converting, Finished}
 use Rattle.enc_units.specs.declared.decoder_result.DecoderResult.{DecoderResult}
-use Rattle.enc_units.specs.declared.decoder_result.DecoderResult.TheVariants.{InputEmpty, OutputFull, Malformed}
+use Rattle.enc_units.specs.declared.decoder_result.DecoderResult.TheVariants.{Malformed}
 use Rattle.enc_units.specs.Output.{Output}
 use Rattle.enc_decoder.specs.Sequence.{Sequence, sequence_bytes, set_after}
 use Rattle.enc_decoder.specs.Segmentation.{Rule, sequences_of}
 use Rattle.enc_decoder.specs.CodecState.{CodecState, remainder_of}
-use Rattle.enc_decoder.specs.Call.{DecoderAtInputEmpty, DecoderStops, DecodeErrorMode, reaches_end}
-use Rattle.enc_decoder.proofs.RuleLemmas.{has_bytes}
+use Rattle.enc_decoder.specs.Call.{DecodeErrorMode, reaches_end}
 use Rattle.enc_decoder.proofs.ByteLemmas.{bytes-append}
 use Rattle.enc_stream.specs.Encodings.{rule_of}
 use Rattle.enc_stream.specs.LifeCycle.{phase_of, awaits_mark, held_mark_bytes}

@@ -13,16 +13,12 @@ use Rattle.enc_stream.specs.Decoding.{decoder_state_of}
 use Rattle.enc_stream.specs.Latin1.{has_byte_characters, DecoderMayBeLatin1, AnswersDecoderLatin1}
 use Rattle.enc_codec.specs.CodecLaws.{DecidesBytes}
 use Rattle.enc_stream.proofs.EncodingLemmas.{laws_of}
+use Rattle.std.proofs.Common.{◌↔◌}
 
-has_some : (has : Bool) (rule : Rule) → DecidesBytes has rule → has ≡ true
-    → ¬ (HasNoByteSequences rule)
-has_some true rule t e = t
-has_some false rule t e = absurd (false≢true e)
-
-some_has : (has : Bool) (rule : Rule) → DecidesBytes has rule → ¬ (HasNoByteSequences rule)
-    → has ≡ true
-some_has true rule t n = refl
-some_has false rule t n = absurd (n t)
+has_some : (has : Bool) (rule : Rule) → DecidesBytes has rule
+    → (has ≡ true) ↔ ¬ (HasNoByteSequences rule)
+has_some true rule some = (λ _. some, λ _. refl)
+has_some false rule none = (λ e. absurd (false≢true e), λ some. absurd (some none))
 
 module _ (e : Encoding) (codec : CodecState) (same_rule : rule_of e ≡ codec.rule) where
   by_bytes : DecidesBytes (has_byte_characters e.id) codec.rule
@@ -32,7 +28,7 @@ module _ (e : Encoding) (codec : CodecState) (same_rule : rule_of e ≡ codec.ru
   as_codec may_be_latin1 = record {
     none_pending = may_be_latin1.none_pending;
     at_start = may_be_latin1.at_start;
-    has_bytes = has_some _ _ by_bytes may_be_latin1.encoding;
+    has_bytes = (has_some _ _ by_bytes).0 may_be_latin1.encoding;
   }
 
   as_decoder : CodecMay codec → DecoderMayBeLatin1 (decoder_state_of e Converting codec)
@@ -40,7 +36,7 @@ module _ (e : Encoding) (codec : CodecState) (same_rule : rule_of e ≡ codec.ru
     converting = refl;
     none_pending = may_be_latin1.none_pending;
     at_start = may_be_latin1.at_start;
-    encoding = some_has _ _ by_bytes may_be_latin1.has_bytes;
+    encoding = (has_some _ _ by_bytes).1 may_be_latin1.has_bytes;
   }
 
   converting_shows : (bytes : List ℕ) (answer : Option ℕ) → CodecAnswers codec bytes answer
@@ -57,6 +53,5 @@ module _ (e : Encoding) (codec : CodecState) (same_rule : rule_of e ≡ codec.ru
   pub shows_latin1 : (life : LifeCycle) → life ≡ Converting → (bytes : List ℕ) (answer : Option ℕ)
       → CodecAnswers codec bytes answer
       → AnswersDecoderLatin1 (decoder_state_of e life codec) bytes answer
-  shows_latin1 life i bytes answer t =
-      subst (λ (l : LifeCycle). AnswersDecoderLatin1 (decoder_state_of e l codec)
-      bytes answer) (sym i) (converting_shows bytes answer t)
+  shows_latin1 life is_converting bytes answer counted =
+      rw is_converting (converting_shows bytes answer counted)

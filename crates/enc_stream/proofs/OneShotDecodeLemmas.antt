@@ -1,6 +1,6 @@
 -- One-shot calls: the text and the state after calls of a decoder that are offered the whole input.
 use Rattle.std.proofs.Common.{◌≡◌, ℕ, Bool, true, false, true≢false, List, [], ◌∷◌, ◌++◌, length, take, drop, refl, ap}
-use Rattle.std.proofs.Common.{◌∙◌, sym, subst, arith, append_assoc, append-nil, ◌||◌, if◌then◌else◌}
+use Rattle.std.proofs.Common.{◌∙◌, sym, arith, append_assoc, append-nil, ◌||◌, if◌then◌else◌}
 use Rattle.std.proofs.lemmas.List.{take-append-drop}
 use Rattle.std.specs.Prelude.{Option, Some, None, IfSome, option_map, ◌==◌, ◌≢◌}
 use Rattle.std.specs.Char.{encode_utf8}
@@ -8,7 +8,7 @@ use Rattle.enc_stream.specs.declared.bom.BomHandling.{BomHandling}
 use Rattle.enc_stream.specs.declared.bom.BomHandling.TheVariants.{Off}
 use Rattle.enc_stream.specs.declared.encoding.Encoding.{Encoding}
 use Rattle.enc_units.specs.declared.decoder_result.DecoderResult.{DecoderResult}
-use Rattle.enc_units.specs.declared.decoder_result.DecoderResult.TheVariants.{InputEmpty, OutputFull, Malformed}
+use Rattle.enc_units.specs.declared.decoder_result.DecoderResult.TheVariants.{InputEmpty, Malformed}
 use Rattle.enc_units.specs.declared.coder_result.CoderResult.{CoderResult}
 use Rattle.enc_units.specs.declared.coder_result.CoderResult.TheVariants as coder
 use Rattle.enc_units.specs.Results.{decoder_result_of}
@@ -65,6 +65,12 @@ none_decoded handling e bytes = record {
   flag = refl;
 }
 
+pub none_so_far : {handling : BomHandling} {e : Encoding} {bytes before : List ℕ}
+    {old : DecoderState} → old ≡ fresh_decoder handling e → before ≡ []
+    → HasDecoded handling e bytes bytes true old before false
+none_so_far {handling} {e} {bytes} is_fresh is_empty =
+    rw (is_fresh, is_empty) (none_decoded handling e bytes)
+
 -- One more call, whose text follows the text already written.
 module _ {handling : BomHandling} {e : Encoding} {bytes src : List ℕ} {old : DecoderState}
     {before : List ℕ} {had : Bool} (decoded : HasDecoded handling e bytes src true old before had)
@@ -117,20 +123,6 @@ next_call coder.InputEmpty decoded src_is before_is decodes keeps =
     goes_on (rw (src_is, before_is) decoded) decodes keeps (sym decodes.call.stops.only_put)
 next_call coder.OutputFull decoded src_is before_is decodes keeps =
     goes_on (rw (src_is, before_is) decoded) decodes keeps (sym decodes.call.stops.only_put)
-
--- and of the first call
-pub first_call : (result : CoderResult) {handling : BomHandling} {e : Encoding} {bytes : List ℕ}
-    {old new : DecoderState}
-    → old ≡ fresh_decoder handling e → {before after : List ℕ} → before ≡ []
-    → {room read : ℕ} {replaced : Bool}
-    → DecodesChunk encode_utf8 old new
-    (replacing_call bytes true room result read (drop (length before) after) replaced)
-    → take (length before) after ≡ before
-    → HasDecoded handling e bytes (drop read bytes) true new after replaced
-first_call result {handling} {e} {bytes} {old} is_fresh is_empty decodes keeps =
-    let none_so_far : HasDecoded handling e bytes bytes true old [] false =
-    rw is_fresh (none_decoded handling e bytes) in
-    next_call result none_so_far refl is_empty decodes keeps
 
 -- a malformed sequence is one of all
 any_of_last : (ss ts : List Sequence) (s : Sequence) → is_malformed s.kind ≡ true
@@ -185,8 +177,7 @@ pub asks_for_memory : {handling : BomHandling} {e : Encoding} {bytes : List ℕ}
     → false ≡ (length bytes == 0) → length_answered ≢ None → MayLackMemory handling e bytes
 asks_for_memory {bytes} is_fresh length_is not_empty fits = record {
   some = something not_empty;
-  length_fits = λ none. fits (length_is
-      ∙ ap (λ d. max_length Utf8Reporting d (length bytes)) is_fresh ∙ none);
+  length_fits = rw (length_is, is_fresh) at fits;
 }
 
 -- The first call answers `OutputFull`, and the length query after it overflows usize.
@@ -206,9 +197,7 @@ too_long_after is_fresh length_is exact coder.InputEmpty goes_on call passes = a
 too_long_after {handling} {e} {bytes} {new} is_fresh length_is {room} exact coder.OutputFull
     goes_on {read} {wrote} {replaced} call passes =
     let exactly_for_first : HasRoomExactlyFor (first_length handling e bytes) room =
-    subst (λ (n : Option ℕ). HasRoomExactlyFor n room)
-    (length_is ∙ ap (λ d. max_length Utf8Reporting d (length bytes)) is_fresh)
-    exact in
+    rw (length_is, is_fresh) at exact in
     record {
       room = room;
       enough = has_room _ room exactly_for_first;
@@ -217,11 +206,7 @@ too_long_after {handling} {e} {bytes} {new} is_fresh length_is {room} exact code
       read = read;
       wrote = wrote;
       replaced = replaced;
-      call =
-          subst (λ d. AnswersDecode encode_utf8 4 d new
-          (replacing_call bytes true room coder.OutputFull read wrote replaced))
-          is_fresh
-          call;
+      call = rw is_fresh at call;
       passes = passes;
     }
 
@@ -260,26 +245,24 @@ module _ {e : Encoding} {old new : DecoderState} (is_fresh : old ≡ fresh_decod
       (reporting_call bytes true room result read (drop (length before) after))
       → take (length before) after ≡ before → result ≡ InputEmpty
       → Some after ≡ utf_8_without_replacement e bytes
-  strict_end InputEmpty {bytes} {before} none_before decodes keeps at_end =
-      let none_so_far : HasDecoded Off e bytes bytes true old before false =
-      rw (is_fresh, none_before) (none_decoded Off e bytes) in
-      let decoded = goes_on none_so_far decodes keeps (sym decodes.call.stops.only_put) in
-      let finished = finishes decodes in
+  strict_end result {bytes} {before} none_before decodes keeps at_end =
+      let none : HasDecoded Off e bytes bytes true old before false =
+      none_so_far is_fresh none_before in
+      let ends = rw at_end at decodes in
+      let decoded = goes_on none ends keeps (sym ends.call.stops.only_put) in
+      let finished = finishes ends in
       rw (← whole_flag decoded finished, ← whole_text decoded finished) refl
-  strict_end OutputFull none_before decodes keeps at_end = cc
-  strict_end (Malformed l a) none_before decodes keeps at_end = cc
 
   pub strict_report : (result : DecoderResult) {l a : ℕ} {bytes wrote : List ℕ} {room read : ℕ}
       → DecodesChunk encode_utf8 old new (reporting_call bytes true room result read wrote)
       → result ≡ Malformed l a → None ≡ utf_8_without_replacement e bytes
-  strict_report InputEmpty decodes reported = cc
-  strict_report OutputFull decodes reported = cc
-  strict_report (Malformed l a) {bytes} {read = read} decodes reported =
-      let stops = decodes.call.stops in
+  strict_report result {bytes = bytes} {read = read} decodes reported =
+      let call = (rw reported at decodes).call in
+      let stops = call.stops in
       let rest = remaining_sequences new (drop read bytes ++ []) in
-      let sequences : whole_sequences Off e bytes ≡ (decodes.call.put ++ stops.next ∷ []) ++ rest =
+      let sequences : whole_sequences Off e bytes ≡ (call.put ++ stops.next ∷ []) ++ rest =
       ap (whole_sequences Off e) (sym (append-nil bytes)) ∙ fresh_sequences Off e (bytes ++ [])
-      ∙ rw (is_fresh, stops.then_next) at (decodes.call.residual [] (λ _. refl)) in
+      ∙ rw (is_fresh, stops.then_next) at (call.residual [] (λ _. refl)) in
       let is_malformed_now : whole_malformed Off e bytes ≡ true =
-      ap any_malformed sequences ∙ any_of_last decodes.call.put rest stops.next stops.malformed in
+      ap any_malformed sequences ∙ any_of_last call.put rest stops.next stops.malformed in
       rw is_malformed_now refl

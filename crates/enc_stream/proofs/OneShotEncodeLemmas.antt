@@ -12,20 +12,15 @@ use Rattle.enc_encoder.specs.declared.character_set.CharacterSet.TheVariants.{As
 use Rattle.enc_encoder.specs.EncoderRule.{EncoderRule}
 use Rattle.enc_encoder.specs.Text.{bytes_of_text, with_references, reference_after}
 use Rattle.enc_encoder.specs.Steps.{step_chars}
-use Rattle.enc_units.specs.declared.encoder_result.EncoderResult.TheVariants as raw
 use Rattle.enc_units.specs.Results.{encoder_result_of}
 use Rattle.enc_encoder.specs.Unmappable.{any_unmappable}
-use Rattle.enc_encoder.specs.ErrorMode.{CallInMode, IsCallInMode}
-use Rattle.enc_encoder.proofs.ReferenceStopLemmas.{rest_is_read}
 use Rattle.enc_encoder.proofs.UnmappableLemmas.{replaced_is, any_unmappable-append}
 use Rattle.enc_stream.specs.declared.encoding.Encoding.{Encoding}
 use Rattle.enc_stream.specs.Encodings.{output_rule}
-use Rattle.enc_stream.specs.Encoder.{EncoderState, EncodesChunk, fresh_encoder, raw_state, room_kept_for_references}
+use Rattle.enc_stream.specs.Encoder.{EncoderState, EncodesChunk, fresh_encoder, raw_state}
 use Rattle.enc_stream.specs.Encoder.{html_mode}
 use Rattle.enc_stream.specs.Encoder.{whole_bytes}
 use Rattle.enc_units.specs.Checked.{checked_add}
-use Rattle.enc_encoder.specs.Lengths.{from_utf_8_length}
-use Rattle.enc_stream.specs.Lengths.{output_lengths}
 use Rattle.enc_stream.specs.Properties.{output_encoding_of}
 use Rattle.enc_stream.specs.OneShot.{HasWritten, length_to_encode, remaining_length, HasRoomFor, EncoderRound}
 use Rattle.enc_stream.specs.OneShot.{AreFullRounds, IsTooLongToEncode}
@@ -83,7 +78,7 @@ none_encoded e text = record {
 
 -- no text
 pub nothing_written : (e : Encoding) (text : List ℕ) → text ≡ [] → [] ≡ whole_bytes [] e text
-nothing_written e text h = sym (none_due [] e) ∙ ap (whole_bytes [] e) (sym h)
+nothing_written e text none = sym (none_due [] e) ∙ ap (whole_bytes [] e) (sym none)
 
 -- no reference is left to the caller
 none_after : (stop : CoderResult) → reference_after (encoder_result_of stop) ≡ []

@@ -1,7 +1,7 @@
 -- What a full output says of a decoder: with room for a small text something is done, and a call
 -- that does nothing leaves all as it was.
 use Rattle.std.proofs.Common.{◌≡◌, ℕ, ◌<◌, ◌≤◌, Bool, true, false, List, [], ◌∷◌, ◌++◌, length}
-use Rattle.std.proofs.Common.{refl, ap, ◌∙◌, sym, arith, append_assoc, length-append, None}
+use Rattle.std.proofs.Common.{refl, ap, ◌∙◌, sym, arith, append_assoc, None}
 use Rattle.std.proofs.lemmas.List.{append-nil}
 use Rattle.std.specs.Char.{encode_utf8}
 use Rattle.std.specs.Char.Escape.{encode_utf16}
@@ -17,8 +17,8 @@ use Rattle.enc_decoder.specs.Call.{DecodeErrorMode}
 use Rattle.enc_decoder.specs.RuleLaws.{HasTexts, HasSmallTexts}
 use Rattle.enc_stream.specs.Encodings.{rule_of}
 use Rattle.enc_stream.specs.Bom.{utf_8_mark, utf_16be_mark, utf_16le_mark}
-use Rattle.enc_stream.specs.LifeCycle.{Phase, InFront, Within, Ended, phase_of, awaits_mark, mark_in, mark_bytes}
-use Rattle.enc_stream.specs.LifeCycle.{encoding_of_mark_or, held_mark_bytes}
+use Rattle.enc_stream.specs.LifeCycle.{phase_of, mark_in, mark_bytes}
+use Rattle.enc_stream.specs.LifeCycle.{encoding_of_mark_or}
 use Rattle.enc_stream.specs.LifeCycle.{life_after}
 use Rattle.enc_stream.specs.Decoding.{DecoderState, has_finished, remaining_sequences, PendingAreHeldBytes}
 use Rattle.enc_stream.specs.Decoding.{DecodesInto, TakesSmallTexts, AnswersDecode, AnswersDecodeInto}
@@ -34,9 +34,11 @@ use Rattle.enc_stream.proofs.PendingBytesLemmas.{own_state}
 use Rattle.enc_decoder.specs.CallRecord.{Call}
 use Rattle.enc_stream.specs.Decoding.{LeavesFewerBytes}
 use Rattle.enc_stream.proofs.RemainingRuleLemmas.{by_rule}
-use Rattle.enc_stream.proofs.DecoderCallLemmas.{Decodes, fewer_left}
+use Rattle.enc_stream.proofs.DecoderCallLemmas.{fewer_left}
+use Rattle.enc_stream.specs.Decoding.{DecodesChunk}
 use Rattle.enc_stream.proofs.EndOfInputLemmas.{finishes}
 use Rattle.enc_units.proofs.LengthLemmas.{lengths}
+use Rattle.enc_stream.proofs.UnmarkedTextLemmas.{none_unless_awaited}
 
 begins_at : (last : Bool) (remaining : List ℕ → List Sequence) (x : List ℕ) (ss : List Sequence)
     → AreDetermined last remaining x ss → (z : List ℕ) × (AreFirstSequences ss (remaining z))
@@ -55,7 +57,7 @@ some_bytes units_of rule set bytes (s ∷ ss) rest cut some_units =
 module _ {units_of : ℕ → List ℕ} {least : ℕ} (takes : TakesSmallTexts units_of least)
     {old new : DecoderState} (c : Call) (roomy : least ≤ c.room) where
   -- the sequences done have a text, and bytes
-  some_done : (decodes : Decodes units_of old new (record c { result = OutputFull }))
+  some_done : (decodes : DecodesChunk units_of old new (record c { result = OutputFull }))
       → (0 < length (units_of_text units_of (sequence_text decodes.call.done)))
       × (0 < length (sequence_bytes decodes.call.done))
   some_done decodes =
@@ -82,14 +84,14 @@ module _ {units_of : ℕ → List ℕ} {least : ℕ} (takes : TakesSmallTexts un
             (stops.next ∷ first.1.0) cut some_units,
       )
 
-  pub some_written : Decodes units_of old new (record c { result = OutputFull })
+  pub some_written : DecodesChunk units_of old new (record c { result = OutputFull })
       → 0 < length c.wrote
   some_written decodes =
       rw (decodes.call.text, ← decodes.call.stops.only_put) (some_done decodes).0
 
   -- and a sequence that is reported has bytes, too
   pub less_left : (result : DecoderResult)
-      → Decodes units_of old new (record c { result = result }) → (result ≡ InputEmpty → ⊥)
+      → DecodesChunk units_of old new (record c { result = result }) → (result ≡ InputEmpty → ⊥)
       → LeavesFewerBytes old new c.src c.read
   less_left InputEmpty decodes goes_on = absurd (goes_on refl)
   less_left OutputFull decodes goes_on =
@@ -105,13 +107,6 @@ module _ {units_of : ℕ → List ℕ} {least : ℕ} (takes : TakesSmallTexts un
         lengths,
       ))
 
--- the bytes pending are no mark
-own_unmarked : (p : Phase) (pending held : List ℕ) → mark_in p (held ++ []) ≡ None
-    → (awaits_mark p ≡ true → pending ≡ held) → mark_in p (pending ++ []) ≡ None
-own_unmarked (InFront looked_for) pending held none in_front = rw (in_front refl) none
-own_unmarked Within pending held none in_front = refl
-own_unmarked Ended pending held none in_front = refl
-
 same_state : (a b : DecoderState)
     → a.encoding ≡ b.encoding → a.life ≡ b.life → a.set ≡ b.set → a.pending ≡ b.pending → a ≡ b
 same_state a b encoding life set pending =
@@ -123,14 +118,14 @@ same_state a b encoding life set pending =
 -- A call that stops for want of room, and has read nothing and written nothing.
 module _ {units_of : ℕ → List ℕ} (determine : DetermineTexts units_of) {old new : DecoderState}
     (are_held : PendingAreHeldBytes old) (going : has_finished old ≡ false) (c : Call)
-    (decodes : Decodes units_of old new (record c { result = OutputFull; read = 0; wrote = [] }))
+    (decodes : DecodesChunk units_of old new (record c { result = OutputFull; read = 0; wrote = [] }))
   where
     abbrev done : List Sequence
     done = decodes.call.done
 
     unmarked : mark_in (phase_of old.life) (old.pending ++ []) ≡ None
-    unmarked = own_unmarked (phase_of old.life) old.pending (held_mark_bytes old.life)
-        (held_unmarked old.life) are_held.in_front
+    unmarked = none_unless_awaited (phase_of old.life) (old.pending ++ [])
+        (λ awaits. rw (are_held.in_front awaits) (held_unmarked old.life))
 
     was_pending : old.pending ≡ sequence_bytes done ++ new.pending
     was_pending = sym (append-nil old.pending) ∙ decodes.accounted
@@ -179,7 +174,7 @@ module _ {units_of : ℕ → List ℕ} (determine : DetermineTexts units_of) {ol
 -- what a call does, and what that says where it stops for want of room
 pub converts : {units_of : ℕ → List ℕ} {least : ℕ} {old new : DecoderState} (c : Call)
     → DetermineTexts units_of → TakesSmallTexts units_of least → PendingAreHeldBytes old
-    → has_finished old ≡ false → Decodes units_of old new c
+    → has_finished old ≡ false → DecodesChunk units_of old new c
     → AnswersDecode units_of least old new c
 converts {units_of} c determine takes are_held going decodes = record {
   decodes = decodes;

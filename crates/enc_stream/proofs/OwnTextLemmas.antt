@@ -1,13 +1,12 @@
 -- Input that is its own text: each of its characters is a sequence of the character's UTF-8.
 use Rattle.std.proofs.Common.{◌≡◌, ℕ, suc, ◌<◌, true, false, true≢false, List, [], ◌∷◌, ◌++◌, length, take, refl, ap}
-use Rattle.std.proofs.Common.{◌∙◌, sym, subst, arith, append_assoc, append-nil, inl, inr, eqb-true, nat_lt, Option}
-use Rattle.std.proofs.Common.{Some, None, ◌==◌, ◌↔◌, if◌then◌else◌}
+use Rattle.std.proofs.Common.{◌∙◌, sym, subst, arith, append_assoc, append-nil, inl, inr, eqb-true, nat_lt}
+use Rattle.std.proofs.Common.{Some, ◌==◌, ◌↔◌}
 use Rattle.std.specs.Prelude.{All, ◌≢◌}
 use Rattle.std.specs.Char.{encode_utf8}
 use Rattle.std.specs.Str.{IsUtf8, all_scalars, encode_utf8_all}
 use Rattle.std.proofs.lemmas.Bool.{and_parts, cases_lt, false≢true}
 use Rattle.std.proofs.lemmas.Bool.Decides.{nat_tests}
-use Rattle.std.proofs.lemmas.List.{take_all}
 use Rattle.std.proofs.lemmas.Str.{encode_ascii}
 use Rattle.enc_units.specs.Output.{units_of_text}
 use Rattle.enc_units.specs.Validity.{IsLongestPrefix, AreAscii, AreIso2022JpAscii}
@@ -29,9 +28,7 @@ use Rattle.enc_stream.specs.declared.bom.BomHandling.{BomHandling}
 use Rattle.enc_stream.specs.declared.bom.BomHandling.TheVariants.{Off}
 use Rattle.enc_stream.specs.declared.encoding.Encoding.{Encoding}
 use Rattle.enc_stream.specs.declared.constants.TheConstants.{UTF_8, ISO_2022_JP}
-use Rattle.enc_stream.specs.Bom.{Mark, marks_looked_for, find_mark, sequences_by_mark}
-use Rattle.enc_stream.specs.LifeCycle.{encoding_of_mark_or}
-use Rattle.enc_stream.specs.MarkLaws.{bytes_after_mark}
+use Rattle.enc_stream.specs.Bom.{marks_looked_for, find_mark}
 use Rattle.enc_stream.specs.Encodings.{rule_of}
 use Rattle.enc_stream.specs.Encoder.{is_utf_8}
 use Rattle.enc_stream.specs.Decoding.{whole_encoding, whole_utf_8, whole_malformed}

@@ -1,23 +1,19 @@
 -- The sequences that a decoder has still to put out are those of one rule: its encoding's, or that
 -- of a byte order mark.
-use Rattle.std.proofs.Common.{◌≡◌, ℕ, true, false, List, [], ◌++◌, length, drop}
-use Rattle.std.proofs.Common.{refl, ap, sym, Option, Some, None}
+use Rattle.std.proofs.Common.{◌≡◌, ℕ, true, false, List, [], ◌++◌, length}
+use Rattle.std.proofs.Common.{refl, sym, Option, Some, None}
 use Rattle.enc_stream.specs.declared.encoding.Encoding.{Encoding}
 use Rattle.enc_stream.specs.declared.life_cycle.LifeCycle.{LifeCycle}
-use Rattle.enc_stream.specs.declared.life_cycle.LifeCycle.TheVariants.{AtUtf8Start, AtUtf16BeStart}
-use Rattle.enc_stream.specs.declared.life_cycle.LifeCycle.TheVariants.{AtUtf16LeStart}
-use Rattle.enc_stream.specs.declared.life_cycle.LifeCycle.TheVariants.{ConvertingWithPendingBb, Converting, Finished}
 use Rattle.enc_decoder.specs.Sequence.{Sequence}
 use Rattle.enc_decoder.specs.Segmentation.{Rule, sequences_of}
 use Rattle.enc_decoder_utf.specs.Utf8.{utf_8_rule}
 use Rattle.enc_decoder_utf.specs.Utf16.{utf_16_rule}
 use Rattle.enc_stream.specs.Encodings.{rule_of}
-use Rattle.enc_stream.specs.Bom.{Mark, sequences_by_mark, find_mark}
+use Rattle.enc_stream.specs.Bom.{Mark, find_mark}
 use Rattle.enc_stream.specs.LifeCycle.{Phase, InFront, Within, Ended, phase_of}
 use Rattle.enc_stream.specs.LifeCycle.{sequences_in}
 use Rattle.enc_stream.specs.Decoding.{DecoderState, remaining_sequences}
 use Rattle.enc_decoder.proofs.SegmentationLemmas.{sequences_of-nil}
-use Rattle.enc_stream.proofs.UnmarkedTextLemmas.{marked_sequences}
 use Rattle.enc_stream.proofs.FoundMarkLemmas.{EachMark, found_has}
 use Rattle.enc_units.proofs.LengthLemmas.{lengths}
 use Rattle.enc_stream.specs.LifeCycle.{encoding_of_mark_or}

@@ -48,7 +48,8 @@ reaches_itself life = record {
 -- what agrees on the bytes after those held, agrees after more of them
 agree_after : {A : Type 0} (f g : List ℕ → A) (held more : List ℕ) {whole : List ℕ}
     → held ++ more ≡ whole
-    → ((y : List ℕ) → f (held ++ y) ≡ g (held ++ y)) → (z : List ℕ) → f (whole ++ z) ≡ g (whole ++ z)
+    → ((y : List ℕ) → f (held ++ y) ≡ g (held ++ y)) → (z : List ℕ)
+    → f (whole ++ z) ≡ g (whole ++ z)
 agree_after f g held more whole_is agree z =
     rw (← whole_is, append_assoc held more z) (agree (more ++ z))
 
@@ -88,14 +89,14 @@ ends_after a b x y e extends completes = record {
 pub reaches_next : (a b c : LifeCycle) (src : List ℕ) (n : ℕ) → n < length src
     → ExtendsHeldMark a b (take n src)
     → ExtendsHeldMark b c (get_or src n 0 ∷ []) → ExtendsHeldMark a c (take (n + 1) src)
-reaches_next a b c src n h r s =
-    rw (take_more src n 0 h) (reaches_then a b c (take n src) (get_or src n 0 ∷ []) r s)
+reaches_next a b c src n below first next =
+    rw (take_more src n 0 below) (reaches_then a b c (take n src) (get_or src n 0 ∷ []) first next)
 
 pub ends_next : (a b : LifeCycle) (src : List ℕ) (n : ℕ) (e : Encoding) → n < length src
     → ExtendsHeldMark a b (take n src)
     → CompletesMark b (get_or src n 0 ∷ []) e → CompletesMark a (take (n + 1) src) e
-ends_next a b src n e h r m =
-    rw (take_more src n 0 h) (ends_after a b (take n src) (get_or src n 0 ∷ []) e r m)
+ends_next a b src n e below extends ends =
+    rw (take_more src n 0 below) (ends_after a b (take n src) (get_or src n 0 ∷ []) e extends ends)
 
 -- a byte that rules marks out is in front of text
 pub text_at : (life : LifeCycle) (src : List ℕ) (n : ℕ) (last : Bool) → n < length src

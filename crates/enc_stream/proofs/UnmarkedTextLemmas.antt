@@ -32,9 +32,9 @@ use Rattle.enc_stream.proofs.PendingBytesLemmas.{pending_of_held}
 pub marked_sequences : (p : Phase) (e : Encoding) (set : ℕ) (m : Mark) (x : List ℕ)
     → mark_in p x ≡ Some m
     → sequences_in p e set x ≡ sequences_of (rule_of m.encoding) 0 (drop (length m.bytes) x)
-marked_sequences (InFront looked_for) e set m x f = ap (λ o. sequences_by_mark o e x) f
-marked_sequences Within e set m x f = cc
-marked_sequences Ended e set m x f = cc
+marked_sequences (InFront looked_for) e set m x found = ap (λ o. sequences_by_mark o e x) found
+marked_sequences Within e set m x found = cc
+marked_sequences Ended e set m x found = cc
 
 -- as long as a mark may come, the bytes held determine nothing
 pub undetermined_in_front : (e : Encoding) (set : ℕ) (life : LifeCycle)
@@ -61,11 +61,11 @@ unmarked_sequences (InFront looked_for) e set x is_open none in_front =
 unmarked_sequences Within e set x is_open none in_front = refl
 unmarked_sequences Ended e set x is_open none in_front = absurd is_open
 
-none_unless_awaited : (p : Phase) (x : List ℕ) → (awaits_mark p ≡ true → mark_in p x ≡ None)
+pub none_unless_awaited : (p : Phase) (x : List ℕ) → (awaits_mark p ≡ true → mark_in p x ≡ None)
     → mark_in p x ≡ None
-none_unless_awaited (InFront looked_for) x h = h refl
-none_unless_awaited Within x h = refl
-none_unless_awaited Ended x h = refl
+none_unless_awaited (InFront looked_for) x none = none refl
+none_unless_awaited Within x none = refl
+none_unless_awaited Ended x none = refl
 
 -- from how many bytes on it is settled that no mark comes
 abbrev pub settled_from : Phase → ℕ
@@ -79,21 +79,21 @@ settled_soon Within = omega arith
 settled_soon Ended = omega arith
 
 pub settled_if_awaited : (p : Phase) (n : ℕ) → settled_from p ≤ n → awaits_mark p ≡ true → 1 ≤ n
-settled_if_awaited (InFront looked_for) n h a = h
-settled_if_awaited Within n h a = absurd (false≢true a)
-settled_if_awaited Ended n h a = absurd (false≢true a)
+settled_if_awaited (InFront looked_for) n settled awaits = settled
+settled_if_awaited Within n settled awaits = absurd (false≢true awaits)
+settled_if_awaited Ended n settled awaits = absurd (false≢true awaits)
 
 pub awaited_unless_settled : (p : Phase) (n : ℕ) → n < settled_from p → (n ≡ 0)
     × (awaits_mark p ≡ true)
-awaited_unless_settled (InFront looked_for) n h = (omega arith, refl)
-awaited_unless_settled Within n h = absurd (omega arith)
-awaited_unless_settled Ended n h = absurd (omega arith)
+awaited_unless_settled (InFront looked_for) n below = (omega arith, refl)
+awaited_unless_settled Within n below = absurd (omega arith)
+awaited_unless_settled Ended n below = absurd (omega arith)
 
 pub first_byte : (n : ℕ) (src y : List ℕ) → 1 ≤ n → n ≤ length src
     → (b : ℕ) × (z : List ℕ) × (x : List ℕ) × (src ≡ b ∷ z) × (take n src ++ y ≡ b ∷ x)
-first_byte n [] y h i = absurd (omega arith)
-first_byte zero (b ∷ z) y h i = absurd (omega arith)
-first_byte (suc n) (b ∷ z) y h i = (b, z, take n z ++ y, refl, refl)
+first_byte n [] y some within = absurd (omega arith)
+first_byte zero (b ∷ z) y some within = absurd (omega arith)
+first_byte (suc n) (b ∷ z) y some within = (b, z, take n z ++ y, refl, refl)
 
 -- A decoder of the encoding e, with the state v of its codec, reads src as text: it is not at its
 -- end, and no byte order mark precedes src.
@@ -117,7 +117,8 @@ module _ {e : Encoding} {life : LifeCycle} {v : CodecState} {src : List ℕ} {la
   at_hand y = ap (λ x. x ++ y) text.holds.held ∙ append_assoc v.pending held y
 
   pub pending_in_front : awaits_mark (phase_of life) ≡ true → pending ≡ held_mark_bytes life
-  pending_in_front a = pending_of_held (held_mark_bytes life) v.pending (text.holds.unread a).1
+  pending_in_front awaits =
+      pending_of_held (held_mark_bytes life) v.pending (text.holds.unread awaits).1
 
   -- no mark comes
 
@@ -125,32 +126,28 @@ module _ {e : Encoding} {life : LifeCycle} {v : CodecState} {src : List ℕ} {la
       → (awaits_mark (phase_of life) ≡ true
       → mark_in (phase_of life) (held_mark_bytes life ++ y) ≡ None)
       → mark_in (phase_of life) (pending ++ y) ≡ None
-  unmarked_by y h =
+  unmarked_by y unmarked =
       none_unless_awaited (phase_of life) (pending ++ y)
-      (λ awaits. ap (λ x. mark_in (phase_of life) (x ++ y)) (pending_in_front awaits) ∙ h awaits)
+      (λ awaits. rw (pending_in_front awaits) (unmarked awaits))
 
   pub unmarked_after : (n : ℕ) → (awaits_mark (phase_of life) ≡ true → 1 ≤ n) → n ≤ length src
       → (y : List ℕ)
       → mark_in (phase_of life) (pending ++ (take n src ++ y)) ≡ None
-  unmarked_after n h i y = unmarked_by (take n src ++ y) (λ a.
-      let first = first_byte n src y (h a) i in
+  unmarked_after n some within y = unmarked_by (take n src ++ y) (λ awaits.
+      let first = first_byte n src y (some awaits) within in
       ap (λ x. mark_in (phase_of life) (held_mark_bytes life ++ x)) first.4
       ∙ (text.no_mark.rules_out first.0 first.1 first.3).no_mark first.2)
 
   pub unmarked_all : (z : List ℕ) → (last ≡ true → z ≡ [])
       → mark_in (phase_of life) (pending ++ (src ++ z)) ≡ None
-  unmarked_all z l = unmarked_by (src ++ z) (λ a. by_bytes src refl a)
+  unmarked_all z ends = unmarked_by (src ++ z) (by_bytes src refl)
     where
       by_bytes : (x : List ℕ) → src ≡ x → awaits_mark (phase_of life) ≡ true
           → mark_in (phase_of life) (held_mark_bytes life ++ (src ++ z)) ≡ None
-      by_bytes [] src_is a =
-          ap (λ x. mark_in (phase_of life) (held_mark_bytes life ++ (x ++ z))) src_is
-          ∙ ap (λ x. mark_in (phase_of life) (held_mark_bytes life ++ x))
-          (l (text.no_mark.ends src_is a))
-          ∙ held_unmarked life
-      by_bytes (b ∷ x) src_is a =
-          ap (λ t. mark_in (phase_of life) (held_mark_bytes life ++ (t ++ z))) src_is
-          ∙ (text.no_mark.rules_out b x src_is).no_mark (x ++ z)
+      by_bytes [] src_is awaits =
+          rw (src_is, ends (text.no_mark.ends src_is awaits)) (held_unmarked life)
+      by_bytes (b ∷ x) src_is awaits =
+          rw src_is ((text.no_mark.rules_out b x src_is).no_mark (x ++ z))
 
   -- so the sequences are those of the codec
   pub by_codec : (y : List ℕ) → mark_in (phase_of life) (pending ++ y) ≡ None
@@ -218,7 +215,7 @@ module _ {e : Encoding} {life : LifeCycle} {v : CodecState} {src : List ℕ} {la
   -- the bytes at hand that are read begin with no mark
   pub unmarked_read : (n : ℕ) → n ≤ length src
       → mark_in (phase_of life) (pending ++ take n src) ≡ None
-  unmarked_read zero h = unmarked_by [] (λ a. held_unmarked life)
-  unmarked_read (suc n) h =
+  unmarked_read zero within = unmarked_by [] (λ awaits. held_unmarked life)
+  unmarked_read (suc n) within =
       ap (λ x. mark_in (phase_of life) (pending ++ x)) (sym (append-nil (take (suc n) src)))
-      ∙ unmarked_after (suc n) (λ _. omega arith) h []
+      ∙ unmarked_after (suc n) (λ _. omega arith) within []

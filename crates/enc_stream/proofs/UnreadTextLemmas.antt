@@ -9,12 +9,11 @@ use Rattle.std.specs.Char.{encode_utf8}
 use Rattle.std.specs.Char.Escape.{encode_utf16}
 use Rattle.std.specs.Char.Utf16.{utf16_lossy_chars}
 use Rattle.enc_units.specs.declared.coder_result.CoderResult.{CoderResult}
-use Rattle.enc_units.specs.declared.coder_result.CoderResult.TheVariants.{InputEmpty, OutputFull}
+use Rattle.enc_units.specs.declared.coder_result.CoderResult.TheVariants.{InputEmpty}
 use Rattle.enc_units.specs.Output.{units_of_text}
 use Rattle.enc_units.proofs.Utf8CharsLemmas.{their_units}
 use Rattle.enc_units.proofs.CharsLemmas.{AreUnits, utf16_length, lossy_after}
 use Rattle.enc_decoder.proofs.SequenceLemmas.{units_of_text-append}
-use Rattle.enc_encoder.specs.EncoderRule.{RawEncoderState}
 use Rattle.enc_encoder.specs.ErrorMode.{CallInMode}
 use Rattle.enc_units.specs.Results.{encoder_result_of}
 use Rattle.enc_stream.specs.Encoder.{EncoderState, EncodesChunk, raw_state, html_mode}
@@ -23,11 +22,11 @@ use Rattle.enc_encoder.proofs.ReferenceStopLemmas.{rest_is_read}
 
 -- no bytes are no characters
 pub no_chars : (text : List ℕ) → text ≡ [] → chars text ≡ []
-no_chars text h = ap chars h ∙ chars-encodes [] refl
+no_chars text none = ap chars none ∙ chars-encodes [] refl
 
 scalars_after : (xs ys : List ℕ) → all_scalars (xs ++ ys) ≡ true → all_scalars ys ≡ true
-scalars_after [] ys h = h
-scalars_after (c ∷ xs) ys h = scalars_after xs ys (second_so _ _ h)
+scalars_after [] ys are_scalars = are_scalars
+scalars_after (c ∷ xs) ys are_scalars = scalars_after xs ys (second_so _ _ are_scalars)
 
 module _ (text front rest : List ℕ) (n : ℕ) (is_utf_8 : IsUtf8 text)
     (parts : chars text ≡ front ++ rest)
@@ -66,9 +65,9 @@ pub all_read : (result : CoderResult) → result ≡ InputEmpty
     → {old new : EncoderState} {c : CallInMode} → c.mode ≡ html_mode old
     → c.result ≡ encoder_result_of result → (encodes : EncodesChunk encode_utf8 old new c)
     → [] ≡ encodes.rest
-all_read InputEmpty at_end {new = new} {c} is_html is_empty encodes =
-    rest_is_read (raw_state new) encodes.rest c.last (rw (is_html, is_empty) at encodes.call.stops)
-all_read OutputFull at_end is_html is_full encodes = cc
+all_read result at_end {new = new} {c} is_html result_is encodes =
+    rest_is_read (raw_state new) encodes.rest c.last
+    (rw (is_html, result_is, at_end) at encodes.call.stops)
 
 -- The same in UTF-16, of which a call reads no more than there is.
 module _ (text front rest : List ℕ) (n : ℕ) (are_units : AreUnits text)

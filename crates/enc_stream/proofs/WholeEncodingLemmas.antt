@@ -26,7 +26,7 @@ use Rattle.enc_stream.specs.Decoding.{remaining_sequences, whole_encoding}
 use Rattle.enc_stream.proofs.FoundMarkLemmas.{at_start, start_fits, same_front, found_is}
 use Rattle.enc_stream.proofs.WholeInputLemmas.{joined_by}
 use Rattle.enc_decoder.specs.CallRecord.{Call}
-use Rattle.enc_stream.proofs.DecoderCallLemmas.{Decodes}
+use Rattle.enc_stream.specs.Decoding.{DecodesChunk}
 use Rattle.enc_stream.proofs.DecoderProgressLemmas.{ends_read}
 use Rattle.enc_units.proofs.LengthLemmas.{lengths}
 use Rattle.enc_stream.proofs.LifeCycleLemmas.{EachState, state_has, left_has}
@@ -100,7 +100,7 @@ fresh_ahead handling e bytes =
 
 -- A call does not change it.
 module _ {units_of : ℕ → List ℕ} {old new : DecoderState} (c : Call)
-    (decodes : Decodes units_of old new c) (y : List ℕ) (none : c.last ≡ true → y ≡ []) where
+    (decodes : DecodesChunk units_of old new c) (y : List ℕ) (none : c.last ≡ true → y ≡ []) where
   abbrev x : List ℕ
   x = old.pending ++ take c.read c.src
 

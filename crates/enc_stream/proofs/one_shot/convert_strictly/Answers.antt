@@ -1,9 +1,6 @@
-use Rattle.std.proofs.Common.{rules, true, false}
-use Rattle.std.specs.String.{string_bytes}
+use Rattle.std.proofs.Common.{rules}
 use Rattle.enc_decoder.proofs.ByteLemmas.{bytes_of_slice}
-use Rattle.enc_stream.specs.declared.bom.BomHandling.TheVariants.{Off}
-use Rattle.enc_stream.specs.Decoding.{HasDecoded}
-use Rattle.enc_stream.proofs.OneShotDecodeLemmas.{nothing, none_decoded, none_strict, strict_end, strict_report}
+use Rattle.enc_stream.proofs.OneShotDecodeLemmas.{nothing, none_strict, strict_end, strict_report}
 use Rattle.enc_stream.proofs.OneShotDecodeLemmas.{never_full, has_room, asks_for_memory}
 use Rattle.enc_stream.proofs.one_shot.convert_strictly.Goals as goal
 

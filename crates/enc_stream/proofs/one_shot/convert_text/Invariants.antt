@@ -1,4 +1,4 @@
-use Rattle.std.proofs.Common.{ℕ, chars, true}
+use Rattle.std.proofs.Common.{chars, true}
 use denote.Text.{Utf8}
 use denote.Shadow.{shadow}
 use Rattle.enc_stream.specs.Encoder.{steps_left}

@@ -1,4 +1,4 @@
-use Rattle.std.proofs.Common.{rules, ◌≡◌, [], None, length, ap, ◌∙◌, sym, inl, inr}
+use Rattle.std.proofs.Common.{rules, ◌≡◌, [], None, ap, ◌∙◌, sym, inl, inr}
 use Rattle.std.specs.String.{string_bytes}
 use Rattle.std.specs.Char.{encode_utf8}
 use Rattle.enc_units.specs.declared.coder_result.CoderResult.TheVariants.{InputEmpty}
@@ -7,12 +7,11 @@ use Rattle.enc_units.specs.Output.{units_of_text}
 use Rattle.enc_decoder.specs.Sequence.{sequence_text, any_malformed}
 use Rattle.enc_decoder.specs.Remainder.{AreBytes}
 use Rattle.enc_decoder.proofs.ByteLemmas.{bytes_of_slice}
-use Rattle.enc_stream.specs.declared.lengths.Query.TheVariants.{Utf8Reporting}
-use Rattle.enc_stream.specs.Lengths.{max_length}
 use Rattle.enc_stream.proofs.EndOfInputLemmas.{whole_text, whole_flag, finishes}
 use Rattle.enc_decoder.proofs.ByteLemmas.{bytes-drop}
-use Rattle.enc_stream.proofs.OneShotDecodeLemmas.{nothing, none_whole, first_call, next_call, still_open}
+use Rattle.enc_stream.proofs.OneShotDecodeLemmas.{nothing, none_whole, none_so_far, next_call, still_open}
 use Rattle.enc_stream.proofs.OneShotDecodeLemmas.{never_full, too_long_after, asks_for_memory, there_is_a_length}
+use Rattle.std.proofs.Common.{refl}
 use Rattle.enc_stream.proofs.one_shot.convert_whole.Goals as goal
 
 pub returns-then-is_empty-clause-text : goal.returns-then-is_empty-clause-text
@@ -30,10 +29,8 @@ pub returns-in_err-text-clause-too_long :
     goal.returns-in_err-text-clause-too_long
 returns-in_err-text-clause-too_long c = λ too_long.
     let none : c.max_utf8_buffer_length_without_replacement-length.result ≡ None = search rules in
-    inl (
-    ap (λ d. max_length Utf8Reporting d (length c.args.bytes.now)) (sym c.start-decoder.ensures)
-    ∙ sym c.max_utf8_buffer_length_without_replacement-length.ensures.length ∙ none
-    )
+    let asked = c.max_utf8_buffer_length_without_replacement-length.ensures.length in
+    inl (sym (rw c.start-decoder.ensures at asked) ∙ none)
 
 pub returns-in_err-text-clause-memory : goal.returns-in_err-text-clause-memory
 returns-in_err-text-clause-memory c = λ memory.
@@ -46,8 +43,8 @@ returns-then-eq-clause-text c =
     let decodes = c.decode_to_string-stop.ensures.call.decodes in
     let at_end : c.decode_to_string-stop.result.0 ≡ InputEmpty = search rules in
     let decoded =
-    first_call _ c.start-decoder.ensures c.in_ok-text.ensures.bytes decodes
-    c.decode_to_string-stop.ensures.appended in
+    next_call _ (none_so_far c.start-decoder.ensures c.in_ok-text.ensures.bytes) refl refl
+    decodes c.decode_to_string-stop.ensures.appended in
     whole_text decoded (rw at_end at (finishes decodes))
 
 pub returns-then-eq-clause-flag : goal.returns-then-eq-clause-flag
@@ -55,8 +52,8 @@ returns-then-eq-clause-flag c =
     let decodes = c.decode_to_string-stop.ensures.call.decodes in
     let at_end : c.decode_to_string-stop.result.0 ≡ InputEmpty = search rules in
     let decoded =
-    first_call _ c.start-decoder.ensures c.in_ok-text.ensures.bytes decodes
-    c.decode_to_string-stop.ensures.appended in
+    next_call _ (none_so_far c.start-decoder.ensures c.in_ok-text.ensures.bytes) refl refl
+    decodes c.decode_to_string-stop.ensures.appended in
     whole_flag decoded (rw at_end at (finishes decodes))
 
 pub max_utf8_buffer_length-length-requires : goal.max_utf8_buffer_length-length-requires
@@ -99,8 +96,8 @@ pub returns-clause-text : goal.returns-clause-text
 returns-clause-text c =
     let decodes = c.decode_to_string-stop.ensures.call.decodes in
     let first =
-    first_call _ c.start-decoder.ensures c.in_ok-text.ensures.bytes decodes
-    c.decode_to_string-stop.ensures.appended in
+    next_call _ (none_so_far c.start-decoder.ensures c.in_ok-text.ensures.bytes) refl refl
+    decodes c.decode_to_string-stop.ensures.appended in
     let decodes_rest = c.decode_to_string.ensures.call.decodes in
     let both =
     next_call _ first c.split_at.ensures.back c.in_ok-make_room.ensures.bytes decodes_rest
@@ -111,8 +108,8 @@ pub returns-clause-flag : goal.returns-clause-flag
 returns-clause-flag c =
     let decodes = c.decode_to_string-stop.ensures.call.decodes in
     let first =
-    first_call _ c.start-decoder.ensures c.in_ok-text.ensures.bytes decodes
-    c.decode_to_string-stop.ensures.appended in
+    next_call _ (none_so_far c.start-decoder.ensures c.in_ok-text.ensures.bytes) refl refl
+    decodes c.decode_to_string-stop.ensures.appended in
     let decodes_rest = c.decode_to_string.ensures.call.decodes in
     let both =
     next_call _ first c.split_at.ensures.back c.in_ok-make_room.ensures.bytes decodes_rest

@@ -1,4 +1,4 @@
-use Rattle.std.proofs.Common.{◌≡◌, ◌≤◌, ◌+◌, ◌∙◌, ap, length, take, drop, rules, refl}
+use Rattle.std.proofs.Common.{◌≡◌, ◌∙◌, ap, length, drop, rules, refl}
 use Rattle.enc_stream.proofs.EncoderLemmas.{in_tail, tail_of}
 use Rattle.enc_stream.proofs.NeedLemmas.{by_need}
 use Rattle.enc_stream.proofs.encoder.Encoder.encode_from_utf8_to_vec_without_replacement.Goals as goal
@@ -7,11 +7,8 @@ pub returns-clause-call : goal.returns-clause-call
 returns-clause-call c =
     let made = c.encode_from_utf8_without_replacement-result in
     let len : c.len-len.result ≡ length c.args.dst.now.items = search rules in
-    let front : length (take c.len-len.result c.deref_mut.result.now) ≡ c.len-len.result =
-    search rules in
-    let written : made.result.2 ≤ length made.new.dst = search rules in
-    let within : c.len-len.result + made.result.2 ≤ c.resize.new.self.len = search rules in
-    let tail = tail_of _ made.new.dst _ _ _ _ front written within c.truncate.ensures.items in
+    let tail = tail_of _ made.new.dst _ _ _ _ (search rules) (search rules) (search rules)
+    c.truncate.ensures.items in
     in_tail (search rules) (tail ∙ ap (λ n. drop n c.truncate.new.self.items) len)
     made.ensures.call
 

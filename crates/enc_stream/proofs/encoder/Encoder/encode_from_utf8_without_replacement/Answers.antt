@@ -30,4 +30,5 @@ returns-clause-read c = (returns-clause-boundary c).0
 pub returns-clause-progress : goal.returns-clause-progress
 returns-clause-progress c = λ on room.
     let encodes = (returns-clause-call c) in
-    rw (chars_after _ _ _ _ c.utf8.src encodes.call.reads encodes.call.units) (goes_on encodes.call (lawful_of _ _) room on)
+    rw (chars_after _ _ _ _ c.utf8.src encodes.call.reads encodes.call.units)
+    (goes_on encodes.call (lawful_of _ _) room on)

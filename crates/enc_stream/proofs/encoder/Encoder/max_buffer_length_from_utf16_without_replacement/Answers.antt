@@ -1,7 +1,3 @@
-use Rattle.std.proofs.Common.{◌∙◌, ap}
-use Rattle.enc_encoder.specs.declared.byte_lengths.ByteLengths.{ByteLengths}
-use Rattle.enc_encoder.specs.Lengths.{from_utf_16_length}
-use Rattle.enc_stream.specs.Lengths.{output_lengths}
 use Rattle.enc_stream.proofs.NeedLemmas.{enough_from_utf_16}
 use Rattle.enc_stream.proofs.encoder.Encoder.max_buffer_length_from_utf16_without_replacement.Goals as goal
 
