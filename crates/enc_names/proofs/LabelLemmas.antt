@@ -67,7 +67,6 @@ module _ (label trimmed : List ℕ) (trim : IsTrimAscii label trimmed) where
       sym (get_or-map Some encodings i d None within) ∙ ap (λ ids. get_or ids i None) listed
       ∙ get_or-map (id_paired_with id_pairs) table i [] None (omega (
         arith,
-        within,
         ap length listed,
         length-map encodings Some,
         length-map table (id_paired_with id_pairs),
