@@ -5,8 +5,7 @@ use Rattle.std.specs.Prelude.{option_map, IfSome}
 use Rattle.std.specs.List.{list_all}
 use Rattle.std.specs.Char.{to_ascii_lowercase}
 use Rattle.std.specs.Str.{bytes_eq, IsTrimAscii}
-use Rattle.std.specs.Cmp.{first_so, second_so}
-use Rattle.std.proofs.lemmas.Bool.{false≢true, cases_Bool}
+use Rattle.std.proofs.lemmas.Bool.{false≢true, cases_Bool, and_parts}
 use Rattle.std.proofs.lemmas.List.{get_or-map, length-map}
 use Rattle.std.proofs.lemmas.Slice.Eq.{bytes_eq-Decides}
 use Rattle.std.proofs.lemmas.Str.Ascii.{trim_ascii_is}
@@ -44,14 +43,10 @@ unplaced : (pairs : List (List ℕ × EncodingId)) (word : List ℕ) → have_pl
 unfolding have_places
 unplaced [] word places_hold not_found = refl
 unplaced (pair ∷ pairs) word places_hold not_found =
-    let first : is_some (word_place table pair.0) ≡ true =
-    first_so (is_some (word_place table pair.0)) (have_places pairs) places_hold in
+    let both = and_parts _ _ places_hold in
     let other : bytes_eq pair.0 word ≡ false = differs pair.0 word
-    (λ same. false≢true (sym (ap is_some (ap (word_place table) same ∙ not_found)) ∙ first)) in
-    let rest : id_paired_with pairs word ≡ None =
-    unplaced pairs word (second_so (is_some (word_place table pair.0)) (have_places pairs)
-    places_hold) not_found in
-    rw (other, rest) refl
+    (λ same. false≢true (sym (ap is_some (ap (word_place table) same ∙ not_found)) ∙ both.0)) in
+    rw (other, unplaced pairs word both.1 not_found) refl
 
 -- the place of a trimmed label gives its encoding
 module _ (label trimmed : List ℕ) (trim : IsTrimAscii label trimmed) where
@@ -67,7 +62,6 @@ module _ (label trimmed : List ℕ) (trim : IsTrimAscii label trimmed) where
       sym (get_or-map Some encodings i d None within) ∙ ap (λ ids. get_or ids i None) listed
       ∙ get_or-map (id_paired_with id_pairs) table i [] None (omega (
         arith,
-        within,
         ap length listed,
         length-map encodings Some,
         length-map table (id_paired_with id_pairs),

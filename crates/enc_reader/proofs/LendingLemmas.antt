@@ -112,9 +112,6 @@ HandsOut-chunk source d filled at n xs ended had within_filled w within o none =
     let src : List ℕ = take (filled - at) (drop at xs) in
     let few : n ≤ length src = omega (
       arith,
-      within_filled,
-      w,
-      within,
       length-take (filled - at) (drop at xs),
       length-drop at xs,
     ) in

@@ -71,13 +71,7 @@ ReadsOwed-then a b c {x = x} {y = y} {w₁ = w₁} {w₂ = w₂} {m₂ = m₂} f
           then_more.text ∙ sym (units-append encode_utf8 first.done then_more.done);
       flag = ap (λ m. m || m₂) first.flag ∙ ap (λ m. any_malformed first.done || m) then_more.flag
           ∙ sym (any_malformed-append first.done then_more.done);
-      nearer = omega (
-        arith,
-        first.nearer,
-        then_more.nearer,
-        length-append x y,
-        length-append w₁ w₂,
-      );
+      nearer = omega (arith, length-append x y, length-append w₁ w₂);
     }
 
 -- how far one is that has come to the end, and one that hasn't
@@ -131,7 +125,6 @@ PullsChunk-after {d = d} {ended = ended} {xs = xs} held n ys not_ended going hel
       some = λ more. omega (
         arith,
         eqb-false n 0 more,
-        bound,
         length-take n (drop held ys),
         length-drop held ys,
       );

@@ -62,7 +62,6 @@ module _ (before : ReaderState) {new : DecoderState} {room : ℕ} (result : Code
           | inl finished ↦ absurd (false≢true (sym unfinished ∙ finished))
           | inr less ↦ omega (
             arith,
-            less,
             before_end after unfinished,
             before_end before can_decode.going,
             length-drop read before.unread,
@@ -142,8 +141,6 @@ chunk_can_decode filled at xs {ended = ended} going decoded within tested roomy 
       omega (
         arith,
         eqb-false at filled more,
-        decoded,
-        within,
         length-take (filled - at) (drop at xs),
         length-drop at xs,
       );
@@ -158,8 +155,6 @@ pub room_left : (filled at : ℕ) (xs : List ℕ) → at ≤ filled → filled �
     → take (filled - at) (drop at xs) ≡ [] → filled - at < length xs
 room_left filled at xs h w some none = omega (
   arith,
-  h,
-  w,
   some,
   ap length none,
   length-take (filled - at) (drop at xs),

@@ -1,6 +1,7 @@
 -- Text that is encoded as itself: each of its characters is written as its UTF-8, in ASCII.
 use Rattle.std.proofs.Common.{◌≡◌, ℕ, suc, ◌<◌, true, false, List, [], ◌∷◌, ◌++◌, refl, ap, ◌∙◌, sym, subst}
-use Rattle.std.proofs.Common.{arith, inl, inr, append_assoc, append-nil, chars, nat_lt, not, ◌||◌, ◌==◌, is_some, Some, if◌then◌else◌}
+use Rattle.std.proofs.Common.{arith, inl, inr, append_assoc, append-nil, chars, nat_lt, not, ◌||◌, ◌==◌, is_some, Some}
+use Rattle.std.proofs.Common.{if◌then◌else◌}
 use Rattle.std.specs.Prelude.{All, ◌≢◌}
 use Rattle.std.specs.Char.{encode_utf8}
 use Rattle.std.specs.Str.{IsUtf8, encode_utf8_all}

@@ -157,7 +157,6 @@ module _ (units_of : ℕ → List ℕ) where
               arith,
               units,
               length-append (units_of d) (units_of_text units_of some),
-              width_is,
               ap (λ x. length (units_of x)) same,
             );
             number = omega (arith, number);
@@ -181,7 +180,6 @@ module _ (units_of : ℕ → List ℕ) where
       → AreLeft front back rest count left → count ≡ length front
   at_end_taken {back = back} {rest} none now = omega (
     arith,
-    now.number,
     ap length (sym (no_chars rest none) ∙ now.characters),
     length-append now.some back,
   )

@@ -1,6 +1,6 @@
 -- The text of one call of a run, and the bytes that it is offered.
-use Rattle.std.proofs.Common.{◌≡◌, ℕ, ◌≤◌, Bool, true, false, true≢false, List, [], ◌++◌, length, take, refl, ap, ◌∙◌}
-use Rattle.std.proofs.Common.{sym, arith, nat_le, append-nil}
+use Rattle.std.proofs.Common.{◌≡◌, ℕ, Bool, true, false, true≢false, List, [], ◌++◌, length, take, refl, ap, ◌∙◌}
+use Rattle.std.proofs.Common.{sym, append-nil}
 use Rattle.std.proofs.lemmas.List.{take_min}
 use Rattle.std.proofs.Math.Seq.{take-append_seam}
 use Rattle.std.specs.Prelude.{min}

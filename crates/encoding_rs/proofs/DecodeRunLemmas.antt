@@ -138,22 +138,17 @@ module _ {handling : BomHandling} {e : Encoding} {bytes : List ℕ} {made : Deco
   stays_in_input = record {
     within = omega (
       arith,
-      advances.read,
       decodes.call.within,
       length-take made.offer unread,
       length-drop old.read bytes,
-      in_input.within,
     );
     all_read = λ finished.
         let ends = ends_read of_call decodes finished in
         omega (
           arith,
-          advances.read,
-          ends.1,
           leb-true (length unread) made.offer ends.0,
           length-take made.offer unread,
           length-drop old.read bytes,
-          in_input.within,
         );
     encoding = ap (encoding_ahead new.decoder) (sym rest_is)
         ∙ still_ahead of_call decodes following none_following
@@ -228,9 +223,6 @@ module _ {handling : BomHandling} {e : Encoding} {bytes : List ℕ} {made : Deco
       (ap (reaches_end last) result_is) in
       let offset : new.read - a - l ≡ next_offset bytes old + length (sequence_bytes put) = omega (
         arith,
-        at_pending,
-        stops.pending,
-        stops.len,
         offset_after,
         ap (λ ss. length (sequence_bytes ss)) stops.then_next,
         ap length (sequence_bytes-one put stops.next),

@@ -1,6 +1,6 @@
 -- What one call of a run of an encoder reports, and what it leaves.
-use Rattle.std.proofs.Common.{◌≡◌, ℕ, ◌≤◌, Bool, true, false, true≢false, ◌==◌, ◌↔◌, chars, List, [], ◌∷◌, ◌++◌, Option}
-use Rattle.std.proofs.Common.{Some, is_some, length, refl, ap, ◌∙◌, sym, arith, ◌||◌, ◌&&◌, nat_le, append-nil}
+use Rattle.std.proofs.Common.{◌≡◌, ℕ, ◌≤◌, Bool, true, false, true≢false, ◌==◌, ◌↔◌, chars, List, [], ◌∷◌, ◌++◌}
+use Rattle.std.proofs.Common.{is_some, length, refl, ap, ◌∙◌, sym, arith, ◌||◌, ◌&&◌, nat_le, append-nil}
 use Rattle.std.proofs.Common.{if◌then◌else◌}
 use Rattle.std.proofs.lemmas.Bool.{leb-true, le-leb}
 use Rattle.std.proofs.lemmas.Bool.Decides.{same_from_decides, Decides-eqb}
@@ -20,7 +20,7 @@ use Rattle.enc_encoder.proofs.StepLemmas.{any_reported-append}
 use Rattle.enc_encoder.proofs.TextLemmas.{parted}
 use Rattle.enc_encoder.specs.ErrorMode.{EncodeErrorMode, Fatal, Html, is_html_mode, StopsInMode}
 use Rattle.enc_encoder.proofs.UnmappableLemmas.{reports_by, reports_in, reports_in-append}
-use Rattle.enc_stream.specs.Encoder.{EncoderState, room_kept_for_references}
+use Rattle.enc_stream.specs.Encoder.{EncoderState}
 use Rattle.enc_decoder.proofs.SequenceLemmas.{or_false}
 use Rattle.encoding_rs.specs.EncodeRun.{encode_error_mode, reported_character, is_unmappable_result}
 use Rattle.encoding_rs.specs.EncodeRun.{is_input_empty_result}

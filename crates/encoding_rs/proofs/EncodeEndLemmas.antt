@@ -1,5 +1,5 @@
 -- Each call of a run of an encoder takes a step, or ends it.
-use Rattle.std.proofs.Common.{◌≡◌, ℕ, ◌+◌, ◌*◌, ◌<◌, ◌≤◌, ◌⊎◌, inl, inr, Bool, true, false, ◌&&◌, List, [], ◌∷◌, ◌++◌}
+use Rattle.std.proofs.Common.{◌≡◌, ℕ, ◌+◌, ◌*◌, ◌<◌, ◌≤◌, ◌⊎◌, inl, inr, Bool, true, false, List, [], ◌∷◌, ◌++◌}
 use Rattle.std.proofs.Common.{length, take, drop, nat_le, refl, ap, ◌∙◌, sym, arith, length-append}
 use Rattle.std.specs.List.{All}
 use Rattle.std.proofs.lemmas.Bool.{false≢true, and_from, false_from_ne_true}
@@ -71,11 +71,7 @@ module _ {b : List ℕ} {e : Encoding} {text : List ℕ} {made : EncodeCall} {ol
       | inr not_empty ↦ takes_step (raw_state new.encoder)
           (lawful_of new.encoder.barred new.encoder.encoding) advances.call.encodes.rest last
           made.room (encode_error_mode made.replace old.encoder)
-          (omega (
-            arith,
-            room_for b e old.encoder made.replace in_text.encoding in_text.barred,
-            further.roomy,
-          ))
+          (omega (arith, room_for b e old.encoder made.replace in_text.encoding in_text.barred))
           done advances.result
           (λ e. false≢true (sym not_empty ∙ ap is_input_empty_result e))
           (raw in_text advances).stops

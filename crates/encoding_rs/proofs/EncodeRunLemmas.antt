@@ -38,7 +38,6 @@ pub read_within : {made : EncodeCall} {old new : EncoderState} {unread before af
     → MakesEncodeCall made old new unread before after result more replaced → more ≤ length unread
 read_within {made = made} {unread = unread} call = omega (
   arith,
-  call.chars,
   ap length call.encodes.call.reads,
   length-append (step_chars call.encodes.call.done) call.encodes.rest,
   length-take made.offer unread,
@@ -142,13 +141,7 @@ module _ {b : List ℕ} {e : Encoding} {text : List ℕ} {made : EncodeCall} {ol
 
   pub stays_in_text : IsInText b e text new
   stays_in_text = record {
-    within = omega (
-      arith,
-      advances.read,
-      read_within advances.call,
-      length-drop old.read text,
-      in_text.within,
-    );
+    within = omega (arith, read_within advances.call, length-drop old.read text);
     encoding = advances.call.encodes.encoding ∙ in_text.encoding;
     barred = advances.call.encodes.barred ∙ in_text.barred;
     bytes = bytes_after;
@@ -215,13 +208,7 @@ reads_parts {b = b} {e = e} {text = text} (call ∷ calls) {old = old} {new = ne
       parts = part ∷ others.parts;
       reads_first = reads_first in_text run.1 ∙ ap (λ t. part.chars ++ t) others.reads_first
           ∙ sym (append_assoc part.chars later_chars (drop new.read text));
-      count = omega (
-        arith,
-        others.count,
-        run.1.read,
-        run.1.call.chars,
-        length-append part.chars later_chars,
-      );
+      count = omega (arith, run.1.read, run.1.call.chars, length-append part.chars later_chars);
       calls_are = ap (λ modes. call.replace ∷ modes) others.calls_are;
       reported = others.reported
           ∙ ap (λ t. t ++ reports_of_parts rule others.parts) (reports_after in_text run.1)

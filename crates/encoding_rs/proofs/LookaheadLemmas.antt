@@ -29,8 +29,7 @@ use Rattle.enc_stream.proofs.MarkFirstLemmas.{undetermined, by_rule, mark_is_dec
 
 looks_not : (rule : Rule) (set b : ℕ) (z : List ℕ) (n : ℕ) → AreBytes z → IsLookahead rule set b z n
     → IsDeterminedWithin rule set b z 0 → n ≡ 0
-looks_not rule set b z n a l t = let none_more = no_more_than rule set b z n 0 a l t in
-    omega (arith, none_more)
+looks_not rule set b z n a l t = omega (arith, no_more_than rule set b z n 0 a l t)
 
 some_more : (rule : Rule) (set b : ℕ) (z : List ℕ) (n : ℕ) → IsLookahead rule set b z n
     → (IsDeterminedWithin rule set b z 0 → ⊥) → 1 ≤ n

@@ -1,5 +1,5 @@
 -- Text encoded in an output encoding is decoded back.
-use Rattle.std.proofs.Common.{◌≡◌, ◌≢◌, ℕ, ◌<◌, true, false, is_some, Option, Some, None, List, [], ◌∷◌, map, refl, ap}
+use Rattle.std.proofs.Common.{◌≡◌, ◌≢◌, ℕ, true, false, is_some, Option, Some, None, List, [], ◌∷◌, map, refl, ap}
 use Rattle.std.proofs.Common.{◌∙◌, arith, inl, not}
 use Rattle.std.proofs.lemmas.Bool.{and_from}
 use Rattle.std.proofs.Math.Utf8.{low_scalar}

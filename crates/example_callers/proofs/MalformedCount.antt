@@ -1,13 +1,15 @@
 -- The malformed sequences to come before a call without replacement, and after it: by the fields of
 -- its clause `call`.
-use Rattle.std.proofs.Common.{◌≡◌, ℕ, ◌+◌, Bool, true, false, true≢false, List, [], ◌∷◌, ◌++◌, drop, refl, ap, ◌∙◌, sym}
-use Rattle.std.proofs.Common.{append-nil, add_assoc, zero-add, ◌||◌, if◌then◌else◌}
+use Rattle.std.proofs.Common.{◌≡◌, ℕ, ◌+◌, true, false, List, [], ◌∷◌, ◌++◌, drop, refl, ap, ◌∙◌, sym}
+use Rattle.std.proofs.Common.{append-nil, add_assoc, zero-add, if◌then◌else◌}
 use Rattle.std.specs.Char.{encode_utf8}
 use Rattle.enc_units.specs.declared.decoder_result.DecoderResult.{DecoderResult}
 use Rattle.enc_units.specs.declared.decoder_result.DecoderResult.TheVariants as raw
 use Rattle.enc_decoder.specs.Sequence.{Sequence, is_malformed, any_malformed}
 use Rattle.enc_decoder.specs.Call.{DecoderStops, Fatal}
-use Rattle.encoding_rs.specs.Decoding.{DecoderState, decoder_remainder, remaining_sequences, DecodesChunk, reporting_call}
+use Rattle.enc_stream.proofs.EndOfInputLemmas.{first_open, others_open}
+use Rattle.encoding_rs.specs.Decoding.{DecoderState, decoder_remainder, remaining_sequences, DecodesChunk}
+use Rattle.encoding_rs.specs.Decoding.{reporting_call}
 use Rattle.example_callers.specs.Count.{malformed_count}
 use Rattle.example_callers.proofs.WrittenText.{drop_whole}
 
@@ -19,15 +21,13 @@ malformed_count-append (s ∷ a) b =
     ap (λ n. first + n) (malformed_count-append a b)
     ∙ sym (add_assoc first (malformed_count a) (malformed_count b))
 
-none_by : (b any : Bool) (n : ℕ) → false ≡ (b || any) → (false ≡ any → n ≡ 0)
-    → (if b then 1 else 0) + n ≡ 0
-none_by true any n h k = absurd (true≢false (sym h))
-none_by false any n h k = zero-add n ∙ k h
-
-none_counted : (ss : List Sequence) → false ≡ any_malformed ss → malformed_count ss ≡ 0
-none_counted [] h = refl
-none_counted (s ∷ ss) h =
-    none_by (is_malformed s.kind) (any_malformed ss) (malformed_count ss) h (none_counted ss)
+none_counted : (ss : List Sequence) → any_malformed ss ≡ false → malformed_count ss ≡ 0
+none_counted [] none = refl
+none_counted (s ∷ ss) none =
+    rw (
+      first_open (is_malformed s.kind) (any_malformed ss) none,
+      none_counted ss (others_open (is_malformed s.kind) (any_malformed ss) none),
+    ) refl
 
 -- the number of malformed sequences that a call reports
 abbrev pub reported : DecoderResult → ℕ
@@ -37,7 +37,7 @@ reported (raw.Malformed l a) = 1
 
 -- The malformed sequences to come before a call are the one that it reports and those to come after
 -- it.
-pub counts_now : {old new : DecoderState} {src : List ℕ} {room : ℕ} (result : DecoderResult)
+counts_now : {old new : DecoderState} {src : List ℕ} {room : ℕ} (result : DecoderResult)
     {read : ℕ} {wrote : List ℕ}
     → DecodesChunk encode_utf8 old new (reporting_call src true room result read wrote)
     → malformed_count (remaining_sequences old src)
@@ -56,15 +56,25 @@ counts_now {old} {new} {src} {room} result {read} decodes =
         (Fatal false) room decodes.call.put decodes.call.done read r
         → malformed_count decodes.call.done ≡ reported r
     by_result raw.InputEmpty stops = ap malformed_count stops.only_put
-        ∙ none_counted decodes.call.put decodes.call.flag
+        ∙ none_counted decodes.call.put (sym decodes.call.flag)
     by_result raw.OutputFull stops = ap malformed_count stops.only_put
-        ∙ none_counted decodes.call.put decodes.call.flag
+        ∙ none_counted decodes.call.put (sym decodes.call.flag)
     by_result (raw.Malformed l a) stops =
         ap malformed_count stops.then_next
         ∙ malformed_count-append decodes.call.put (stops.next ∷ [])
         ∙ ap (λ n. n + malformed_count (stops.next ∷ []))
-        (none_counted decodes.call.put decodes.call.flag)
+        (none_counted decodes.call.put (sym decodes.call.flag))
         ∙ rw stops.malformed refl
+
+-- The same, where why it stopped and the bytes unread are known by other names.
+pub counted_by : {old new : DecoderState} {src rest : List ℕ} {room : ℕ} {result r : DecoderResult}
+    {read : ℕ} {wrote : List ℕ}
+    → DecodesChunk encode_utf8 old new (reporting_call src true room result read wrote)
+    → result ≡ r
+    → rest ≡ drop read src
+    → malformed_count (remaining_sequences old src)
+    ≡ reported r + malformed_count (remaining_sequences new rest)
+counted_by {result = result} decodes is rest_is = rw (← is, rest_is) (counts_now result decodes)
 
 -- Before a call that returns `InputEmpty` none is to come.
 pub none_at_end : {old new : DecoderState} {src : List ℕ} {room : ℕ} (result : DecoderResult)

@@ -9,6 +9,7 @@ use Rattle.enc_units.specs.declared.coder_result.CoderResult.{CoderResult}
 use Rattle.enc_units.specs.declared.coder_result.CoderResult.TheVariants.{InputEmpty, OutputFull}
 use Rattle.enc_units.specs.Output.{units_of_text}
 use Rattle.enc_decoder.specs.Sequence.{Sequence, sequence_text}
+use Rattle.enc_decoder.proofs.SequenceLemmas.{units-append}
 use Rattle.enc_stream.specs.declared.bom.BomHandling.TheVariants.{Sniff}
 use Rattle.enc_stream.specs.declared.encoding.Encoding.{Encoding}
 use Rattle.encoding_rs.specs.Decoding.{DecoderState, fresh_decoder, remaining_sequences, DecodesChunk, replacing_call, whole_utf_8}
@@ -16,27 +17,6 @@ use Rattle.encoding_rs.specs.Decoding.{DecoderState, fresh_decoder, remaining_se
 -- the text of sequences, in UTF-8
 abbrev pub utf_8 : List Sequence → List ℕ
 utf_8 ss = units_of_text encode_utf8 (sequence_text ss)
-
-sequence_text-append : (a b : List Sequence)
-    → sequence_text (a ++ b) ≡ sequence_text a ++ sequence_text b
-sequence_text-append [] b = refl
-sequence_text-append (s ∷ a) b =
-    ap (λ t. s.text ++ t) (sequence_text-append a b)
-    ∙ sym (append_assoc s.text (sequence_text a) (sequence_text b))
-
-units_of_text-append : (t u : List ℕ)
-    → units_of_text encode_utf8 (t ++ u)
-    ≡ units_of_text encode_utf8 t ++ units_of_text encode_utf8 u
-units_of_text-append [] u = refl
-units_of_text-append (c ∷ t) u =
-    ap (λ x. encode_utf8 c ++ x) (units_of_text-append t u)
-    ∙ sym (append_assoc (encode_utf8 c) (units_of_text encode_utf8 t)
-    (units_of_text encode_utf8 u))
-
-utf_8-append : (a b : List Sequence) → utf_8 (a ++ b) ≡ utf_8 a ++ utf_8 b
-utf_8-append a b =
-    ap (units_of_text encode_utf8) (sequence_text-append a b)
-    ∙ units_of_text-append (sequence_text a) (sequence_text b)
 
 -- The text to come before a call is what the call writes and the text to come after it.
 pub written_then : {old new : DecoderState} {src : List ℕ} {last : Bool} {room : ℕ}
@@ -48,27 +28,30 @@ pub written_then : {old new : DecoderState} {src : List ℕ} {last : Bool} {room
 written_then {new} {src} InputEmpty {read} decodes z none_after =
     let after = remaining_sequences new (drop read src ++ z) in
     ap utf_8 (decodes.call.residual z none_after)
-    ∙ utf_8-append decodes.call.done after
+    ∙ units-append encode_utf8 decodes.call.done after
     ∙ ap (λ x. x ++ utf_8 after)
     (ap utf_8 decodes.call.stops.only_put ∙ sym decodes.call.text)
 written_then {new} {src} OutputFull {read} decodes z none_after =
     let after = remaining_sequences new (drop read src ++ z) in
     ap utf_8 (decodes.call.residual z none_after)
-    ∙ utf_8-append decodes.call.done after
+    ∙ units-append encode_utf8 decodes.call.done after
     ∙ ap (λ x. x ++ utf_8 after)
     (ap utf_8 decodes.call.stops.only_put ∙ sym decodes.call.text)
 
 pub drop_whole : (x : List ℕ) (n : ℕ) → n ≡ length x → drop n x ≡ []
 drop_whole x n e = ap (λ k. drop k x) e ∙ drop-length x
 
-all_read : {old new : DecoderState} {src : List ℕ} {last : Bool} {room : ℕ} (result : CoderResult)
-    {read : ℕ} {wrote : List ℕ} {replaced : Bool}
+-- `InputEmpty` leaves nothing unread, and at the end of the input nothing to come.
+at_input_empty : {old new : DecoderState} {src : List ℕ} {last : Bool} {room : ℕ}
+    (result : CoderResult) {read : ℕ} {wrote : List ℕ} {replaced : Bool}
     → DecodesChunk encode_utf8 old new (replacing_call src last room result read wrote replaced)
-    → result ≡ InputEmpty → drop read src ≡ []
-all_read {src} InputEmpty {read} decodes is = drop_whole src read decodes.call.stops.all_read
-all_read OutputFull decodes is = absurd (let none : ⊥ = cc in none)
+    → result ≡ InputEmpty
+    → (drop read src ≡ []) × (last ≡ true → remaining_sequences new [] ≡ [])
+at_input_empty {src} InputEmpty {read} decodes is =
+    (drop_whole src read decodes.call.stops.all_read, decodes.call.stops.none_left)
+at_input_empty OutputFull decodes is = absurd (let none : ⊥ = cc in none)
 
--- the same after `InputEmpty`, which leaves nothing unread
+-- the same after `InputEmpty`
 pub written_chunk : {old new : DecoderState} {src : List ℕ} {last : Bool} {room : ℕ}
     (result : CoderResult) {read : ℕ} {wrote : List ℕ} {replaced : Bool}
     → DecodesChunk encode_utf8 old new (replacing_call src last room result read wrote replaced)
@@ -76,14 +59,8 @@ pub written_chunk : {old new : DecoderState} {src : List ℕ} {last : Bool} {roo
     → utf_8 (remaining_sequences old (src ++ z)) ≡ wrote ++ utf_8 (remaining_sequences new z)
 written_chunk {new} result {wrote} decodes is z none_after =
     written_then result decodes z none_after
-    ∙ ap (λ x. wrote ++ utf_8 (remaining_sequences new (x ++ z))) (all_read result decodes is)
-
-none_left : {old new : DecoderState} {src : List ℕ} {room : ℕ} (result : CoderResult)
-    {read : ℕ} {wrote : List ℕ} {replaced : Bool}
-    → DecodesChunk encode_utf8 old new (replacing_call src true room result read wrote replaced)
-    → result ≡ InputEmpty → remaining_sequences new [] ≡ []
-none_left InputEmpty decodes is = decodes.call.stops.none_left refl
-none_left OutputFull decodes is = absurd (let none : ⊥ = cc in none)
+    ∙ ap (λ x. wrote ++ utf_8 (remaining_sequences new (x ++ z)))
+    (at_input_empty result decodes is).0
 
 -- At the end of the input all text is written.
 pub written_all : {old new : DecoderState} {src : List ℕ} {room : ℕ} (result : CoderResult)
@@ -93,7 +70,7 @@ pub written_all : {old new : DecoderState} {src : List ℕ} {room : ℕ} (result
 written_all {old} {src} result {wrote} decodes is =
     ap (λ x. utf_8 (remaining_sequences old x)) (sym (append-nil src))
     ∙ written_chunk result decodes is [] (λ _. refl)
-    ∙ ap (λ ss. wrote ++ utf_8 ss) (none_left result decodes is) ∙ append-nil wrote
+    ∙ ap (λ ss. wrote ++ utf_8 ss) ((at_input_empty result decodes is).1 refl) ∙ append-nil wrote
 
 -- The text of a whole input split in two is that to come of a new decoder.
 pub whole_in_two : {e : Encoding} {d : DecoderState} (bytes : List ℕ) {front back : List ℕ} (n : ℕ)

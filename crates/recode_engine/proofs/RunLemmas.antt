@@ -179,13 +179,7 @@ module _ {start : RunStart} {now : RunState} (next : ReaderPlace) {text : List â
       reads = reads_on;
       is_exhausted = hands_out.exhausted;
       encoded = rw not_last at encoded_on;
-      enough = omega (
-        arith,
-        so_far.enough,
-        hands_out.reads.nearer,
-        some,
-        length-append so_far.bytes hands_out.bytes,
-      );
+      enough = omega (arith, length-append so_far.bytes hands_out.bytes);
     }
 
     -- the end

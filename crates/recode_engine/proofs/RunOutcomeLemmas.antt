@@ -85,7 +85,8 @@ module _ {from to : Encoding} {source_before source_after sink_before sink_after
 
   -- and that a fault of a side stops
   pub IsRecodeRun-fault : {r : Result Bool RecodeFault} (fault : RecodeFault) → r ≡ Err fault
-      → RunsToFault from to source_before.bytes source_after.bytes sink_before.bytes sink_after.bytes
+      → RunsToFault from to source_before.bytes source_after.bytes sink_before.bytes
+      sink_after.bytes
       → (fault ≡ side_fault.Read → IfSome source_before.bytes
       (λ all. length all < 2 ^ 62 → source_after.has_failed ≡ true)
       × (sink_after.has_failed ≡ sink_before.has_failed))

@@ -39,7 +39,8 @@ pub EncodesText-ascii : (s : EncoderState) (text rest : List ℕ) (n : ℕ) (las
     → EncodesText (text_to_encode s (chars text)) (text_to_encode s (chars rest)) last
     (take n text) false
 EncodesText-ascii s text rest zero last are_ascii own is_rest =
-    rw (is_rest, rest_is text zero are_ascii) (EncodesText-none (text_to_encode s (chars text)) last)
+    rw (is_rest, rest_is text zero are_ascii)
+    (EncodesText-none (text_to_encode s (chars text)) last)
 EncodesText-ascii s text rest (suc n) last are_ascii own is_rest =
     let writes = own (omega arith) in
     let front = take (suc n) text in

@@ -1,9 +1,8 @@
 -- Each turn leaves fewer bytes, and counts what its call reports.
 use Rattle.std.proofs.Common.{◌∙◌, ap, arith, length, true, length-drop}
 use Rattle.enc_decoder.specs.Call.{reaches_end}
-use Rattle.encoding_rs.specs.Decoding.{remaining_sequences, LeavesFewerBytes}
-use Rattle.example_callers.specs.Count.{malformed_count}
-use Rattle.example_callers.proofs.MalformedCount.{counts_now, none_at_end, reported}
+use Rattle.encoding_rs.specs.Decoding.{LeavesFewerBytes}
+use Rattle.example_callers.proofs.MalformedCount.{counted_by, none_at_end}
 use Rattle.example_callers.proofs.count_malformed.Goals as goal
 
 pub returns-in-InputEmpty : goal.returns-in-InputEmpty
@@ -20,15 +19,12 @@ pieces-preserved-in-OutputFull c =
     call.ensures.progress (λ e. let none : ⊥ = cc in none) (omega (arith, c.pieces.invariant.room))
     in
     let rest = ap length c.split_at.ensures.back in
-    let now = counts_now _ call.ensures.call.decodes in
-    let again = ap (λ x. malformed_count (remaining_sequences call.new.self x))
-    c.split_at.ensures.back in
-    let number = ap reported c.in-OutputFull.is in
+    let now = counted_by call.ensures.call.decodes c.in-OutputFull.is c.split_at.ensures.back in
     record {
       going = call.ensures.ended ∙ ap (reaches_end true) c.in-OutputFull.is;
       room = omega arith;
       left = omega (arith, c.pieces.invariant.left, fewer, rest, length-drop call.result.1 before);
-      counted = omega (arith, c.pieces.invariant.counted, now, again, number);
+      counted = omega (arith, c.pieces.invariant.counted, now);
     }
 
 pub pieces-preserved : goal.pieces-preserved
@@ -39,13 +35,10 @@ pieces-preserved c =
     call.ensures.progress (λ e. let none : ⊥ = cc in none) (omega (arith, c.pieces.invariant.room))
     in
     let rest = ap length c.split_at.ensures.back in
-    let now = counts_now _ call.ensures.call.decodes in
-    let again = ap (λ x. malformed_count (remaining_sequences call.new.self x))
-    c.split_at.ensures.back in
-    let number = ap reported c.in-Malformed.is in
+    let now = counted_by call.ensures.call.decodes c.in-Malformed.is c.split_at.ensures.back in
     record {
       going = call.ensures.ended ∙ ap (reaches_end true) c.in-Malformed.is;
       room = omega arith;
       left = omega (arith, c.pieces.invariant.left, fewer, rest, length-drop call.result.1 before);
-      counted = omega (arith, c.pieces.invariant.counted, now, again, number);
+      counted = omega (arith, c.pieces.invariant.counted, now);
     }

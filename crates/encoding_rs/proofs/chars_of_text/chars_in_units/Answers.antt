@@ -1,7 +1,7 @@
 use Rattle.std.proofs.Common.{arith}
 use Rattle.encoding_rs.specs.Run.{units_of_call}
-use Rattle.encoding_rs.proofs.CharsOfTextLemmas.{begin, one_more, within, none_taken, takes_one, all_taken, at_end_taken}
-use Rattle.encoding_rs.proofs.CharsOfTextLemmas.{some_units}
+use Rattle.encoding_rs.proofs.CharsOfTextLemmas.{begin, one_more, within, some_units, none_taken, takes_one}
+use Rattle.encoding_rs.proofs.CharsOfTextLemmas.{all_taken, at_end_taken}
 use Rattle.encoding_rs.proofs.chars_of_text.chars_in_units.Goals as goal
 
 pub loop-left-init : goal.loop-left-init

@@ -30,7 +30,6 @@ overflow_add-read c =
       arith,
       read_within call,
       length-drop c.loop-call.read (chars c.args.text.now),
-      invariant.in_text.within,
     ) in
     search (arith, few, all)
 

@@ -1,5 +1,4 @@
-use Rattle.std.proofs.Common.{◌≡◌, ◌∙◌, ap, sym, false, length, take, rules}
-use Rattle.enc_decoder.specs.Call.{Replacement, Fatal}
+use Rattle.std.proofs.Common.{◌≡◌, ◌∙◌, ap, sym, length, take, rules}
 use Rattle.enc_decoder.specs.Replacing.{decode_error_mode}
 use Rattle.enc_decoder.specs.Sequence.{sequence_text}
 use Rattle.encoding_rs.proofs.DecodeCallLemmas.{refilled, by_utf_16}
@@ -8,8 +7,7 @@ use Rattle.encoding_rs.proofs.run.call_to_utf16.Goals as goal
 pub returns-then-call : goal.returns-then-call
 returns-then-call c =
     let made = c.decode_to_utf16-stop in
-    let mode : Replacement ≡ decode_error_mode c.args.call.replace =
-    sym (ap decode_error_mode c.if-call.true) in
+    let mode = sym (ap decode_error_mode c.if-call.true) in
     let room : length c.deref_mut.result.now ≡ c.args.call.room = search rules in
     let decodes = rw (mode, room) at made.ensures.call.decodes in
     let units = refilled _ _ _ _ c.deref.ensures.value (made.auto.dst ∙ c.deref_mut.ensures.len) in
@@ -25,8 +23,7 @@ returns-then-call c =
 pub returns : goal.returns
 returns c =
     let made = c.decode_to_utf16_without_replacement-result in
-    let mode : Fatal false ≡ decode_error_mode c.args.call.replace =
-    sym (ap decode_error_mode c.if-call.false) in
+    let mode = sym (ap decode_error_mode c.if-call.false) in
     let room : length c.deref_mut-2.result.now ≡ c.args.call.room = search rules in
     let decodes = rw (mode, room) at made.ensures.call.decodes in
     let units = refilled _ _ _ _ c.deref-2.ensures.value

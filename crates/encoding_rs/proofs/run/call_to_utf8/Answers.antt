@@ -1,8 +1,7 @@
-use Rattle.std.proofs.Common.{◌≡◌, ◌-◌, ap, sym, false, rules}
+use Rattle.std.proofs.Common.{◌≡◌, ◌-◌, ap, sym, rules}
 use Rattle.std.specs.Char.{encode_utf8}
 use Rattle.std.specs.String.{string_bytes, string_capacity, string_len}
 use Rattle.enc_units.specs.Output.{units_of_text}
-use Rattle.enc_decoder.specs.Call.{Replacement, Fatal}
 use Rattle.enc_decoder.specs.Replacing.{decode_error_mode}
 use Rattle.enc_decoder.specs.Sequence.{sequence_text}
 use Rattle.encoding_rs.proofs.run.call_to_utf8.Goals as goal
@@ -11,8 +10,7 @@ pub returns-then-call : goal.returns-then-call
 returns-then-call c =
     let made = c.decode_to_string-stop in
     let decodes = made.ensures.call.decodes in
-    let mode : Replacement ≡ decode_error_mode c.args.call.replace =
-    sym (ap decode_error_mode c.if-call.true) in
+    let mode = sym (ap decode_error_mode c.if-call.true) in
     let room : string_capacity c.in_ok-text.text - string_len c.in_ok-text.text
     ≡ c.args.call.room = search rules in
     let text : string_bytes made.new.dst
@@ -29,8 +27,7 @@ pub returns : goal.returns
 returns c =
     let made = c.decode_to_string_without_replacement-result in
     let decodes = made.ensures.call.decodes in
-    let mode : Fatal false ≡ decode_error_mode c.args.call.replace =
-    sym (ap decode_error_mode c.if-call.false) in
+    let mode = sym (ap decode_error_mode c.if-call.false) in
     let room : string_capacity c.in_ok-text.text - string_len c.in_ok-text.text
     ≡ c.args.call.room = search rules in
     let text : string_bytes made.new.dst

@@ -42,16 +42,12 @@ returns-clause-turn g c =
     (λ t. (sym wrote ∙ none, not-true (has_finished call.new.decoder) (sym waits ∙ t)))
     (λ f _. not-false (has_finished call.new.decoder) (sym waits ∙ f)))
 
-pub invariant_of-self : goal.invariant_of-self
-invariant_of-self g c =
+pub invariant_of-self-clause-decoded : goal.invariant_of-self-clause-decoded
+invariant_of-self-clause-decoded g c =
     let reader = c.args.self.now in
-    let decodes = c.decode_unread-call.ensures.call.decodes in
-    record {
-      decoded = all_read reader.filled reader.at _ reader.input.now reader.decoded
-          decodes.call.within;
-      within = rw c.decode_unread-call.ensures.kept reader.within;
-      some = rw c.decode_unread-call.ensures.kept reader.some;
-      seen = λ f. only_at_end _ decodes f;
-      exhausted = reader.exhausted;
-      going = reader.going;
-    }
+    all_read reader.filled reader.at _ reader.input.now reader.decoded
+    c.decode_unread-call.ensures.call.decodes.call.within
+
+pub invariant_of-self-clause-seen : goal.invariant_of-self-clause-seen
+invariant_of-self-clause-seen g c =
+    λ f. only_at_end _ c.decode_unread-call.ensures.call.decodes f
