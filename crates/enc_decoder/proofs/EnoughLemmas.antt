@@ -238,5 +238,6 @@ module _ (v : CodecState) (few : HasFewUnits v.rule) where
             within,
             length-append v.pending src,
             thrice_is (checked_add (Some (length src)) (length v.pending))
-                (length src + length v.pending) n (sum_is (length src) (length v.pending)) is_length,
+                (length src + length v.pending) n
+                (sum_is (length src) (length v.pending)) is_length,
           )

@@ -27,8 +27,9 @@ use Rattle.enc_decoder.proofs.LeavesLemmas.{Leaves, AreAccounted, nothing_read}
 use Rattle.enc_decoder.proofs.StateLeavesLemmas.{LeadsOn, unread, byte_follows, rest_follows, state_leaves}
 
 -- a call that puts nothing out, by what it leaves
-abbrev pub quiet_call : {units_of : ℕ → List ℕ} {now new : Remainder} {mode : DecodeErrorMode} {room : ℕ}
-    {result : DecoderResult} (stage : Stage) → Leaves now new stage → AreAccounted now new stage
+abbrev pub quiet_call : {units_of : ℕ → List ℕ} {now new : Remainder} {mode : DecodeErrorMode}
+    {room : ℕ} {result : DecoderResult} (stage : Stage) → Leaves now new stage
+    → AreAccounted now new stage
     → DecoderStops units_of now new stage.src stage.last mode room [] stage.done stage.read result
     → RawDecoderCall units_of now new stage.src stage.last mode room result stage.read [] false
 quiet_call stage leaves accounted stops = record {

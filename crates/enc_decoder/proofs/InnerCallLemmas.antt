@@ -46,21 +46,22 @@ escape_is_fatal c OutputFull call reported escape = absurd (false≢true escape)
 escape_is_fatal c (Malformed l a) call reported escape = reported l a refl
 
 -- A sequence that is reported, and the bytes pending after it, are among those pending and read.
-pub reported_within : {units_of : ℕ → List ℕ} {old new : Remainder} {src : List ℕ} {last : Bool}
-    {mode : DecodeErrorMode} {room read l a : ℕ} {put done : List Sequence}
-    → AtMalformed units_of old new src last mode room put done read l a
-    → old.pending ++ take read src ≡ sequence_bytes done ++ new.pending
-    → l + length new.pending ≤ length old.pending + read
-reported_within {old = old} {new} {src} {read = read} {put = put} {done} stops accounted = omega (
-  arith,
-  ap length accounted,
-  length-append old.pending (take read src),
-  length-take read src,
-  length-append (sequence_bytes done) new.pending,
-  ap length (ap sequence_bytes stops.then_next ∙ sequence_bytes-one put stops.next),
-  length-append (sequence_bytes put) stops.next.bytes,
-  stops.len,
-)
+module _ {units_of : ℕ → List ℕ} {old new : Remainder} {src : List ℕ} {last : Bool}
+    {mode : DecodeErrorMode} where
+  pub reported_within : {room read l a : ℕ} {put done : List Sequence}
+      → AtMalformed units_of old new src last mode room put done read l a
+      → old.pending ++ take read src ≡ sequence_bytes done ++ new.pending
+      → l + length new.pending ≤ length old.pending + read
+  reported_within {read = read} {put = put} {done} stops accounted = omega (
+    arith,
+    ap length accounted,
+    length-append old.pending (take read src),
+    length-take read src,
+    length-append (sequence_bytes done) new.pending,
+    ap length (ap sequence_bytes stops.then_next ∙ sequence_bytes-one put stops.next),
+    length-append (sequence_bytes put) stops.next.bytes,
+    stops.len,
+  )
 
 -- No byte is pending before the inner call, which reads those of what it does and holds.
 abbrev pub AreAllRead : Remainder → Remainder → Call → List Sequence → Type 0
@@ -173,7 +174,8 @@ module _ {units_of : ℕ → List ℕ} {old mid : Remainder} {stage : Stage} {in
           (last_one.0, last_one.1, stops.then_next ∙ last_one.2)
 
       few : AreAllRead mid then inner call.done → l + a ≤ inner.read
-      few all_read = omega (arith, reported_within stops all_read.1, ap length all_read.0, stops.pending)
+      few all_read =
+          omega (arith, reported_within stops all_read.1, ap length all_read.0, stops.pending)
 
       lens : (left ≡ 0) ⊎ ((left ≡ 1) × (inner.read ≡ 1) × AreAllRead mid then inner call.done)
           → AreReportedLens stops.next.kind l (a + left)

@@ -98,12 +98,13 @@ module _ (remaining : List ℕ → List Sequence) (held src : List ℕ) (bytes :
 
 -- a call that stops within the bytes held stops so whatever follows
 module _ (units_of : ℕ → List ℕ) (old new : Remainder) (c : Call) (src : List ℕ) (last : Bool)
-    (put done : List Sequence) (bytes : AreBytes c.src) (also : AreBytes src) where
-  stops_still : c.read ≤ length c.src → (result : DecoderResult) → (result ≡ InputEmpty → ⊥)
+    (put done : List Sequence) where
+  stops_still : AreBytes c.src → AreBytes src → c.read ≤ length c.src
+      → (result : DecoderResult) → (result ≡ InputEmpty → ⊥)
       → DecoderStops units_of old new c.src false c.mode c.room put done c.read result
       → DecoderStops units_of old new (c.src ++ src) last c.mode c.room put done c.read result
-  stops_still within InputEmpty stopped stops = absurd (stopped refl)
-  stops_still within OutputFull stopped stops =
+  stops_still bytes also within InputEmpty stopped stops = absurd (stopped refl)
+  stops_still bytes also within OutputFull stopped stops =
       let ss = done ++ stops.next ∷ [] in
       record {
         only_put = stops.only_put;
@@ -118,7 +119,7 @@ module _ (units_of : ℕ → List ℕ) (old new : Remainder) (c : Call) (src : L
               stops.determined stops.reads.shown_next;
         };
       }
-  stops_still within (Malformed l a) stopped stops = record {
+  stops_still bytes also within (Malformed l a) stopped stops = record {
     next = stops.next;
     then_next = stops.then_next;
     malformed = stops.malformed;

@@ -39,7 +39,7 @@ end_is b ends = elim ends [
 -- After a sequence fewer bytes are pending or unread, if an unread byte counts twice.
 pub fewer_left : {C : Type 0} {state : C → CodecState} {c : C} {may_follow : List ℕ → Type 0}
     {len : ℕ} {s : Emission C} (b read end : ℕ)
-    → (next : IsNextSequence state c may_follow (taken_bytes s.takes_byte b) s)
+    → IsNextSequence state c may_follow (taken_bytes s.takes_byte b) s
     → (s.takes_byte ≡ true → read < len) → read ≤ len → EndsAt s.takes_byte read end
     → 2 * (len - end) + length (state s.next).pending < 2 * (len - read) + length (state c).pending
 fewer_left {state = state} {c} {s = s} b read end next has_next within ends =

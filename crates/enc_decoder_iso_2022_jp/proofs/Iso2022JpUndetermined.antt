@@ -19,7 +19,8 @@ use Rattle.enc_decoder_iso_2022_jp.specs.Iso2022JpState.{iso_2022_jp_state as jp
 use Rattle.enc_decoder.proofs.FirstSequenceLemmas.{undetermined_by_end, within_by}
 use Rattle.enc_decoder_iso_2022_jp.proofs.Iso2022JpLemmas.{set_of_number, has_escape_bytes}
 use Rattle.enc_decoder_iso_2022_jp.proofs.EscapeLookahead.{MayBegin, nothing_begins, one_begins, two_begin}
-use Rattle.enc_decoder_iso_2022_jp.proofs.Iso2022JpRule.{begun_by_end, escape_by_end, lead_by_end, iso_2022_jp_is_lawful}
+use Rattle.enc_decoder_iso_2022_jp.proofs.Iso2022JpRule.{begun_by_end, escape_by_end, lead_by_end}
+use Rattle.enc_decoder_iso_2022_jp.proofs.Iso2022JpRule.{iso_2022_jp_is_lawful}
 
 -- bytes that only the end makes a sequence
 by_end : (set b : ℕ) (z : List ℕ) → IsDeterminedByEnd jp_rule set b z

@@ -21,7 +21,8 @@ use Rattle.enc_decoder_multi_byte.specs.declared.multi_byte.Prefix.TheVariants.{
 use Rattle.enc_decoder.specs.Sequence.{Sequence, is_malformed, is_repeated_escape}
 use Rattle.enc_decoder.specs.Segmentation.{sequences_of}
 use Rattle.enc_decoder.specs.CodecState.{CodecState}
-use Rattle.enc_decoder.specs.CodecLaw.{BeginsWithByte, text_chars, IsNextSequence, HandlesByte, IsNextOfPending, IsNextAtEnd}
+use Rattle.enc_decoder.specs.CodecLaw.{BeginsWithByte, text_chars, IsNextSequence, HandlesByte}
+use Rattle.enc_decoder.specs.CodecLaw.{IsNextOfPending, IsNextAtEnd}
 use Rattle.enc_decoder_multi_byte.specs.MultiByte.{multi_byte_rule, multi_byte_state, AreIncomplete, ArePrefixes}
 use Rattle.enc_decoder.proofs.SegmentationLemmas.{sequences_of-head}
 use Rattle.enc_decoder.proofs.EmissionLemmas.{shows_with, shows_before}

@@ -79,7 +79,8 @@ module _ (character : ℕ → Option ℕ) (is_basic : AreBasic character) where
         most _ (head_is_basic set b (character b) are_bytes.0 refl),
         bounded_bytes units_of each most head.set z are_bytes.1,
         none_more,
-        units-both units_of (head_sequence head b z ∷ []) (sequences_after rule head.set head.more z),
+        units-both units_of (head_sequence head b z ∷ [])
+            (sequences_after rule head.set head.more z),
         units-one units_of (head_sequence head b z) head.text refl,
       )
 

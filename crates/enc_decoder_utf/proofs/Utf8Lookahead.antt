@@ -7,7 +7,8 @@ use Rattle.std.proofs.lemmas.List.{take-append-le, take-take, length-take-le}
 use Rattle.enc_decoder.specs.declared.byte_codec.Kind.TheVariants.{Valid}
 use Rattle.enc_decoder.specs.Segmentation.{Head}
 use Rattle.enc_decoder.specs.RuleLaws.{IsDeterminedWithin, IsDeterminedByEnd, HasLookahead}
-use Rattle.enc_decoder_utf.specs.Utf8.{sequence_len, is_second_byte, continuing_len, well_formed_tail_len, second_byte_min}
+use Rattle.enc_decoder_utf.specs.Utf8.{sequence_len, is_second_byte, continuing_len}
+use Rattle.enc_decoder_utf.specs.Utf8.{well_formed_tail_len, second_byte_min}
 use Rattle.enc_decoder_utf.specs.Utf8.{utf_8_rule}
 use Rattle.enc_decoder.proofs.FirstSequenceLemmas.{true_or_false, looks_by, IsDeterminedSoon, lookahead_by}
 use Rattle.enc_decoder_utf.proofs.Utf8Lemmas.{holds_of_first, short_head, continuations-end, continuations_as_second}

@@ -32,7 +32,8 @@ leaves_of call = record {
   set = call.set;
 }
 
-pub leaves_in_mode : {units_of : ℕ → List ℕ} {old new : RawEncoderState} {rest : List ℕ} {c : CallInMode}
+pub leaves_in_mode : {units_of : ℕ → List ℕ} {old new : RawEncoderState} {rest : List ℕ}
+    {c : CallInMode}
     (call : IsCallInMode units_of old new rest c) → Leaves c.last old new c.src rest call.done
 leaves_in_mode call = record {
   reads = call.reads;

@@ -20,7 +20,8 @@ use Rattle.enc_encoder.proofs.TextLemmas.{unreferred}
 use Rattle.enc_encoder.proofs.UnmappableLemmas.{any_reported_is, any_unmappable-append}
 
 -- a call that reports unmappable characters meets its need
-pub reporting_meets_need : {units_of : ℕ → List ℕ} {old new : RawEncoderState} {rest : List ℕ} {c : CallInMode}
+pub reporting_meets_need : {units_of : ℕ → List ℕ} {old new : RawEncoderState} {rest : List ℕ}
+    {c : CallInMode}
     → IsCallInMode units_of old new rest c → c.mode ≡ Fatal
     → MeetsEncodeNeed old new c.src rest c.last c.room c.result (length c.wrote)
 reporting_meets_need {c = c} call is_fatal =

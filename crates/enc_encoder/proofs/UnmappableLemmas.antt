@@ -99,7 +99,8 @@ any_reported_is {old = old} {done = done} leaves =
     any_in done ∙ ap some_in (reports_are leaves) ∙ sym (any_of old.rule (step_chars done))
 
 -- whether a call writes a reference
-pub replaced_is : {units_of : ℕ → List ℕ} {old new : RawEncoderState} {rest : List ℕ} {c : CallInMode}
+pub replaced_is : {units_of : ℕ → List ℕ} {old new : RawEncoderState} {rest : List ℕ}
+    {c : CallInMode}
     (call : IsCallInMode units_of old new rest c) → {kept : ℕ} → c.mode ≡ Html kept
     → c.replaced ≡ any_unmappable old.rule (step_chars call.done)
 replaced_is call is_html = rw is_html at call.flag ∙ any_reported_is (leaves_in_mode call)

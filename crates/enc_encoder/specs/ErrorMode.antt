@@ -114,8 +114,8 @@ StopsInMode (Html kept) new rest last room done result =
     StopsInHtmlMode kept new rest last room done result
 
 -- What a call is given: its characters, whether nothing follows them, the error mode and the room
--- of the output. What it does: why it stopped, the number of code units read, the bytes written, and
--- whether a reference is among them.
+-- of the output. What it does: why it stopped, the number of code units read, the bytes written,
+-- and whether a reference is among them.
 pub record CallInMode : Type 0 where
   pub src : List ℕ
   pub last : Bool
@@ -127,8 +127,8 @@ pub record CallInMode : Type 0 where
   pub replaced : Bool
 
 -- A call of an encoder that leaves the characters `rest` unread. It does the steps that come first,
--- in order. Whatever follows, the bytes of the whole text are those that it wrote, a reference to the
--- character reported, and the bytes of the text left.
+-- in order. Whatever follows, the bytes of the whole text are those that it wrote, a reference to
+-- the character reported, and the bytes of the text left.
 pub record IsCallInMode (units_of : ℕ → List ℕ) (old new : RawEncoderState) (rest : List ℕ)
     (c : CallInMode) : Type 0 where
   pub done : List Step

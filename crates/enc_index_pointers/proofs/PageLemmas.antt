@@ -129,18 +129,18 @@ module _ (planes : Planes) (counts is_by_last : ℕ → Bool) (bound : ℕ) wher
         (nat_le (in_pages c) p) ≡ true
     unfolding tables_ok entry_ok
     complete c p below_bound passes =
-        let t = get_or table p 0 in
-        let number = number_in_tree (plant k page_of) (plant m pointers) (length pointers) t in
+        let word = get_or table p 0 in
+        let number = number_in_tree (plant k page_of) (plant m pointers) (length pointers) word in
         let counted = and_parts (counts p) (is_character c (at p)) passes in
-        let entry = is_character-cond (is_entry_code_point planes t) c t counted.1 in
-        let listed = within_list table p (ltb-true 0 t (and_parts _ _ entry.0).0) in
-        let considered = and_from (nat_lt p bound) (counts p && is_entry_code_point planes t)
+        let entry = is_character-cond (is_entry_code_point planes word) c word counted.1 in
+        let listed = within_list table p (ltb-true 0 word (and_parts _ _ entry.0).0) in
+        let considered = and_from (nat_lt p bound) (counts p && is_entry_code_point planes word)
         (lt-ltb p bound below_bound) (and_from _ _ counted.0 entry.0) in
-        let each : cond (is_by_last t) (nat_le p number && nat_lt number bound) (nat_le number p)
+        let each : cond (is_by_last word) (nat_le p number && nat_lt number bound) (nat_le number p)
         ≡ true = sym (cond-true _ _ _ considered)
         ∙ all_at-at (entry_ok (plant k page_of) (plant m pointers) (length pointers)) 0 0 table p p
         (and_parts _ _ (and_parts _ _ ok).1).1 listed (omega arith) in
-        rw (number_in_tree-plant m k page_of pointers t, entry.1) at each
+        rw (number_in_tree-plant m k page_of pointers word, entry.1) at each
 
     by_first : (c : ℕ) → is_by_last c ≡ false
         → first_below (test c) bound ≡ pointer_in_pages page_of pointers bound c

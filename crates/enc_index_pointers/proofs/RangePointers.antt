@@ -11,7 +11,8 @@ use Rattle.enc_index.specs.Search.{are_ascending_runs, run_with_pointer}
 use Rattle.enc_index_pointers.specs.Pointers.{first_below, is_character, is_ranges_pointer, gb18030_ranges_pointer}
 use Rattle.enc_index_pointers.proofs.BelowLemmas.{first_below-is}
 use Rattle.enc_index.proofs.RangesAscend.{gb18030_ranges_ascends}
-use Rattle.enc_index_pointers.proofs.RangeLemmas.{by_code_point, is_range, are_ranges, IsPointerOf, pointer_in_run, sound}
+use Rattle.enc_index_pointers.proofs.RangeLemmas.{by_code_point, is_range, are_ranges, IsPointerOf}
+use Rattle.enc_index_pointers.proofs.RangeLemmas.{pointer_in_run, sound}
 use Rattle.enc_index_pointers.proofs.RangeLemmas.{complete}
 
 are_all_ranges : are_ranges (runs_of Gb18030Ranges) ≡ true

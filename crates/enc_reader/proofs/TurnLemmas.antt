@@ -37,7 +37,8 @@ pub record CanDecode (s : ReaderState) (room : ℕ) : Type 0 where
 -- a call of the decoder with the unread bytes
 module _ (before : ReaderState) {new : DecoderState} {room : ℕ} (result : CoderResult) {read : ℕ}
     {wrote : List ℕ} {replaced : Bool}
-    (decodes : DecodesChunk encode_utf8 before.decoder new (replacing_call before.unread before.ended room result read wrote replaced))
+    (decodes : DecodesChunk encode_utf8 before.decoder new
+    (replacing_call before.unread before.ended room result read wrote replaced))
     (can_decode : CanDecode before room) where
   abbrev after : ReaderState
   after = record { decoder = new; unread = drop read before.unread; ended = before.ended }
@@ -90,7 +91,9 @@ module _ (before : ReaderState) {new : DecoderState} {room : ℕ} (result : Code
   waits_for_more none going = by_result result decodes
     where
       by_result : (r : CoderResult)
-          → DecodesChunk encode_utf8 before.decoder new (replacing_call before.unread before.ended room r read wrote replaced) → IsWaiting after
+          → DecodesChunk encode_utf8 before.decoder new
+          (replacing_call before.unread before.ended room r read wrote replaced)
+          → IsWaiting after
       by_result InputEmpty at_empty = record {
         unread = ap (λ n. drop n before.unread) at_empty.call.stops.all_read
             ∙ drop-length before.unread;

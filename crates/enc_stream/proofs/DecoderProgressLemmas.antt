@@ -28,7 +28,8 @@ pub nearer : {units_of : ℕ → List ℕ} {least : ℕ} → TakesSmallTexts uni
     ⊎ (2 * (length c.src - c.read) + length new.pending < 2 * length c.src + length old.pending)
 nearer {units_of} takes {old} {new} c roomy decodes some = by_result c.result decodes
   where
-    by_result : (result : DecoderResult) → DecodesChunk units_of old new (record c { result = result })
+    by_result : (result : DecoderResult)
+        → DecodesChunk units_of old new (record c { result = result })
         → (has_finished new ≡ true)
         ⊎ (2 * (length c.src - c.read) + length new.pending < 2 * length c.src + length old.pending)
     by_result InputEmpty made = elim (true_or_false c.last) [

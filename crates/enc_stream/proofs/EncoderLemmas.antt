@@ -79,7 +79,8 @@ may_keep_none b e rule_is mode_is is_mappable =
     (maps_all b e (is_every _ (sym mode_is ∙ is_mappable)))
 
 -- such a call reports no character
-pub never_reported : {units_of : ℕ → List ℕ} {old new : RawEncoderState} {rest : List ℕ} {c : CallInMode}
+pub never_reported : {units_of : ℕ → List ℕ} {old new : RawEncoderState} {rest : List ℕ}
+    {c : CallInMode}
     → IsCallInMode units_of old new rest c → {kept : ℕ} → c.mode ≡ Html kept
     → (k : ℕ) → c.result ≡ Unmappable k → ⊥
 never_reported {new = new} {c = c} call is_html k is_report =

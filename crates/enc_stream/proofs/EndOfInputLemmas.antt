@@ -48,14 +48,6 @@ pub not_at_end : (last : Bool) (stop : DecoderResult) → reaches_end last stop 
 not_at_end last stop goes_on is_last is_empty =
     false≢true (sym goes_on ∙ ap (reaches_end last) is_empty ∙ is_last)
 
-pub first_open : (a b : Bool) → (a || b) ≡ false → a ≡ false
-first_open true b none = none
-first_open false b none = refl
-
-pub others_open : (a b : Bool) → (a || b) ≡ false → b ≡ false
-others_open true b none = absurd (true≢false none)
-others_open false b none = none
-
 -- no state that may come next is the end
 open_states : (life : LifeCycle)
     → EachState (λ _ next. has_ended next ≡ false) (mark_prefixes life)

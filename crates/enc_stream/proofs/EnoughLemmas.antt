@@ -134,12 +134,13 @@ module _ {q : Query} {mode : DecodeErrorMode} {front : List Sequence} {answer : 
         → life_cycle_length q AtStart formulas (length src) 0 ≡ Some answer
         → AreFirstSequences front (sequences_by_mark (find_mark marks src) e src) → ⊥
     at_start src are_bytes length_is =
-        let n = length src in
-        let of_two = each_at_most (idle_length q by.Utf8 n) (length_with_mark q by.Utf16 formulas n)
+        let len = length src in
+        let of_two =
+        each_at_most (idle_length q by.Utf8 len) (length_with_mark q by.Utf16 formulas len)
         answer (answer, omega arith, length_is) in
-        let others = each_at_most (idle_length q by.Utf16 n) (idle_length q formulas n) answer
+        let others = each_at_most (idle_length q by.Utf16 len) (idle_length q formulas len) answer
         of_two.1 in
-        by_marks marks e src n are_bytes (omega arith) others.1
+        by_marks marks e src len are_bytes (omega arith) others.1
         (of_two.0, (others.0, (others.0, tt)))
 
     -- its own mark alone
@@ -159,13 +160,13 @@ module _ {q : Query} {mode : DecodeErrorMode} {front : List Sequence} {answer : 
         (held ++ src)) → ⊥
     seen m held src at_most_two are_bytes length_is =
         let of_mark : TextLengths = codec_lengths (codec_by_id m.encoding.id) in
-        let n = length src + 2 in
-        let both = each_at_most (idle_length q of_mark n) (idle_length q formulas n) answer (
+        let most = length src + 2 in
+        let both = each_at_most (idle_length q of_mark most) (idle_length q formulas most) answer (
           answer,
           omega arith,
           summed (length_with_mark q of_mark formulas) (length src) answer length_is,
         ) in
-        by_marks (m ∷ []) e (held ++ src) n are_bytes
+        by_marks (m ∷ []) e (held ++ src) most are_bytes
         (omega (arith, at_most_two, length-append held src)) both.1 (both.0, tt)
 
     -- what a codec has pending, and a BB

@@ -16,7 +16,8 @@ use Rattle.enc_stream.specs.declared.encoding.Encoding.{Encoding}
 use Rattle.enc_stream.specs.declared.life_cycle.LifeCycle.{LifeCycle}
 use Rattle.enc_stream.specs.declared.life_cycle.LifeCycle.TheVariants.{AtStart, AtUtf8Start, AtUtf16BeStart}
 use Rattle.enc_stream.specs.declared.life_cycle.LifeCycle.TheVariants.{AtUtf16LeStart, Converting}
-use Rattle.enc_stream.specs.Bom.{Mark, find_mark, marks, marks_of_encoding, marks_looked_for, utf_8_mark, utf_16be_mark, utf_16le_mark}
+use Rattle.enc_stream.specs.Bom.{Mark, find_mark, marks, marks_of_encoding, marks_looked_for}
+use Rattle.enc_stream.specs.Bom.{utf_8_mark, utf_16be_mark, utf_16le_mark}
 use Rattle.enc_stream.specs.Decoding.{start_life, removal_start}
 use Rattle.std.proofs.Common.{sym}
 use Rattle.enc_stream.specs.Encodings.{rule_of}

@@ -118,7 +118,8 @@ same_state a b encoding life set pending =
 -- A call that stops for want of room, and has read nothing and written nothing.
 module _ {units_of : ℕ → List ℕ} (determine : DetermineTexts units_of) {old new : DecoderState}
     (are_held : PendingAreHeldBytes old) (going : has_finished old ≡ false) (c : Call)
-    (decodes : DecodesChunk units_of old new (record c { result = OutputFull; read = 0; wrote = [] }))
+    (decodes : DecodesChunk units_of old new
+    (record c { result = OutputFull; read = 0; wrote = [] }))
   where
     abbrev done : List Sequence
     done = decodes.call.done

@@ -338,7 +338,8 @@ impl Encoder {
           replaced = false;
         }) }
         ensures need { EncodesByNeed encode_utf8 self.old self.new (chars src.now) last
-            (vec_capacity dst.old - vec_len dst.old) result.0 result.1 (length (drop (length dst.old.items) dst.new.items)) }
+            (vec_capacity dst.old - vec_len dst.old) result.0 result.1
+            (length (drop (length dst.old.items) dst.new.items)) }
         ensures read { result.1 ≤ length src.now }
         ensures boundary { IsCharBoundary src.now result.1 }
         ensures appended { take (length dst.old.items) dst.new.items ≡ dst.old.items }

@@ -8,14 +8,14 @@ use Rattle.enc_decoder.specs.Sequence.{Sequence, sequence_bytes, is_malformed, a
 use Rattle.encoding_rs.specs.declared.run.DecodeCall.{DecodeCall}
 use Rattle.encoding_rs.specs.Run.{faults_from, DecodeRunPart, sequences_of_parts, reported_faults_from}
 use Rattle.encoding_rs.specs.Run.{all_report_malformed}
-use Rattle.enc_stream.proofs.EndOfInputLemmas.{first_open, others_open}
+use Rattle.std.proofs.lemmas.Bool.{or_parts}
 
 pub no_faults : (at : ℕ) (ss : List Sequence) → any_malformed ss ≡ false → faults_from at ss ≡ []
 no_faults at [] none_malformed = refl
 no_faults at (s ∷ ss) none_malformed =
-    rw (first_open (is_malformed s.kind) (any_malformed ss) none_malformed)
+    rw (or_parts (is_malformed s.kind) (any_malformed ss) none_malformed).0
     (no_faults (at + length s.bytes) ss
-    (others_open (is_malformed s.kind) (any_malformed ss) none_malformed))
+    (or_parts (is_malformed s.kind) (any_malformed ss) none_malformed).1)
 
 if_front : {A : Type 0} (b : Bool) (x : A) (xs ys : List A)
     → (if b then x ∷ (xs ++ ys) else xs ++ ys) ≡ (if b then x ∷ xs else xs) ++ ys

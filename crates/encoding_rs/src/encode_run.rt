@@ -156,16 +156,17 @@ fn call_from(
     last: bool,
     call: EncodeCall,
 ) -> Result<(EncodeOutcome, Vec<u8>), AllocError>
-    ensures { IfOk result (λ done. EncodesChunk (units_of_call call.utf16) encoder.old encoder.new (record {
-      src = chars chunk.now;
-      last = last;
-      mode = encode_error_mode call.replace encoder.old;
-      room = call.room;
-      result = done.0.result;
-      read = done.0.read;
-      wrote = done.1.items;
-      replaced = done.0.replaced;
-    })) }
+    ensures { IfOk result (λ done. EncodesChunk (units_of_call call.utf16) encoder.old encoder.new
+        (record {
+          src = chars chunk.now;
+          last = last;
+          mode = encode_error_mode call.replace encoder.old;
+          room = call.room;
+          result = done.0.result;
+          read = done.0.read;
+          wrote = done.1.items;
+          replaced = done.0.replaced;
+        })) }
 {
     if call.utf16 {
         return call_from_utf16(alloc, encoder, chunk, last, call);

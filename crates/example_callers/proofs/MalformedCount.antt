@@ -7,7 +7,7 @@ use Rattle.enc_units.specs.declared.decoder_result.DecoderResult.{DecoderResult}
 use Rattle.enc_units.specs.declared.decoder_result.DecoderResult.TheVariants as raw
 use Rattle.enc_decoder.specs.Sequence.{Sequence, is_malformed, any_malformed}
 use Rattle.enc_decoder.specs.Call.{DecoderStops, Fatal}
-use Rattle.enc_stream.proofs.EndOfInputLemmas.{first_open, others_open}
+use Rattle.std.proofs.lemmas.Bool.{or_parts}
 use Rattle.encoding_rs.specs.Decoding.{DecoderState, decoder_remainder, remaining_sequences, DecodesChunk}
 use Rattle.encoding_rs.specs.Decoding.{reporting_call}
 use Rattle.example_callers.specs.Count.{malformed_count}
@@ -24,10 +24,8 @@ malformed_count-append (s ∷ a) b =
 none_counted : (ss : List Sequence) → any_malformed ss ≡ false → malformed_count ss ≡ 0
 none_counted [] none = refl
 none_counted (s ∷ ss) none =
-    rw (
-      first_open (is_malformed s.kind) (any_malformed ss) none,
-      none_counted ss (others_open (is_malformed s.kind) (any_malformed ss) none),
-    ) refl
+    let both_valid = or_parts (is_malformed s.kind) (any_malformed ss) none in
+    rw (both_valid.0, none_counted ss both_valid.1) refl
 
 -- the number of malformed sequences that a call reports
 abbrev pub reported : DecoderResult → ℕ

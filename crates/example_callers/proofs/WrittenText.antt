@@ -12,7 +12,8 @@ use Rattle.enc_decoder.specs.Sequence.{Sequence, sequence_text}
 use Rattle.enc_decoder.proofs.SequenceLemmas.{units-append}
 use Rattle.enc_stream.specs.declared.bom.BomHandling.TheVariants.{Sniff}
 use Rattle.enc_stream.specs.declared.encoding.Encoding.{Encoding}
-use Rattle.encoding_rs.specs.Decoding.{DecoderState, fresh_decoder, remaining_sequences, DecodesChunk, replacing_call, whole_utf_8}
+use Rattle.encoding_rs.specs.Decoding.{DecoderState, fresh_decoder, remaining_sequences, DecodesChunk}
+use Rattle.encoding_rs.specs.Decoding.{replacing_call, whole_utf_8}
 
 -- the text of sequences, in UTF-8
 abbrev pub utf_8 : List Sequence → List ℕ

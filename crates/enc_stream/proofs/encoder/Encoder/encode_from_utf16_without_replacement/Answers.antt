@@ -11,7 +11,7 @@ pub returns-clause-call : goal.returns-clause-call
 returns-clause-call c =
     let made = c.encode_in_mode-outcome.ensures in
     rw (← c.self.view_is) (encodes_by _ _ c.self.invariant
-          (rw (c.new-units.ensures, made.call.flag) at made.call) refl)
+    (rw (c.new-units.ensures, made.call.flag) at made.call) refl)
 
 pub returns-clause-need : goal.returns-clause-need
 returns-clause-need c =

@@ -19,8 +19,9 @@ stop-requires c =
 pub returns-clause-call : goal.returns-clause-call
 returns-clause-call c =
     let made = c.encode_in_mode-outcome.ensures in
-    rw (← c.self.view_is, c.stop.ensures) (encodes_by _ _ c.self.invariant (rw c.new-chars.ensures at made.call)
-          (ap mode_of (rw (← c.self.view_is) at c.html_mode-mode.ensures) ∙ html_mode_is _))
+    rw (← c.self.view_is, c.stop.ensures) (encodes_by _ _ c.self.invariant
+    (rw c.new-chars.ensures at made.call)
+    (ap mode_of (rw (← c.self.view_is) at c.html_mode-mode.ensures) ∙ html_mode_is _))
 
 pub returns-clause-boundary : goal.returns-clause-boundary
 returns-clause-boundary c =
