@@ -4,7 +4,8 @@ use Rattle.std.proofs.Common.{refl, ap, sym, ◌∙◌, arith, inl, inr}
 use Rattle.std.proofs.lemmas.Bool.Decides.{nat_tests}
 use Rattle.std.proofs.lemmas.Str.{IsUtf8-nil, IsUtf8-append}
 use Rattle.std.specs.Str.{IsUtf8}
-use Rattle.enc_units.proofs.Utf8RunLemmas.{one_front, two_front, three_front, four_front}
+use Rattle.std.proofs.str.Valid.{of_one, of_two}
+use Rattle.enc_units.proofs.Utf8RunLemmas.{three_front, four_front}
 use Rattle.enc_decoder.specs.Sequence.{Sequence, any_malformed}
 use Rattle.enc_decoder.specs.Segmentation.{sequences_of}
 use Rattle.enc_decoder.proofs.FirstSequenceLemmas.{true_or_false}
@@ -69,7 +70,7 @@ module _ (n : ℕ) (shorter : (z : List ℕ) → length z ≤ n → AreWell z) w
   two_bytes zero a b z few two second =
       let last = second_range a b second in
       after_valid (a ∷ b ∷ []) z
-      (two_front (a ∷ b ∷ []) (omega arith) (two_range a two) (omega arith, omega arith))
+      (of_two (a ∷ b ∷ []) 0 (omega arith) (two_range a two) (omega arith, omega arith))
       few (two_valid a b z two second)
   two_bytes (suc k) a b [] few more second = after_malformed (two_end a b (omega arith) second)
   two_bytes (suc k) a b (c ∷ z) few more second = elim (true_or_false (is_continuation c)) [
@@ -80,7 +81,7 @@ module _ (n : ℕ) (shorter : (z : List ℕ) → length z ≤ n → AreWell z) w
   one_byte : (k a : ℕ) (z : List ℕ) → length z ≤ n → sequence_len a ≡ k → AreWell (a ∷ z)
   one_byte zero a z few no_lead = after_malformed (none_malformed a z no_lead)
   one_byte (suc zero) a z few one =
-      after_valid (a ∷ []) z (one_front (a ∷ []) (omega arith) (ascii_range a one)) few
+      after_valid (a ∷ []) z (of_one (a ∷ []) 0 (omega arith) (ascii_range a one)) few
       (one_valid a z one)
   one_byte (suc (suc k)) a [] few more = after_malformed (one_end a (omega arith))
   one_byte (suc (suc k)) a (b ∷ z) few more = elim (true_or_false (is_second_byte a b)) [
