@@ -1,59 +1,115 @@
-"""What Sphinx does beside pages of Markdown: pages of sources, and the order of what a search finds."""
+"""What Sphinx does beside pages of Markdown: the list of pages beside each, and pages of sources."""
 
 import html
 import json
 import os
 
 from pygments import highlight
+from pygments.filter import simplefilter
 from pygments.formatters import HtmlFormatter
 from pygments.lexers import get_lexer_by_name
 from pygments.token import Error, Token
-from pygments.filter import simplefilter
 
 LEXERS = {".rt": "rust", ".antt": "agda", ".md": "markdown", ".py": "python", ".sh": "bash"}
+# Longer files have no colours.
+MOST_COLOURED = 400_000
+PAGE = """<!doctype html>
+<html lang="en"><head><meta charset="utf-8"><meta name="viewport" content="width=device-width,initial-scale=1">
+<title>{title}</title>
+<link rel="stylesheet" href="{up}_static/pygments.css"><link rel="stylesheet" href="{up}_static/styles/furo.css">
+<link rel="stylesheet" href="{up}_static/site.css"></head>
+<body class="of-source"><p><a href="{up}index.html">encoding_rs in Rattle</a></p>
+<h1>{title}</h1>{body}</body></html>
+"""
 
 
 @simplefilter
-def without_errors(self, lexer, stream, options):
+def without_errors(self, lexer, stream, options):  # pylint: disable=unused-argument
     """Takes what a lexer doesn't know as text."""
     for kind, value in stream:
         yield (Token.Text if kind is Error else kind), value
 
 
+def given(app):
+    """What scripts/reference has written for this extension."""
+    if not hasattr(app, "reference_given"):
+        with open(os.path.join(app.confdir, "given.json"), encoding="utf-8") as file:
+            app.reference_given = json.load(file)
+    return app.reference_given
+
+
+# The list of pages
+
+def entry(page, title, level, is_current, under, address):
+    kinds = f"toctree-l{level}" + " current" * is_current
+    link = f'<a class="reference internal{" current" * is_current}" href="{address(page)}">{title}</a>'
+    inner = f"<ul>{under}</ul>" if under else ""
+    return f'<li class="{kinds}">{link}{inner}</li>'
+
+
+def tree(app, current, address):
+    """The list of pages as HTML, with those under the crate of the current page."""
+    found = []
+    for caption, branches in given(app)["tree"]:
+        rows = []
+        for title, page, leaves in branches:
+            is_here = current == page or current in (leaf for _, leaf in leaves)
+            under = "".join(entry(leaf, name, 2, leaf == current, "", address) for name, leaf in leaves) if is_here else ""
+            rows.append(entry(page, title, 1, is_here, under, address))
+        found.append(f'<p class="caption" role="heading"><span class="caption-text">{caption}</span></p>'
+                     f"<ul>{''.join(rows)}</ul>")
+    return "".join(found)
+
+
+def put_tree(app, pagename, templatename, context, doctree):  # pylint: disable=unused-argument
+    """Gives the theme that list. (By itself it would make the list of all pages anew for each.)"""
+    address = context["pathto"]
+    context["toctree"] = lambda **_: tree(app, pagename, address)
+
+
+# Sources
+
 def lines_of(path, text):
     """The lines of a file as HTML, with colours where its language is known."""
     name = LEXERS.get(os.path.splitext(path)[1])
-    if not name or len(text) > 400_000:
+    if not name or len(text) > MOST_COLOURED:
         return html.escape(text, quote=False).splitlines()
     lexer = get_lexer_by_name(name, stripnl=False)
     lexer.add_filter(without_errors())
     return highlight(text, lexer, HtmlFormatter(nowrap=True)).splitlines()
 
 
-def source_page(top, path):
-    """The title and the body of the page of a file or a folder."""
-    title = html.escape(path)
-    if os.path.isdir(f"{top}/{path}"):
-        files = sorted(os.path.relpath(os.path.join(at, it), f"{top}/{path}")
-                       for at, _, names in os.walk(f"{top}/{path}") for it in names if "/out" not in at)
-        rows = "".join(f"<li><code>{html.escape(it)}</code></li>" for it in files)
-        return title, f"<h1>{title}</h1><ul>{rows}</ul>"
+def body_of_folder(path, page, pages):
+    """The list of the files of a folder."""
+    rows = []
+    for file in sorted(it for it in pages if it.startswith(f"{path}/")):
+        address = os.path.relpath(pages[file], os.path.dirname(page))
+        rows.append(f'<li><a href="{address}.html">{html.escape(os.path.relpath(file, path))}</a></li>')
+    return f"<ul>{''.join(rows)}</ul>"
+
+
+def body_of_file(top, path):
     with open(f"{top}/{path}", encoding="utf-8", errors="replace") as file:
         lines = lines_of(path, file.read())
     rows = "\n".join(f'<span class="line" id="L{at}"><a class="number" href="#L{at}">{at}</a>{line}</span>'
                      for at, line in enumerate(lines, 1))
-    return title, f'<h1 class="of-source">{title}</h1><div class="highlight lines"><pre>{rows}</pre></div>'
+    return f'<div class="highlight lines"><pre>{rows}</pre></div>'
 
 
-def source_pages(app):
-    """The pages of sources, which a search doesn't read."""
-    with open(os.path.join(app.confdir, "sources.json"), encoding="utf-8") as file:
-        given = json.load(file)
-    for path, page in sorted(given["pages"].items()):
-        title, body = source_page(given["top"], path)
-        yield page, {"title": title, "body": body, "toc": "", "display_toc": False}, "page.html"
+def write_sources(app, failure):
+    """Writes the pages of sources, which a search doesn't read."""
+    if failure:
+        return
+    top, pages = given(app)["top"], given(app)["sources"]
+    for path, page in pages.items():
+        to = os.path.join(app.outdir, f"{page}.html")
+        os.makedirs(os.path.dirname(to), exist_ok=True)
+        body = body_of_folder(path, page, pages) if os.path.isdir(f"{top}/{path}") else body_of_file(top, path)
+        with open(to, "w", encoding="utf-8") as file:
+            file.write(PAGE.format(title=html.escape(path), up="../" * page.count("/"), body=body))
 
 
 def setup(app):
-    app.connect("html-collect-pages", source_pages)
+    app.connect("html-page-context", put_tree, priority=400)
+    app.connect("build-finished", write_sources)
     return {"parallel_read_safe": True, "parallel_write_safe": True}

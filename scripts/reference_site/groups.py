@@ -6,6 +6,8 @@ TYPES = "Types"
 OTHERS = "Others"
 # Each group by the files of its functions and by their names.
 GROUPS = (
+    ("State", r"/(?:decoder/queries|encoder|decode_reader)\.rt$",
+     r"encoding|is_finished|has_pending_state|had_errors|latin1_byte_compatible_up_to"),
     ("Lengths to allocate", r"", r"max_\w+|length|text_lengths|byte_lengths"),
     ("Encodings and labels", r"/(?:labels|properties|encoding|encoding_id|table|search|label_pair)\.rt$", r""),
     ("Byte order marks", r"/bom\.rt$", r""),
@@ -22,7 +24,7 @@ GROUPS = (
 )
 # The order in which they are shown.
 ORDER = (
-    "Decoding in chunks", "Encoding in chunks", "One-shot calls", "Lengths to allocate", "Encodings and labels",
+    "Decoding in chunks", "Encoding in chunks", "State", "One-shot calls", "Lengths to allocate", "Encodings and labels",
     "Byte order marks", "Validity", "Reader", "Sources", "Recoding", "Writer", "Runs", "Laws", OTHERS,
 )
 

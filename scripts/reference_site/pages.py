@@ -37,6 +37,12 @@ def escaped_cells(text):
     return text.replace("|", "&#124;")
 
 
+def trait_of(name, path):
+    """The trait of a name in a file, or in another file of the crate."""
+    name = name.split("::")[-1]
+    return resolved(name, path) or next((it for file in files_of(path.split("/")[1]) if (it := resolved(name, file))), None)
+
+
 class Pages:
     """Writes pages. `room` maps the name of each to its text."""
 
@@ -188,14 +194,31 @@ class Pages:
         own = [it for it in those if item.kind == "trait" or not it.of_trait]
         return own, [it for it in those if it not in own and (it.clauses or it.doc)]
 
+    def inherited(self, item, page):
+        """The functions of traits whose contract and documentation are those of the trait."""
+        own, of_traits = self.methods(item)
+        found = []
+        for it in functions_by_owner(item.crate).get(item.name, []):
+            if it.public and it not in own and it not in of_traits:
+                target = self.of_trait(it)
+                code = f"<code>{it.of_trait}::{it.name}</code>"
+                link = self.marker.link(target, page, code) if target else code
+                found.append(f'<span id="{html.escape(anchor_of(it))}">{link}</span>')
+        return f'<p class="names">As their traits say: {", ".join(found)}.</p>' if found else ""
+
+    def of_trait(self, item):
+        """The function of a trait that a function implements, if the trait is of these crates."""
+        trait = trait_of(item.of_trait, item.path)
+        those = functions_by_owner(trait.crate).get(trait.name, []) if trait else []
+        return next((Target(it) for it in those if it.name == item.name and id(it) in self.homes.places), None)
+
     def traits(self, item, page):
         """The traits that a type implements."""
         heads = re.findall(rf"^(?:unsafe )?impl(?:<[^{{\n]*?>)? ([\w:]+)(?:<[^{{\n]*?>)? for {item.name}\b",
                            "\n".join(read(it) for it in files_of(item.crate)), re.M)
         found = []
         for it in dict.fromkeys(heads):
-            target = resolved(it.split("::")[-1], item.path) or next(
-                (got for file in files_of(item.crate) if (got := resolved(it.split("::")[-1], file))), None)
+            target = trait_of(it, item.path)
             code = f"<code>{it}</code>"
             if it != "Model":
                 found.append(self.marker.link(Target(target), page, code) if target else code)
@@ -212,8 +235,8 @@ class Pages:
                 parts += [f"## {title}", *(self.item(it, page, 3) for it in those)]
         else:
             parts += [self.item(it, page, 2) for it in own]
-        if of_traits:
-            parts += ["## Functions of traits", *(self.item(it, page, 3) for it in of_traits)]
+        if of_traits or self.inherited(item, page):
+            parts += ["## Functions of traits", self.inherited(item, page), *(self.item(it, page, 3) for it in of_traits)]
         self.room[page] = "\n\n".join(it for it in parts if it)
 
     def summary_rows(self, items, page, with_owner):
@@ -241,7 +264,7 @@ class Pages:
             parts.append(self.item(it, page, 2))
             if it.kind != "fn":
                 own, of_traits = self.methods(it)
-                parts += [self.item(method, page, 3) for method in own + of_traits]
+                parts += [*(self.item(method, page, 3) for method in own + of_traits), self.inherited(it, page)]
         self.room[page] = "\n\n".join(it for it in parts if it)
 
     def constants_page(self, crate, items, page):
@@ -300,9 +323,12 @@ class Pages:
         page = f"crates/{crate}/private"
         those = sorted(self.homes.private.get(crate, []), key=lambda it: (it.kind == "const", it.path, it.line))
         parts = [f"# Private items of `{crate}`", "No crate exports them, but a definition, a clause or a claim names them."]
-        parts += [self.item(it, page, 2) for it in those]
-        self.room[page] = "\n\n".join(parts)
-        return len(those)
+        for it in those:
+            parts.append(self.item(it, page, 2))
+            if it.kind not in ("fn", "const", "static"):
+                own, of_traits = self.methods(it)
+                parts += [*(self.item(method, page, 3) for method in own + of_traits), self.inherited(it, page)]
+        self.room[page] = "\n\n".join(it for it in parts if it)
 
     # Definitions
 
@@ -324,7 +350,7 @@ class Pages:
     def definition_block(self, it, marked, page):
         return "\n\n".join((
             f'<div class="anchor" id="{html.escape(it.name)}"></div>', f"## `{it.name}`",
-            f'<div class="definition">{self.comment(it.comment, it.path, page)}{pre(marked)}{self.cited_by(it, page)}</div>'))
+            f'<div class="definition" data-name="{html.escape(it.name)}">{self.comment(it.comment, it.path, page)}{pre(marked)}{self.cited_by(it, page)}</div>'))
 
     def spec_lists(self):
         """The lists of spec files, crate by crate. The page of each with the pages under it."""

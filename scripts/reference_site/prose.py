@@ -6,6 +6,7 @@ import posixpath
 import re
 
 from common import TOP, is_there, paths, read
+from definitions import spec_files
 from homes import page_of_spec
 from names import Target, href
 from surface import libraries
@@ -38,7 +39,12 @@ class Sources:
         self.pages, self.copied = {}, {}
 
     def page(self, path):
-        self.pages[path] = f"source/{path}"
+        """The page of a file, or of a folder, whose files get one too."""
+        if path not in self.pages:
+            self.pages[path] = f"source/{path}"
+            for it in paths(f"{path}/**/*") if os.path.isdir(f"{TOP}/{path}") else ():
+                if os.path.isfile(f"{TOP}/{it}") and "/out/" not in it:
+                    self.pages[it] = f"source/{it}"
         return self.pages[path]
 
     def copy(self, path):
@@ -76,10 +82,10 @@ class Prose:
         path = posixpath.normpath(path)
         if path in documents():
             return href(page, page_of_document(path))
-        if "/specs/" in path and path.endswith(".antt") and not path.endswith("/Lib.antt") and is_there(path):
-            return href(page, page_of_spec(path)) if path.split("/")[1] in libraries() else None
+        if path in spec_files():
+            return href(page, page_of_spec(path))
         if os.path.isfile(f"{TOP}/{path}"):
-            if path.endswith((".svg", ".png")):
+            if path.endswith(".svg"):
                 return posixpath.relpath(self.pages.sources.copy(path), posixpath.dirname(page))
             return href(page, self.pages.sources.page(path))
         if os.path.isdir(f"{TOP}/{path}") and path.startswith("crates/"):

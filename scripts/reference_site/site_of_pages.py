@@ -1,5 +1,6 @@
 """Writes the reference: pages in Markdown, and by Sphinx a site of them."""
 
+import html
 import json
 import os
 import re
@@ -20,9 +21,11 @@ from surface import FOR_CALLERS, libraries
 
 HERE = os.path.dirname(os.path.abspath(__file__))
 FOLDER = f"{TOP}/out/reference"
-# Debian's Python, which sees the modules of its packages, and those that the site and the walk need.
+# Debian's Python, which sees the modules of its packages, and what the site and the walk need, with its packages.
 PYTHON = "/usr/bin/python3"
 SPHINX = {"sphinx": "python3-sphinx", "myst_parser": "python3-myst-parser", "furo": "furo"}
+SELENIUM = {"selenium": "python3-selenium"}
+CHROMIUM = {"/usr/bin/chromium": "chromium", "/usr/bin/chromedriver": "chromium-driver"}
 CONFIGURATION = """
 import sys
 sys.path.insert(0, {here!r})
@@ -39,29 +42,34 @@ html_copy_source = False
 html_show_copyright = False
 html_show_search_summary = False
 html_permalinks = False
+smartquotes = False
+html_use_index = False
 suppress_warnings = ["myst.header", "toc.not_included"]
 highlight_language = "none"
 """
 
 
-def install(modules):
-    """Installs Debian's packages of Python modules where one is missing."""
-    def lacking():
-        look = "import importlib.util as it, sys; print(*(name for name in sys.argv[1:] if not it.find_spec(name)))"
-        return run_quietly([PYTHON, "-c", look, *modules]).split()
+def lacking(modules, commands):
+    """The packages of Python modules and of commands that are missing."""
+    look = "import importlib.util as it, sys; print(*(name for name in sys.argv[1:] if not it.find_spec(name)))"
+    missing = run_quietly([PYTHON, "-c", look, *modules]).split() if os.access(PYTHON, os.X_OK) else [*modules]
+    return [modules[it] for it in missing] + [commands[it] for it in commands if not os.access(it, os.X_OK)]
 
-    packages = [modules[it] for it in lacking()]
-    sudo = ["sudo", "-n"] if packages and os.geteuid() and shutil.which("sudo") else []
-    for words in (["true"], ["apt-get", "update"]):
-        if lacking():
-            run([*sudo, *words])
+
+def install(modules, commands):
+    """Installs Debian's packages, by sudo or as root, where a module or a command is missing."""
+    sudo = ["sudo", "-n"] if os.geteuid() and shutil.which("sudo") else []
+    for updates in (False, True):
+        if packages := lacking(modules, commands):
+            if updates:
+                run([*sudo, "apt-get", "update"])
             run([*sudo, "apt-get", "install", "-y", "--no-install-recommends", *packages])
-    if missing := lacking():
-        give_up(f"lacks {', '.join(missing)}, and apt-get could not install {', '.join(packages)}")
+    if packages := lacking(modules, commands):
+        give_up(f"lacks {', '.join(packages)}, and apt-get could not install that")
 
 
-def toctree(caption, pages):
-    return f"```{{toctree}}\n:hidden:\n:caption: {caption}\n\n" + "\n".join(f"/{it}" for it in pages) + "\n```"
+def toctree(pages):
+    return "```{toctree}\n:hidden:\n\n" + "\n".join(f"/{it}" for it in pages) + "\n```"
 
 
 class Site:
@@ -119,26 +127,38 @@ class Site:
         words["documents"] = ", ".join(f'<a href="{href(page, page_of_document(it))}">{it}</a>' for it in documents())
         text = re.sub(r"\{(\w+)\}", lambda it: words[it[1]], text)
         text = re.sub(r"\[`([^`]+)`\]", lambda it: self.link(it[1], page), text)
-        below = [f"crates/{it}" for it in libraries() if it not in FOR_CALLERS]
-        trees = [
-            toctree("For callers", [f"crates/{it}" for it in FOR_CALLERS]), toctree("Crates below", below),
-            toctree("Definitions", [it for it in self.trees if it.startswith("definitions/")]),
-            toctree("Documents", [page_of_document(it) for it in documents()])]
-        self.pages.room[page] = "\n\n".join([text, *trees])
+        pages = [it for _, branches in self.tree() for _, it, _ in branches]
+        self.pages.room[page] = f"{text}\n\n{toctree(pages)}"
+
+    def tree(self):
+        """The list of pages: captions, and below each pages with those under them, each with its title."""
+        def title(page):
+            head = re.search(r"^# (.*)", self.pages.room[page] if isinstance(self.pages.room[page], str) else
+                             self.pages.room[page][0], re.M)[1]
+            return html.escape(head.removeprefix("Definitions of ").split("::")[-1].replace("`", ""))
+
+        def branch(page):
+            return title(page), page, [(title(it), it) for it in self.trees.get(page, [])]
+
+        below = [it for it in libraries() if it not in FOR_CALLERS]
+        return [
+            ("For callers", [branch(f"crates/{it}") for it in FOR_CALLERS]),
+            ("Crates below", [branch(f"crates/{it}") for it in below]),
+            ("Definitions", [branch(it) for it in self.trees if it.startswith("definitions/")]),
+            ("Documents", [branch(page_of_document(it)) for it in documents()])]
 
     def write(self, room):
         """Writes what Sphinx reads."""
         for page, text in self.pages.texts():
-            under = [it for it in self.trees.get(page, []) if it in self.pages.room]
-            tree = "\n\n" + toctree("", under).replace(":caption: \n", "") if under else ""
+            tree = f"\n\n{toctree(self.trees[page])}" if self.trees.get(page) else ""
             path = f"{room}/{page}.md"
             os.makedirs(os.path.dirname(path), exist_ok=True)
             with open(path, "w", encoding="utf-8") as file:
                 file.write(text + tree + "\n")
         with open(f"{room}/conf.py", "w", encoding="utf-8") as file:
             file.write(CONFIGURATION.format(here=HERE, static=f"{HERE}/static"))
-        with open(f"{room}/sources.json", "w", encoding="utf-8") as file:
-            json.dump({"top": TOP, "pages": self.sources.pages}, file)
+        with open(f"{room}/given.json", "w", encoding="utf-8") as file:
+            json.dump({"top": TOP, "sources": self.sources.pages, "tree": self.tree()}, file)
         os.makedirs(f"{room}/extra")
         for path, to in self.sources.copied.items():
             os.makedirs(os.path.dirname(f"{room}/extra/{to}"), exist_ok=True)
@@ -160,7 +180,7 @@ class Site:
 
 def build(folder):
     """Builds the site into a folder, and prints what it has."""
-    install(SPHINX)
+    install(SPHINX, {PYTHON: "python3"})
     site = Site()
     with tempfile.TemporaryDirectory(prefix="reference-") as room:
         site.write(room)
@@ -177,3 +197,9 @@ def build(folder):
         shutil.rmtree(made)
     for it in site.counts():
         print(it)
+
+
+def walk(folder):
+    """Walks through the site of a folder. The status."""
+    install(SELENIUM, {PYTHON: "python3"} | CHROMIUM)
+    return subprocess.run([PYTHON, "-B", f"{HERE}/walk.py", folder], stdin=subprocess.DEVNULL, check=False).returncode
