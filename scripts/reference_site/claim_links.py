@@ -95,7 +95,7 @@ class LinkedClaims(Claims):
         """A link to an item, or to a clause of it."""
         to, anchor = self.homes.home(Target(item))
         self.links += 1
-        name = html.escape(clause.label or "its clause") if clause else html.escape(item.title)
+        name = html.escape(clause.label or "its clause") if clause else html.escape(self.homes.short(item))
         code = f"<code>{name}</code>" if not clause or clause.label else name
         return f'<a href="{href(page, to, anchor + (f".{clause.anchor}" if clause else ""))}">{code}</a>'
 

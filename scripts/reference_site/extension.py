@@ -3,6 +3,8 @@
 import html
 import json
 import os
+import re
+import shutil
 
 from pygments import highlight
 from pygments.filter import simplefilter
@@ -96,6 +98,19 @@ def body_of_file(top, path):
     return f'<div class="highlight lines"><pre>{rows}</pre></div>'
 
 
+def take_along(app, failure):
+    """Copies what styles of Debian's theme take from a web server, and has them take it from beside them."""
+    for at, _, names in os.walk(os.path.join(app.outdir, "_static")) if not failure else ():
+        for path in (os.path.join(at, it) for it in names if it.endswith(".css")):
+            with open(path, encoding="utf-8") as file:
+                text = file.read()
+            for wanted in set(re.findall(r"url\((/javascript/[^)]+)\)", text)):
+                shutil.copy(f"/usr/share{wanted}", at)
+                text = text.replace(wanted, os.path.basename(wanted))
+                with open(path, "w", encoding="utf-8") as file:
+                    file.write(text)
+
+
 def write_sources(app, failure):
     """Writes the pages of sources, which a search doesn't read."""
     if failure:
@@ -111,5 +126,6 @@ def write_sources(app, failure):
 
 def setup(app):
     app.connect("html-page-context", put_tree, priority=400)
+    app.connect("build-finished", take_along)
     app.connect("build-finished", write_sources)
     return {"parallel_read_safe": True, "parallel_write_safe": True}

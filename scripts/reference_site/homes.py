@@ -3,7 +3,7 @@
 import os
 
 from definitions import definitions_of, spec_files
-from surface import Item, exported, functions_by_owner, libraries
+from surface import FOR_CALLERS, Item, exported, functions_by_owner, libraries
 
 
 def page_of_spec(path):
@@ -23,10 +23,11 @@ class Homes:
 
     def __init__(self):
         self.places, self.paths, self.private = {}, {}, {}
-        for crate in libraries():
-            shown = sorted(exported(crate).items(), key=lambda it: it[0].count("::"))
-            for path, item in shown:
-                self.add(crate, path, item)
+        shown = [(crate, path, item) for crate in libraries()
+                 for path, item in sorted(exported(crate).items(), key=lambda it: it[0].count("::"))]
+        # what callers see stands under its path for them, and anything else in its own crate if that exports it
+        for it in sorted(shown, key=lambda it: it[0] not in FOR_CALLERS and (it[0] != it[2].crate) + 1):
+            self.add(*it)
         self.definitions = [it for path in spec_files() for it in definitions_of(path).values()]
 
     def add(self, crate, path, item):
@@ -68,3 +69,7 @@ class Homes:
         """The path by which callers name an item."""
         self.page(item)
         return self.paths[id(item)]
+
+    def short(self, item):
+        """The end of that path, with the type or the module, or else the crate."""
+        return "::".join(self.path(item).split("::")[-2:])

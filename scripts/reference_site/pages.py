@@ -120,7 +120,7 @@ class Pages:
         links = []
         for it in order:
             page_of, anchor = self.homes.home(Target(it))
-            name = it.title if isinstance(it, Item) else it.name
+            name = self.homes.short(it) if isinstance(it, Item) else it.name
             links.append(f'<a href="{href(page, page_of, anchor)}">{html.escape(name)}</a>')
         return folded("Cited by", f'<p class="names">{" ".join(links)}</p>', len(links), len(links) <= MOST_SHOWN)
 
@@ -309,7 +309,7 @@ class Pages:
             parts += ["## Types", self.summary_rows(types, page, False)]
         if constants:
             link = f'<a href="{href(page, page + "/constants")}">Constants</a>'
-            parts.append(f'<p class="names">{link}: {len(constants)}, as <code>{constants[0].name}</code>.</p>')
+            parts.append(f'<p>{link}: {len(constants)}, as <code>{constants[0].name}</code>.</p>')
         for title, those in grouped(of_types + functions + of_modules):
             parts += [f"## {title}", self.summary_rows(those, page, True)]
         if passed:

@@ -117,12 +117,12 @@ class Prose:
     @staticmethod
     def is_shown(path):
         """Whether a path by itself is worth a link: a document, or a file of a crate or of data."""
-        return path.endswith((".md", ".rt", ".antt", ".edit", ".txt"))
+        return re.fullmatch(r"[\w./-]+\.(?:md|rt|antt|edit|txt)", path) is not None
 
     def code(self, code, whole, page):
         """Words in backticks: a link if they name a file, an item or a definition."""
-        path = code if code.startswith("crates/") else f"crates/{code}"
-        if re.fullmatch(r"[\w./-]+/[\w./-]+\.(?:rt|antt|edit)", code) and is_there(path):
+        path = next((it for it in (code, f"crates/{code}") if "/" in code and self.is_shown(it) and is_there(it)), None)
+        if path:
             at = self.file_address(path, page)
         else:
             target = self.target(code)
