@@ -1,9 +1,16 @@
 """On which page each definition and each item of the crates stands, and under which anchor."""
 
 import os
+from typing import NamedTuple
 
 from definitions import definitions_of, spec_files
 from surface import FOR_CALLERS, Item, exported, functions_by_owner, libraries
+
+
+class Target(NamedTuple):
+    """Where a name leads to: a definition or an item, and one of its parts."""
+    thing: object
+    part: str = ""
 
 
 def page_of_spec(path):

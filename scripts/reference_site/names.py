@@ -9,7 +9,8 @@ from urllib.parse import quote
 
 from closure import WORD, spec_file
 from common import crates, is_there, read
-from definitions import definitions_of
+from definitions import Definition, definitions_of
+from homes import Target
 from surface import functions_by_owner, items_of, resolved
 
 IMPORTS = re.compile(r"^ *(?:ghost |unfoldable |pub )*use Rattle\.([\w.]+?)\.\{(.*?)\}", re.M | re.S)
@@ -28,12 +29,6 @@ RUST = (
     "as break const crate dyn else enum extern fn for ghost if impl in let loop match mod move mut pub ref return self Self "
     "static struct super trait type unsafe use where while true false"
 ).split()
-
-
-class Target(NamedTuple):
-    """Where a name leads to: a definition or an item, and one of its parts."""
-    thing: object
-    part: str = ""
 
 
 class Std(NamedTuple):
@@ -123,18 +118,28 @@ def meaning_of_path(base, word, path):
     return None
 
 
-class Scope:
-    """Where a text stands: its file, what is bound in it, the trait of each type parameter, and the fields of a record."""
+def with_those_above(trait):
+    """A trait, and those that it names after its own name, and so on."""
+    found = [trait]
+    for it in found:
+        names = re.findall(r"\w+", it.text.partition(":")[2])
+        found += [above for name in names if (above := trait_named(name, it.path)) and above not in found]
+    return found
 
-    def __init__(self, path, bound=(), traits=None, trait=None, record=None):
+
+class Scope:
+    """Where a text stands: its file, what is bound in it, the trait of each type parameter, the record whose fields are
+    bare names in it, and the types of what is bound."""
+
+    def __init__(self, path, bound=(), traits=None, trait=None, record=None, types=None):
         self.path, self.bound, self.traits, self.trait, self.record = path, {*bound}, traits or {}, trait, record
+        self.types = types or {}
 
     def of(self, word):
         if self.record and word in self.record.fields:
             return Target(self.record, word)
-        if self.trait and any(it.name == word for it in self.trait.parts):
-            return Target(self.trait, word)
-        return None
+        traits = with_those_above(self.trait) if self.trait else []
+        return next((Target(trait, word) for trait in traits for it in trait.parts if it.name == word), None)
 
 
 def bound_in(text):
@@ -155,10 +160,56 @@ def bound_by_equations(definition):
     return found
 
 
+def split_by(text, sign):
+    """The parts of a text between signs that stand in no brackets."""
+    parts, depth = [""], 0
+    for it in re.split(rf"([(){{}}]|{sign})", text):
+        depth += (it in "({") - (it in ")}") if it and it in "(){}" else 0
+        if not depth and re.fullmatch(sign, it):
+            parts.append("")
+        else:
+            parts[-1] += it
+    return parts
+
+
+def has_fields(word, path):
+    """The record or the struct that a word in a file means, or None."""
+    found = meaning(word, path) if word else None
+    return found.thing if isinstance(found, Target) and not found.part and fields_of(found.thing) else None
+
+
+def fields_of(thing):
+    """The names of the fields of a record or a struct."""
+    if isinstance(thing, Definition):
+        return thing.fields if thing.kind == "record" else []
+    return [it.name for it in thing.parts if it.kind == "field"]
+
+
+def types_in(text, path):
+    """The records of what groups of a text bind, by name."""
+    found = {}
+    for it in re.finditer(r"[({]([^(){}:=;.]+) : (\w+)", text):
+        if record := has_fields(it[2], path):
+            found |= dict.fromkeys(it[1].split(), record)
+    return found
+
+
+def types_by_place(definition):
+    """The records of what the equations of a definition bind, by the type of the definition."""
+    head, name = re.match(r"[^:]* : (.*?)(?=^\S)", definition.text, re.M | re.S), re.escape(definition.name)
+    found = {}
+    for it in re.finditer(rf"^{name} (.*?) =(?=\s)", definition.text, re.M | re.S) if head else ():
+        for word, of_place in zip(split_by(it[1], r"\s+"), split_by(head[1], "→")):
+            if (kind := of_place.strip()) and re.fullmatch(r"\w+", word) and (record := has_fields(kind, definition.path)):
+                found[word] = record
+    return found
+
+
 def scope_of_definition(definition):
     bound = bound_in(definition.text) | bound_by_equations(definition)
     record = definition if definition.kind in ("record", "data") else None
-    return Scope(definition.path, bound - ({*record.fields} if record else set()), record=record)
+    types = types_by_place(definition) | types_in(definition.text, definition.path)
+    return Scope(definition.path, bound - ({*record.fields} if record else set()), record=record, types=types)
 
 
 def parameters(text):
@@ -217,7 +268,7 @@ class Marker:
     def word(self, it, text, scope, bound, page, source, before):
         word, at = it[0], it.start()
         if at > 1 and text[at - 1] == "." and not text[at - 2].isspace():
-            target = self.after_dot(word, before, scope, bound)
+            target = self.after_dot(word, before if text[: at - 1].endswith(before) else "", scope)
             if isinstance(target, Target):
                 return self.link(target, page, word, source)
             return std(word, target.module) if target else f'<span class="na">{word}</span>'
@@ -245,11 +296,13 @@ class Marker:
             self.unknown.setdefault(word, set()).add(scope.path)
         return word
 
-    def after_dot(self, word, before, scope, bound):
+    def after_dot(self, word, before, scope):
+        """What a word after a dot means: a member of a trait or a type, or a field of a record."""
         if (trait := scope.traits.get(before)) and any(it.name == word for it in trait.parts):
             return Target(trait, word)
-        found = meaning_of_path(before, word, scope.path)
-        return None if before in bound and not found else found
+        if word in fields_of(scope.types[before]) if before in scope.types else False:
+            return Target(scope.types[before], word)
+        return scope.of(word) if before == "Self" else meaning_of_path(before, word, scope.path) if before else None
 
     def rust(self, text, item, page):
         """A text of the code, with links to types."""
@@ -274,6 +327,11 @@ class Marker:
             return self.link(Target(target), page, f'<span class="nc">{word}</span>')
         of_std = word[0].isupper() or word in OF_CONTRACTS
         return f'<span class="kt">{word}</span>' if of_std else word
+
+
+def breakable(name):
+    """A name as HTML that may be broken within it."""
+    return html.escape(name, quote=False).replace("::", "::<wbr>").replace("_", "_<wbr>")
 
 
 def std(word, module):

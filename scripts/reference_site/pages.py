@@ -8,7 +8,7 @@ from common import read
 from definitions import definitions_of, head_of, spec_files
 from groups import grouped
 from homes import anchor_of, page_of_spec
-from names import Std, Target, href, meaning, scope_of_definition, scope_of_item
+from names import Std, Target, breakable, href, meaning, scope_of_definition, scope_of_item
 from sources import headline
 from surface import Item, exported, files_of, functions_by_owner, head_comment, items_of, libraries, models_of, resolved
 
@@ -68,7 +68,7 @@ class Pages:
     def doc_link(self, name, path, page):
         """What a name in brackets of documentation leads to."""
         target = self.named_in_docs(name.removesuffix("()"), path)
-        code = f"<code>{html.escape(name, quote=False)}</code>"
+        code = f"<code>{breakable(name)}</code>"
         return self.marker.link(target, page, code) if target else code
 
     def named_in_docs(self, name, path):
@@ -242,9 +242,9 @@ class Pages:
     def summary_rows(self, items, page, with_owner):
         rows = []
         for it in items:
-            name = html.escape(it.title if with_owner else it.name)
+            name = it.title if with_owner else it.name
             to, anchor = self.homes.home(Target(it))
-            link = f'<a href="{href(page, to, anchor)}"><code>{name.replace("::", "::<wbr>").replace("_", "_<wbr>")}</code></a>'
+            link = f'<a href="{href(page, to, anchor)}"><code>{breakable(name)}</code></a>'
             rows.append(f"<dt>{link}</dt><dd>{self.inline(it.summary(), it.path, page)}</dd>")
         return f'<dl class="summary">{"".join(rows)}</dl>'
 
@@ -343,7 +343,7 @@ class Pages:
         those = [self.definition(it, page) for it in definitions_of(path).values()]
         head = (f'<div class="item-head"><span class="item-path">definitions of <code>{crate}</code></span>'
                 f'<a class="source" href="{href(page, self.sources.page(path))}">source</a></div>')
-        self.room[page] = [f"# {name}", head, lambda: self.comment(head_of(path), path, page)]
+        self.room[page] = [f"# {name}: definitions", head, lambda: self.comment(head_of(path), path, page)]
         for it, marked in those:
             self.room[page] += [lambda it=it, marked=marked: self.definition_block(it, marked, page)]
 

@@ -8,7 +8,7 @@ import re
 from common import TOP, is_there, paths, read
 from definitions import spec_files
 from homes import page_of_spec
-from names import Target, href
+from names import Target, breakable, href
 from surface import libraries
 
 DOCUMENTS = ("README.md", "ARCHITECTURE.md", "CONTRIBUTING.md", "CHANGELOG.md", "docs/*.md", "data/README.md")
@@ -100,6 +100,8 @@ class Prose:
         folder = os.path.dirname(document)
         if match["picture"]:
             at = self.file_address(os.path.join(folder, match["picture"]), page)
+            if not at:
+                self.dead.append(f"{document}: {match['picture']}")
             return f'<img class="picture" src="{at}" alt="{html.escape(match["alt"])}">'
         if target := match["target"]:
             at = target if "://" in target or target.startswith("#") else self.file_address(os.path.join(folder, target), page)
@@ -128,7 +130,7 @@ class Prose:
             target = self.target(code)
             at = href(page, *self.pages.homes.home(target)) if target else None
         self.links += bool(at)
-        return f'<a class="ref" href="{at}"><code>{html.escape(code, quote=False)}</code></a>' if at else whole
+        return f'<a class="ref" href="{at}"><code>{breakable(code)}</code></a>' if at else whole
 
     def text(self, text, document, page):
         """A part of a document that is not code."""

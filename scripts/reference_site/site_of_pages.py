@@ -13,11 +13,11 @@ from claim_links import LinkedClaims
 from common import TOP, give_up, run, run_quietly
 from definitions import spec_files
 from homes import Homes
-from names import Marker, Target, href
+from names import Marker, breakable, href
 from pages import Pages
 from prose import Prose, Sources, documents, page_of_document
 from standard import Standard
-from surface import FOR_CALLERS, libraries
+from surface import FOR_CALLERS, NOT_READ, libraries
 
 HERE = os.path.dirname(os.path.abspath(__file__))
 FOLDER = f"{TOP}/out/reference"
@@ -112,7 +112,7 @@ class Site:
         if not target:
             self.prose.dead.append(f"start.md: {path}")
             return f"`{path}`"
-        return f'<a class="ref" href="{href(page, *self.homes.home(target))}"><code>{path}</code></a>'
+        return f'<a class="ref" href="{href(page, *self.homes.home(target))}"><code>{breakable(path)}</code></a>'
 
     def write_start(self):
         """The start page, and the lists of pages on it."""
@@ -135,7 +135,7 @@ class Site:
         def title(page):
             head = re.search(r"^# (.*)", self.pages.room[page] if isinstance(self.pages.room[page], str) else
                              self.pages.room[page][0], re.M)[1]
-            return html.escape(head.removeprefix("Definitions of ").split("::")[-1].replace("`", ""))
+            return html.escape(re.sub("^Definitions of |: definitions$|`", "", head).split("::")[-1])
 
         def branch(page):
             return title(page), page, [(title(it), it) for it in self.trees.get(page, [])]
@@ -166,8 +166,10 @@ class Site:
 
     def counts(self):
         """The numbers of the reference, and what could not be linked."""
-        public = [it for it in self.pages.items() if id(it) not in {id(one) for those in self.homes.private.values() for one in those}]
-        yield f"{len(public)} public items, {sum(map(len, self.homes.private.values()))} private ones that are named"
+        of_callers = [it for it in self.pages.items() if self.homes.path(it).split("::")[0] in FOR_CALLERS]
+        private = sum(map(len, self.homes.private.values()))
+        below = len(self.pages.items()) - len(of_callers) - private
+        yield f"{len(of_callers)} items for callers, {below} of crates below, {private} private ones that are named"
         yield f"{len(self.pages.clauses)} conditions and clauses, {len(self.homes.definitions)} definitions in {len(spec_files())} files"
         yield (f"{self.marker.links} links from signatures, clauses and definitions, {self.claims.links} from claims, "
                f"{self.prose.links} from documents, {self.standard.links} to the standard")
@@ -176,6 +178,7 @@ class Site:
         unknown += [f"section {it} of the standard" for it in sorted(self.standard.unknown)] + self.prose.dead
         yield f"{len(unknown)} names without a link, beside {len(self.marker.standard)} of the standard library"
         yield from (f"  {it}" for it in unknown)
+        yield from (f"  not read: {it}" for it in NOT_READ)
 
 
 def build(folder):

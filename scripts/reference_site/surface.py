@@ -17,6 +17,9 @@ LAST_LIBRARY = "recode_engine"
 # Modules of tables, which are data.
 TABLES = re.compile(r"/src/(?:data|pages)(?:/|\.rt$)")
 
+# The places of items that have a form which is not read.
+NOT_READ = []
+
 TYPE = re.compile(
     r"^(?P<vis>pub(?:\([a-z]+\))? )?(?P<kind>struct|enum|trait|type|const|static) (?P<name>\w+)", re.M)
 IMPL = re.compile(r"^(?:unsafe )?impl\b[^{\n]*\{\n", re.M)
@@ -180,24 +183,37 @@ def owners(head):
     return name or "", found[1].split("::")[-1] if found else name if of_trait else ""
 
 
+def type_at(path, text, match):
+    """The type or the constant whose head line matches."""
+    return Item(
+        match["kind"], path.split("/")[1], path, match["name"], line_at(text, match.start()), match["vis"] == "pub ",
+        before(text, match.start(), "///"), attributes(text, match.start()) + type_text(text, match),
+        parts=parts_of(text, match))
+
+
+def function_at(path, text, place, begin):
+    """The function whose signature begins at a place."""
+    owner, of_trait = owners(place.owner) if place.owner else ("", "")
+    clauses, end = clauses_at(text, begin)
+    is_trait = re.match(r"(?:pub(?:\([a-z]+\))? )?trait\b", place.owner)
+    public = place.head.startswith("pub ") or bool(of_trait)
+    return Item("fn", path.split("/")[1], path, place.name, line_at(text, begin), public, before(text, begin, "///"),
+                signature(text[begin:end]), owner, "" if is_trait else of_trait, clauses)
+
+
 @functools.cache
 def items_of(path):
-    """The items of a file: types, constants and functions, with those of impls."""
-    crate, text = path.split("/")[1], read(path)
+    """The items of a file: types, constants and functions, with those of impls. What has another form is noted."""
+    text = read(path)
+    ways = [(it.start(), type_at, (path, text, it)) for it in TYPE.finditer(text)]
+    ways += [(begin, function_at, (path, text, place, begin))
+             for place, (_, begin, _, _) in edit_list.functions(path, text)]
     found = []
-    for it in TYPE.finditer(text):
-        found.append(Item(
-            it["kind"], crate, path, it["name"], line_at(text, it.start()), (it["vis"] or "") == "pub ",
-            before(text, it.start(), "///"), attributes(text, it.start()) + type_text(text, it), parts=parts_of(text, it)))
-    for place, (_, begin, _, _) in edit_list.functions(path, text):
-        if re.match(r"(?:unsafe )?impl\b", place.owner) or place.owner or not place.head.startswith("    "):
-            owner, of_trait = owners(place.owner) if place.owner else ("", "")
-            clauses, end = clauses_at(text, begin)
-            is_trait = bool(re.match(r"(?:pub(?:\([a-z]+\))? )?trait\b", place.owner))
-            public = place.head.startswith("pub ") or bool(of_trait)
-            found.append(Item(
-                "fn", crate, path, place.name, line_at(text, begin), public, before(text, begin, "///"),
-                signature(text[begin:end]), owner, "" if is_trait else of_trait, clauses))
+    for at, way, arguments in ways:
+        try:
+            found.append(way(*arguments))
+        except (AttributeError, IndexError, TypeError, ValueError):
+            NOT_READ.append(f"{path}:{line_at(text, at)}")
     return found
 
 
