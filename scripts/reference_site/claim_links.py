@@ -127,7 +127,8 @@ class LinkedClaims(Claims):
             return f"<div>{self.link_to(items[0], page)}: {self.labels(items[0], labels, page, marker, True)}</div>"
         name = re.sub(r"\*([^`*]+)\*|`(.+?)`", lambda it: f"<em>{it[1]}</em>" if it[1] else f"<code>{it[2]}</code>",
                       html.escape(text, quote=False))
-        rows = "".join(f"<li>{self.link_to(it, page)}: {self.labels(it, labels, page, marker, False)}</li>" for it in items)
+        rows = "".join(f"<li>{self.link_to(it, page)}: {self.labels(it, labels, page, marker, False)}</li>"
+                       for it in items)
         return (f'<details class="fold"><summary>{name}: {self.labels(items[0], labels, page, marker, True)} '
                 f"<span>({len(items)} functions)</span></summary><ul>{rows}</ul></details>")
 
@@ -137,6 +138,7 @@ class LinkedClaims(Claims):
         for line in rows:
             row = self.rows[line.strip("| ")]
             parts = "".join(self.part(*it, page, pages.marker) for it in row.parts)
-            found.append(f'<div class="claim" id="{row.anchor}"><div class="claim-text">{pages.inline(row.text, CLAIMS, page)}'
-                         f'</div><div class="claim-by">{parts}</div></div>')
+            text = pages.inline(row.text, CLAIMS, page)
+            found.append(f'<div class="claim" id="{row.anchor}"><div class="claim-text">{text}</div>'
+                         f'<div class="claim-by">{parts}</div></div>')
         return f'<div class="claim-table">{"".join(found)}</div>'

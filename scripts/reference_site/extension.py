@@ -56,8 +56,8 @@ def tree(app, current, address):
         rows = []
         for title, page, leaves in branches:
             is_here = current == page or current in (leaf for _, leaf in leaves)
-            under = "".join(entry(leaf, name, 2, leaf == current, "", address) for name, leaf in leaves) if is_here else ""
-            rows.append(entry(page, title, 1, is_here, under, address))
+            under = [entry(leaf, name, 2, leaf == current, "", address) for name, leaf in leaves if is_here]
+            rows.append(entry(page, title, 1, is_here, "".join(under), address))
         found.append(f'<p class="caption" role="heading"><span class="caption-text">{caption}</span></p>'
                      f"<ul>{''.join(rows)}</ul>")
     return "".join(found)

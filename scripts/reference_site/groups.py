@@ -24,8 +24,8 @@ GROUPS = (
 )
 # The order in which they are shown.
 ORDER = (
-    "Decoding in chunks", "Encoding in chunks", "State", "One-shot calls", "Lengths to allocate", "Encodings and labels",
-    "Byte order marks", "Validity", "Reader", "Sources", "Recoding", "Writer", "Runs", "Laws", OTHERS,
+    "Decoding in chunks", "Encoding in chunks", "One-shot calls", "Reader", "Sources", "Recoding", "Writer", "State",
+    "Lengths to allocate", "Encodings and labels", "Byte order marks", "Validity", "Runs", "Laws", OTHERS,
 )
 
 

@@ -20,14 +20,12 @@ TOKEN = re.compile(
     rf"|(?P<word>{WORD.pattern})|(?P<sign>[≡≢×→↔λ≤<∷⊎⊥=+*&|%^◌/-]+)|(?P<other>.|\n)", re.S)
 GROUP = re.compile(r"[({]([^(){}:=;.]+) :(?= |$)", re.M)
 LAMBDA = re.compile(r"λ ([^.()]*)\.|\blet (\w+) = ")
-WORDS_OF_LANGUAGE = {
-    "λ", "record", "where", "pub", "abbrev", "unfoldable", "data", "Type", "if", "then", "else", "let", "in", "Unit", "use",
-}
+WORDS_OF_LANGUAGE = {*"λ record where pub abbrev unfoldable data Type if then else let in Unit use".split()}
 # What contracts call the value of a call, and types and numbers that the language of contracts has by itself.
 OF_CONTRACTS = {"result", "self", "Self", "String", "u8", "u16", "u32", "u64", "usize", "char", "bool", "str"}
 RUST = (
-    "as break const crate dyn else enum extern fn for ghost if impl in let loop match mod move mut pub ref return self Self "
-    "static struct super trait type unsafe use where while true false"
+    "as break const crate dyn else enum extern fn for ghost if impl in let loop match mod move mut pub ref return self "
+    "Self static struct super trait type unsafe use where while true false"
 ).split()
 
 
@@ -200,7 +198,8 @@ def types_by_place(definition):
     found = {}
     for it in re.finditer(rf"^{name} (.*?) =(?=\s)", definition.text, re.M | re.S) if head else ():
         for word, of_place in zip(split_by(it[1], r"\s+"), split_by(head[1], "→")):
-            if (kind := of_place.strip()) and re.fullmatch(r"\w+", word) and (record := has_fields(kind, definition.path)):
+            record = has_fields(of_place.strip(), definition.path)
+            if record and re.fullmatch(r"\w+", word):
                 found[word] = record
     return found
 
@@ -231,7 +230,9 @@ def scope_of_item(item):
         owner = next((it for it in re.findall(r"^(?:unsafe )?(?:impl|(?:pub )?trait)\b[^{\n]*", read(item.path), re.M)
                       if re.search(rf"\b{item.owner}\b", it)), "")
         traits = parameters(owner)[1] | traits
-    own = item if item.kind == "trait" else trait_named(item.owner, item.path) if item.owner and not item.of_trait else None
+    own = item if item.kind == "trait" else None
+    if item.owner and not item.of_trait:
+        own = trait_named(item.owner, item.path)
     generics = re.search(r"fn \w+<(.*?)>\(", head, re.S)
     bound |= {*traits, *re.findall(r"\b[A-Z]\w*\b", generics[1] if generics else "")}
     return Scope(item.path, bound, {name: trait_named(it, item.path) for name, it in traits.items()}, own)
@@ -274,15 +275,14 @@ class Marker:
             return std(word, target.module) if target else f'<span class="na">{word}</span>'
         if word in WORDS_OF_LANGUAGE:
             return f'<span class="k">{word}</span>'
-        if re.match(r" =(?= |$)", text[it.end(): it.end() + 3]) and re.search(r"[{;]\s*\Z", text[:at]):
+        is_field = scope.record and word in scope.record.fields
+        if is_field and re.search(r"^ +(?:pub )?\Z", text[:at], re.M) and re.match(r" :(?=\s)", text[it.end():]):
+            return f'<span class="nf" id="{html.escape(self.homes.home(Target(scope.record, word))[1])}">{word}</span>'
+        if re.match(r" =(?=\s)", text[it.end():]) and re.search(r"[{;]\s*\Z", text[:at]):
             return f'<span class="na">{word}</span>'
-        if word in bound or word in OF_CONTRACTS:
+        if word in bound or word in OF_CONTRACTS and not is_field:
             return f'<span class="nv">{word}</span>'
         if target := scope.of(word):
-            own = target.thing is source
-            is_head = own and re.search(rf"^ +(?:pub )?{re.escape(word)} :\Z", text[:it.end()] + " :", re.M)
-            if is_head and re.search(r"^ +(?:pub )?\Z", text[:at], re.M) and text[it.end(): it.end() + 2] == " :":
-                return f'<span class="nf" id="{html.escape(self.homes.home(target)[1])}">{word}</span>'
             return self.link(target, page, word, source)
         target = meaning(word, scope.path)
         if isinstance(target, Std):

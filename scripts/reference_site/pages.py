@@ -30,7 +30,8 @@ def pre(marked, kind=""):
 
 def folded(title, content, number, opened=False):
     """A part that a reader opens."""
-    return f'<details class="fold"{" open" if opened else ""}><summary>{title} <span>({number})</span></summary>{content}</details>'
+    summary = f"<summary>{title} <span>({number})</span></summary>"
+    return f'<details class="fold"{" open" if opened else ""}>{summary}{content}</details>'
 
 
 def escaped_cells(text):
@@ -39,8 +40,8 @@ def escaped_cells(text):
 
 def trait_of(name, path):
     """The trait of a name in a file, or in another file of the crate."""
-    name = name.split("::")[-1]
-    return resolved(name, path) or next((it for file in files_of(path.split("/")[1]) if (it := resolved(name, file))), None)
+    name, files = name.split("::")[-1], [path, *files_of(path.split("/")[1])]
+    return next((it for file in files if (it := resolved(name, file))), None)
 
 
 class Pages:
@@ -127,14 +128,14 @@ class Pages:
     def clause(self, item, clause, scope, page):
         """A condition or a clause, as a block."""
         self.clauses[id(clause)] = clause
-        anchor = f"{anchor_of(item)}.{clause.anchor}"
+        anchor = html.escape(f"{anchor_of(item)}.{clause.anchor}")
         name = html.escape(clause.label) or ("condition" if clause.kind == "requires" else "its clause")
         said = f"<p>{self.inline(clause.comment, item.path, page)}</p>" if clause.comment else ""
         marked = self.marker.marked(clause.text, scope, page, item)
         claims = self.claims.of_clause(item, clause, page, self)
         return (
-            f'<div class="clause {clause.kind}" id="{html.escape(anchor)}"><div class="clause-head">'
-            f'<span class="clause-kind">{clause.kind}</span> <a class="clause-name" href="#{html.escape(anchor)}">{name}</a>'
+            f'<div class="clause {clause.kind}" id="{anchor}"><div class="clause-head">'
+            f'<span class="clause-kind">{clause.kind}</span> <a class="clause-name" href="#{anchor}">{name}</a>'
             f"</div>{said}{pre(marked)}{claims}</div>")
 
     def contract(self, item, page):
@@ -153,7 +154,8 @@ class Pages:
         scope, rows = scope_of_item(item), []
         for it in item.parts:
             if it.kind == "ghost":
-                text = f'<span class="k">ghost</span> {html.escape(it.name)}: {self.marker.marked(it.text, scope, page, item)}'
+                marked = self.marker.marked(it.text, scope, page, item)
+                text = f'<span class="k">ghost</span> {html.escape(it.name)}: {marked}'
             else:
                 text = self.marker.rust(it.text, item, page)
             said = self.inline(it.doc, item.path, page)
@@ -167,7 +169,8 @@ class Pages:
         if not members:
             return ""
         scope = scope_of_item(item)
-        texts = [f'<span class="nf">{it.name}</span> = {self.marker.marked(it.text, scope, page, item)}' for it in members]
+        texts = [f'<span class="nf">{it.name}</span> = {self.marker.marked(it.text, scope, page, item)}'
+                 for it in members]
         return ('<div class="model"><div class="clause-head"><span class="clause-kind">model</span></div>'
                 "<p>What a value is in contracts, and what always holds of it.</p>" + pre("\n".join(texts)) + "</div>")
 
@@ -189,7 +192,7 @@ class Pages:
             self.contract(item, page)) if it)
 
     def methods(self, item):
-        """The functions of a type that a reader may call, and those of traits with a contract or a text of their own."""
+        """The public functions of a type, and those of traits with a contract or documentation of their own."""
         those = [it for it in functions_by_owner(item.crate).get(item.name, []) if it.public]
         own = [it for it in those if item.kind == "trait" or not it.of_trait]
         return own, [it for it in those if it not in own and (it.clauses or it.doc)]
@@ -235,8 +238,9 @@ class Pages:
                 parts += [f"## {title}", *(self.item(it, page, 3) for it in those)]
         else:
             parts += [self.item(it, page, 2) for it in own]
-        if of_traits or self.inherited(item, page):
-            parts += ["## Functions of traits", self.inherited(item, page), *(self.item(it, page, 3) for it in of_traits)]
+        inherited = self.inherited(item, page)
+        if of_traits or inherited:
+            parts += ["## Functions of traits", inherited, *(self.item(it, page, 3) for it in of_traits)]
         self.room[page] = "\n\n".join(it for it in parts if it)
 
     def summary_rows(self, items, page, with_owner):
@@ -273,7 +277,7 @@ class Pages:
             rows.append(f'<dt id="{it.name}"><code>{html.escape(it.name)}</code></dt>'
                         f"<dd>{self.inline(it.doc, it.path, page)} {self.source_link(it, page)}</dd>")
         self.room[page] = "\n\n".join((
-            "# Constants", f"The constants of `{crate}`. Each encoding has two, which are equal.",
+            "# Constants", f"The constants of `{crate}`.",
             f'<dl class="summary">{"".join(rows)}</dl>'))
 
     def crate_page(self, crate):
@@ -322,7 +326,8 @@ class Pages:
         """The page of what no crate exports, but a contract or a claim names."""
         page = f"crates/{crate}/private"
         those = sorted(self.homes.private.get(crate, []), key=lambda it: (it.kind == "const", it.path, it.line))
-        parts = [f"# Private items of `{crate}`", "No crate exports them, but a definition, a clause or a claim names them."]
+        parts = [f"# Private items of `{crate}`",
+                 "No crate exports them, but a definition, a clause or a claim names them."]
         for it in those:
             parts.append(self.item(it, page, 2))
             if it.kind not in ("fn", "const", "static"):
@@ -348,9 +353,10 @@ class Pages:
             self.room[page] += [lambda it=it, marked=marked: self.definition_block(it, marked, page)]
 
     def definition_block(self, it, marked, page):
+        name, said = html.escape(it.name), self.comment(it.comment, it.path, page)
         return "\n\n".join((
-            f'<div class="anchor" id="{html.escape(it.name)}"></div>', f"## `{it.name}`",
-            f'<div class="definition" data-name="{html.escape(it.name)}">{self.comment(it.comment, it.path, page)}{pre(marked)}{self.cited_by(it, page)}</div>'))
+            f'<div class="anchor" id="{name}"></div>', f"## `{it.name}`",
+            f'<div class="definition" data-name="{name}">{said}{pre(marked)}{self.cited_by(it, page)}</div>'))
 
     def spec_lists(self):
         """The lists of spec files, crate by crate. The page of each with the pages under it."""

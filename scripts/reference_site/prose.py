@@ -75,7 +75,8 @@ class Prose:
         if "::" in name:
             return self.by_path.get(name, [None])[0]
         those = self.by_name.get(name, [])
-        return those[0] if len(those) == 1 and len(name) > 3 else None
+        # a short word in lower case is the name of a clause or of a parameter too
+        return those[0] if len(those) == 1 and re.search("[A-Z_]", name) else None
 
     def file_address(self, path, page):
         """The address of what shows a file or a folder, from a page, or None if there is none."""
@@ -104,7 +105,8 @@ class Prose:
                 self.dead.append(f"{document}: {match['picture']}")
             return f'<img class="picture" src="{at}" alt="{html.escape(match["alt"])}">'
         if target := match["target"]:
-            at = target if "://" in target or target.startswith("#") else self.file_address(os.path.join(folder, target), page)
+            is_address = "://" in target or target.startswith("#")
+            at = target if is_address else self.file_address(os.path.join(folder, target), page)
             if not at:
                 self.dead.append(f"{document}: {target}")
             self.links += 1
@@ -124,8 +126,8 @@ class Prose:
     def code(self, code, whole, page):
         """Words in backticks: a link if they name a file, an item or a definition."""
         path = next((it for it in (code, f"crates/{code}") if "/" in code and self.is_shown(it) and is_there(it)), None)
-        if path:
-            at = self.file_address(path, page)
+        if path or code in libraries():
+            at = self.file_address(path or f"crates/{code}", page)
         else:
             target = self.target(code)
             at = href(page, *self.pages.homes.home(target)) if target else None

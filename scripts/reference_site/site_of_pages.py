@@ -123,7 +123,8 @@ class Site:
         words = {it: f'<a href="{href(page, run_page, f"{anchor}.{it}")}"><code>{it}</code></a>'
                  for it in ("beginning", "text", "faults")}
         words["constants"] = f'<a href="{href(page, "crates/encoding_rs/constants")}">constants</a>'
-        words["crates"] = ", ".join(f'<a href="{href(page, f"crates/{it}")}"><code>{it}</code></a>' for it in FOR_CALLERS)
+        words["crates"] = ", ".join(f'<a href="{href(page, f"crates/{it}")}"><code>{it}</code></a>'
+                                    for it in FOR_CALLERS)
         words["documents"] = ", ".join(f'<a href="{href(page, page_of_document(it))}">{it}</a>' for it in documents())
         text = re.sub(r"\{(\w+)\}", lambda it: words[it[1]], text)
         text = re.sub(r"\[`([^`]+)`\]", lambda it: self.link(it[1], page), text)
@@ -170,7 +171,8 @@ class Site:
         private = sum(map(len, self.homes.private.values()))
         below = len(self.pages.items()) - len(of_callers) - private
         yield f"{len(of_callers)} items for callers, {below} of crates below, {private} private ones that are named"
-        yield f"{len(self.pages.clauses)} conditions and clauses, {len(self.homes.definitions)} definitions in {len(spec_files())} files"
+        yield (f"{len(self.pages.clauses)} conditions and clauses, {len(self.homes.definitions)} definitions in "
+               f"{len(spec_files())} files")
         yield (f"{self.marker.links} links from signatures, clauses and definitions, {self.claims.links} from claims, "
                f"{self.prose.links} from documents, {self.standard.links} to the standard")
         yield f"{len(self.pages.room)} pages, {len(self.sources.pages)} of sources"

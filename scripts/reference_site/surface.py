@@ -136,12 +136,12 @@ def signature(text):
 
 
 def type_text(text, match):
-    """The text of a type: a struct without its private fields, an enum, an alias or a constant whole, a trait's head."""
+    """The text of a type: of a struct without private fields, of a long constant without its value, of a trait its head."""
     head = text[match.start():]
     kind = match["kind"]
     if kind in ("type", "const", "static"):
-        whole = head[: head.index(";") + 1]
-        return whole if whole.count("\n") < 12 else whole[: whole.index("=") + 1] + " ..;"
+        whole = head[: head.index(";\n") + 1]
+        return whole if whole.count("\n") < 4 else whole[: whole.index(" =") + 2] + " ..;"
     first = head[: head.index("\n")]
     if kind == "trait" or not first.endswith("{"):
         return first.rstrip(" {")

@@ -12,6 +12,7 @@ import time
 from urllib.parse import unquote, urlsplit
 
 from selenium import webdriver
+from selenium.common.exceptions import TimeoutException
 from selenium.webdriver.chrome.service import Service
 from selenium.webdriver.common.by import By
 from selenium.webdriver.common.keys import Keys
@@ -115,15 +116,18 @@ class Walk:
     def open_all(self):
         """Opens each page, on a phone's width."""
         set_width(self.driver, PHONE)
-        number, faults = 0, []
+        number, away, faults = 0, 0, []
         for page in pages_of(self.folder):
             self.driver.get(self.address(page))
             self.saw[page] = self.driver.execute_script(LOOK)
             asked, failed = requests(self.driver)
             number += len(asked)
-            faults += [f"{page} asks for {it}" for it in asked if not it.startswith(("file:", "data:"))]
+            elsewhere = [it for it in asked if not it.startswith(("file:", "data:"))]
+            away += len(elsewhere)
+            faults += [f"{page} asks for {it}" for it in elsewhere]
             faults += [f"{page} lacks {it}" for it in failed + self.saw[page]["missing"]]
-        self.report("pages load with the network off", faults, f"{len(self.saw)} pages, by {number} requests, all for files")
+        self.report("pages load with the network off", faults,
+                    f"{len(self.saw)} pages, by {number} requests, {number - away} of them for files")
 
     def look_at_widths(self):
         wide = [f"{page} is {saw['width']} pixels wide" for page, saw in self.saw.items() if saw["width"] > PHONE[0]]
@@ -160,7 +164,8 @@ class Walk:
         texts = [it.text for it in links]
         links[0].click()
         page, anchor = self.place(self.driver.current_url)
-        faults = [] if page == FOUND and SOUGHT in (anchor + texts[0]).replace("-", "_") else [f"it leads to {page}#{anchor}"]
+        is_right = page == FOUND and anchor.replace("-", "_").endswith(SOUGHT)
+        faults = [] if is_right else [f"it leads to {page}#{anchor}"]
         self.report(f"a search finds {SOUGHT}", faults, f"{len(texts)} results, first {'; '.join(texts[:3])}")
 
     def way(self):
@@ -177,6 +182,10 @@ class Walk:
                     waiting.append(it)
         return ways.get(TO, [])
 
+    def is_at(self, page, anchor):
+        """Whether the browser shows an anchor of a page."""
+        return self.place(self.driver.current_url) == (page, anchor) and self.driver.execute_script(IN_SIGHT, anchor)
+
     def click_through(self):
         """Goes that way by clicks alone."""
         way, faults = self.way(), []
@@ -191,9 +200,11 @@ class Walk:
                 break
             self.driver.execute_script("arguments[0].scrollIntoView({block: 'center', behavior: 'instant'})", link)
             link.click()
-            WebDriverWait(self.driver, 20).until(lambda driver, to=after: self.place(driver.current_url) == to)
-            if not WebDriverWait(self.driver, 10).until(lambda driver, to=after: driver.execute_script(IN_SIGHT, to[1])):
-                faults.append(f"{after[1]} is not in sight")
+            try:
+                WebDriverWait(self.driver, 20).until(lambda driver, to=after: self.is_at(*to))
+            except TimeoutException:
+                faults.append(f"a click leads to {self.driver.current_url} and not to {after[1]}")
+                break
         faults += [] if way else ["there is no way"]
         names = " > ".join(name for _, name in way)
         self.report(f"clicks lead from {FROM[1].rstrip('.')} to {TO[1]}", faults, f"{len(way) - 1} clicks, {names}")
