@@ -93,8 +93,8 @@ def body_of_folder(path, page, pages):
 def body_of_file(top, path):
     with open(f"{top}/{path}", encoding="utf-8", errors="replace") as file:
         lines = lines_of(path, file.read())
-    rows = "\n".join(f'<span class="line" id="L{at}"><a class="number" href="#L{at}">{at}</a>{line}</span>'
-                     for at, line in enumerate(lines, 1))
+    rows = "".join(f'<span class="line" id="L{at}"><a class="number" href="#L{at}">{at}</a>{line}</span>'
+                   for at, line in enumerate(lines, 1))
     return f'<div class="highlight lines"><pre>{rows}</pre></div>'
 
 

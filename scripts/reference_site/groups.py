@@ -42,4 +42,9 @@ def grouped(items):
     found = {}
     for it in items:
         found.setdefault(group_of(it), []).append(it)
-    return sorted(found.items(), key=lambda it: ORDER.index(it[0]))
+    return [(title, sorted(found[title], key=is_late)) for title in ORDER if title in found]
+
+
+def is_late(item):
+    """Where in its group a function is shown: what makes a value comes first, and calls that lend come last."""
+    return not item.name.startswith("new"), "lending" in item.path

@@ -4,6 +4,7 @@ import html
 import os
 import re
 
+from claims import CLAIMS
 from common import read
 from definitions import definitions_of, head_of, spec_files
 from groups import grouped
@@ -50,6 +51,8 @@ class Pages:
     def __init__(self, homes, marker, standard, claims, sources):
         self.homes, self.marker, self.standard, self.claims, self.sources = homes, marker, standard, claims, sources
         self.room, self.clauses, self.shown = {}, {}, {}
+        # what links names in documents, once the places of all items are known
+        self.prose = None
 
     def items(self):
         """The items that have a place."""
@@ -64,7 +67,12 @@ class Pages:
         text = re.sub(r"\[`([^`]+)`\]", lambda it: self.doc_link(it[1], path, page), text)
         text = re.sub(r"\*\*(.+?)\*\*", r"<strong>\1</strong>", text)
         text = re.sub(r"(?<![\w*])\*([^*\s][^*]*)\*(?!\w)", r"<em>\1</em>", text)
-        return self.standard.linked(CODE.sub(r"<code>\1</code>", text))
+        return self.standard.linked(CODE.sub(lambda it: self.code(it, path, page), text))
+
+    def code(self, match, path, page):
+        """Words in backticks, which in a document may be a link."""
+        code = f"<code>{match[1]}</code>"
+        return self.prose.code(html.unescape(match[1]), code, page) if self.prose and path == CLAIMS else code
 
     def doc_link(self, name, path, page):
         """What a name in brackets of documentation leads to."""
@@ -123,7 +131,8 @@ class Pages:
             page_of, anchor = self.homes.home(Target(it))
             name = self.homes.short(it) if isinstance(it, Item) else it.name
             links.append(f'<a href="{href(page, page_of, anchor)}">{html.escape(name)}</a>')
-        return folded("Cited by", f'<p class="names">{" ".join(links)}</p>', len(links), len(links) <= MOST_SHOWN)
+        names = f'<p class="names spaced">{" ".join(links)}</p>'
+        return folded("Cited by", names, len(links), len(links) <= MOST_SHOWN)
 
     def clause(self, item, clause, scope, page):
         """A condition or a clause, as a block."""

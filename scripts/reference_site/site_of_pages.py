@@ -82,7 +82,7 @@ class Site:
         self.pages = Pages(self.homes, self.marker, self.standard, self.claims, self.sources)
         self.trees = {}
         self.write_items()
-        self.prose = Prose(self.pages, self.claims)
+        self.prose = self.pages.prose = Prose(self.pages, self.claims)
         self.write_documents()
         self.write_start()
 

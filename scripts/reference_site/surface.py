@@ -26,7 +26,7 @@ IMPL = re.compile(r"^(?:unsafe )?impl\b[^{\n]*\{\n", re.M)
 USE = re.compile(r"^(?P<pub>pub )?(?:pub\([a-z]+\) )?use (?P<tree>[^;]*);", re.M)
 MODULE = re.compile(r"^(pub )?mod (\w+);", re.M)
 MEMBER = re.compile(r"^    ghost (\w+): (\{.*?\});\n", re.M | re.S)
-VARIANT = re.compile(r"^    (?P<name>[A-Z]\w*)(?P<rest>[^,\n]*(?:\{[^}]*\})?),?\n", re.M)
+VARIANT = re.compile(r"^    (?P<name>[A-Z]\w*)(?P<rest>(?:\([^)]*\)|\s*\{[^}]*\})?[^,\n]*),?\n", re.M)
 FIELD = re.compile(r"^    (?P<vis>pub )?(?P<name>[a-z]\w*): (?P<rest>[^\n]*?),?\n", re.M)
 
 
@@ -136,7 +136,7 @@ def signature(text):
 
 
 def type_text(text, match):
-    """The text of a type: of a struct without private fields, of a long constant without its value, of a trait its head."""
+    """The text of a type: without private fields and long values; of a trait, its head."""
     head = text[match.start():]
     kind = match["kind"]
     if kind in ("type", "const", "static"):

@@ -19,7 +19,11 @@ from selenium.webdriver.common.keys import Keys
 from selenium.webdriver.support.ui import WebDriverWait
 
 PHONE, DESK = (390, 844), (1280, 900)
-SOUGHT, FOUND = "decode_to_utf8", "crates/encoding_rs/Decoder.html"
+# What is searched, and the page that is found first.
+SOUGHT = {
+    "decode_to_utf8": "crates/encoding_rs/Decoder.html", "whole_utf_8": "definitions/enc_stream/Decoding.html",
+    "decode_run": "crates/encoding_rs/run.html",
+}
 # The walk by clicks: from the clauses of a function to a definition.
 FROM, TO = ("crates/encoding_rs/run.html", "decode_run."), ("definitions/enc_decoder_utf/Utf8.html", "utf_8_rule")
 # The most faults of a kind that are listed.
@@ -152,11 +156,15 @@ class Walk:
         out = ", ".join(f"{number} to {host}" for host, number in hosts.most_common())
         self.report("no link is dead", faults, f"{within} links within the site; not followed: {out}")
 
-    def search(self):
-        """Searches, and follows what was found first."""
+    def search_all(self):
         set_width(self.driver, DESK)
+        for it in SOUGHT.items():
+            self.search(*it)
+
+    def search(self, sought, found):
+        """Searches, and follows what is found first."""
         self.driver.get(self.address("index.html"))
-        self.driver.find_element(By.CSS_SELECTOR, "input[name=q]").send_keys(SOUGHT, Keys.ENTER)
+        self.driver.find_element(By.CSS_SELECTOR, "input[name=q]").send_keys(sought, Keys.ENTER)
         links = WebDriverWait(self.driver, 60).until(
             lambda driver: driver.find_elements(By.CSS_SELECTOR, "#search-results li a"))
         time.sleep(1)
@@ -164,9 +172,9 @@ class Walk:
         texts = [it.text for it in links]
         links[0].click()
         page, anchor = self.place(self.driver.current_url)
-        is_right = page == FOUND and anchor.replace("-", "_").endswith(SOUGHT)
+        is_right = page == found and anchor.replace("-", "_") == sought
         faults = [] if is_right else [f"it leads to {page}#{anchor}"]
-        self.report(f"a search finds {SOUGHT}", faults, f"{len(texts)} results, first {'; '.join(texts[:3])}")
+        self.report(f"a search finds {sought}", faults, f"{len(texts)} results, first {'; '.join(texts[:3])}")
 
     def way(self):
         """The shortest way of links in blocks from a clause of the function to the definition."""
@@ -215,7 +223,7 @@ def main(folder):
     driver = browser()
     try:
         walk = Walk(driver, os.path.realpath(folder))
-        for look in (walk.open_all, walk.look_at_widths, walk.look_at_links, walk.search, walk.click_through):
+        for look in (walk.open_all, walk.look_at_widths, walk.look_at_links, walk.search_all, walk.click_through):
             look()
     finally:
         driver.quit()
