@@ -324,7 +324,7 @@ class Marker:
             return f'<span class="nf">{word}</span>'
         target = resolved(word, item.path) if word[0].isupper() else None
         if target:
-            return self.link(Target(target), page, f'<span class="nc">{word}</span>')
+            return self.link(Target(target), page, f'<span class="nc">{word}</span>', item)
         of_std = word[0].isupper() or word in OF_CONTRACTS
         return f'<span class="kt">{word}</span>' if of_std else word
 

@@ -240,7 +240,7 @@ class Pages:
         own, of_traits = self.methods(item)
         parts = [f'<div class="anchor" id="{item.name}"></div>', f"# `{item.name}`", self.head(item, page),
                  self.markdown(item.doc, item.path, page), self.parts(item, page), self.model(item, page),
-                 self.traits(item, page)]
+                 self.traits(item, page), lambda: self.cited_by(item, page)]
         if len(own) > 12:
             parts.append(self.summaries(own, page))
             for title, those in grouped(own):
@@ -250,7 +250,7 @@ class Pages:
         inherited = self.inherited(item, page)
         if of_traits or inherited:
             parts += ["## Functions of traits", inherited, *(self.item(it, page, 3) for it in of_traits)]
-        self.room[page] = "\n\n".join(it for it in parts if it)
+        self.room[page] = parts
 
     def summary_rows(self, items, page, with_owner):
         rows = []
@@ -388,4 +388,11 @@ class Pages:
     def texts(self):
         """The text of each page. (What waits for all links to be known is written now.)"""
         for page, text in self.room.items():
-            yield page, text if isinstance(text, str) else "\n\n".join(it() if callable(it) else it for it in text)
+            parts = [text] if isinstance(text, str) else [it() if callable(it) else it for it in text]
+            yield page, "\n\n".join(it for it in parts if it)
+
+    def title(self, page):
+        """The heading of a page."""
+        text = self.room[page]
+        parts = [text] if isinstance(text, str) else [it for it in text if isinstance(it, str)]
+        return re.search(r"^# (.*)", "\n\n".join(parts), re.M)[1]

@@ -134,9 +134,8 @@ class Site:
     def tree(self):
         """The list of pages: captions, and below each pages with those under them, each with its title."""
         def title(page):
-            head = re.search(r"^# (.*)", self.pages.room[page] if isinstance(self.pages.room[page], str) else
-                             self.pages.room[page][0], re.M)[1]
-            return html.escape(re.sub("^Definitions of |: definitions$|`", "", head).split("::")[-1])
+            name = re.sub("^Definitions of |: definitions$|`", "", self.pages.title(page))
+            return html.escape(name.split("::")[-1])
 
         def branch(page):
             return title(page), page, [(title(it), it) for it in self.trees.get(page, [])]
