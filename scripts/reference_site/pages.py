@@ -130,7 +130,7 @@ class Pages:
         for it in order:
             page_of, anchor = self.homes.home(Target(it))
             name = self.homes.short(it) if isinstance(it, Item) else it.name
-            links.append(f'<a href="{href(page, page_of, anchor)}">{html.escape(name)}</a>')
+            links.append(f'<a href="{href(page, page_of, anchor)}">{breakable(name)}</a>')
         names = f'<p class="names spaced">{" ".join(links)}</p>'
         return folded("Cited by", names, len(links), len(links) <= MOST_SHOWN)
 

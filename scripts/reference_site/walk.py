@@ -28,7 +28,8 @@ SOUGHT = {
 FROM, TO = ("crates/encoding_rs/run.html", "decode_run."), ("definitions/enc_decoder_utf/Utf8.html", "utf_8_rule")
 # The most faults of a kind that are listed.
 MOST_LISTED = 20
-# What a page has: links, anchors, blocks with their links, its width, and pictures that are missing.
+# What a page has: links, anchors, blocks with their links, what is wider than its room or the screen (but code and tables,
+# which scroll within themselves), the tables that do, and pictures that are missing.
 LOOK = """
 const all = (query, of = document) => [...of.querySelectorAll(query)];
 const links = (of) => all('a[href]', of).map((it) => it.href);
@@ -37,7 +38,11 @@ return {
   anchors: all('[id]').map((it) => it.id),
   blocks: all('.definition[data-name], .clause[id]').map(
     (it) => [it.dataset.name || it.id, all('pre a.ref', it).map((link) => link.href)]),
-  width: document.documentElement.scrollWidth,
+  wide: all('html, body, body *').filter(
+    (it) => it.scrollWidth > Math.max(it.clientWidth, window.innerWidth - 40) + 1 && it.clientWidth &&
+      !it.closest('pre, .table-wrapper') && (it.scrollWidth > window.innerWidth || getComputedStyle(it).overflowX !== 'visible')).map(
+    (it) => `${it.tagName.toLowerCase()}.${it.className} ${it.scrollWidth}`),
+  tables: all('.table-wrapper').filter((it) => it.scrollWidth > it.clientWidth).length,
   missing: all('img').filter((it) => !it.naturalWidth).map((it) => it.src),
 };
 """
@@ -134,8 +139,10 @@ class Walk:
                     f"{len(self.saw)} pages, by {number} requests, {number - away} of them for files")
 
     def look_at_widths(self):
-        wide = [f"{page} is {saw['width']} pixels wide" for page, saw in self.saw.items() if saw["width"] > PHONE[0]]
-        self.report(f"no page scrolls sideways at {PHONE[0]} pixels", wide, f"{len(self.saw)} pages")
+        wide = [f"{page}: {it} pixels wide" for page, saw in self.saw.items() for it in saw["wide"][:2]]
+        tables = sum(saw["tables"] for saw in self.saw.values())
+        self.report(f"no page scrolls sideways at {PHONE[0]} pixels", wide,
+                    f"{len(self.saw)} pages, in which code and {tables} tables may scroll within themselves")
 
     def look_at_links(self):
         """Looks whether each link leads to a page and an anchor that are there."""
