@@ -28,7 +28,7 @@ SELENIUM = {"selenium": "python3-selenium"}
 CHROMIUM = {"/usr/bin/chromium": "chromium", "/usr/bin/chromedriver": "chromium-driver"}
 CONFIGURATION = """
 import sys
-sys.path.insert(0, {here!r})
+sys.path.append({here!r})
 project = "encoding_rs in Rattle"
 html_title = "encoding_rs in Rattle"
 extensions = ["myst_parser", "extension"]

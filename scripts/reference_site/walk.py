@@ -28,8 +28,8 @@ SOUGHT = {
 FROM, TO = ("crates/encoding_rs/run.html", "decode_run."), ("definitions/enc_decoder_utf/Utf8.html", "utf_8_rule")
 # The most faults of a kind that are listed.
 MOST_LISTED = 20
-# What a page has: links, anchors, blocks with their links, what is wider than its room or the screen (but code and tables,
-# which scroll within themselves), the tables that do, and pictures that are missing.
+# What a page has: links, anchors, blocks with their links, what is wider than its room or the screen (except code and
+# tables, which scroll within themselves), the number of tables that do, and pictures that are missing.
 LOOK = """
 const all = (query, of = document) => [...of.querySelectorAll(query)];
 const links = (of) => all('a[href]', of).map((it) => it.href);
@@ -39,8 +39,9 @@ return {
   blocks: all('.definition[data-name], .clause[id]').map(
     (it) => [it.dataset.name || it.id, all('pre a.ref', it).map((link) => link.href)]),
   wide: all('html, body, body *').filter(
-    (it) => it.scrollWidth > Math.max(it.clientWidth, window.innerWidth - 40) + 1 && it.clientWidth &&
-      !it.closest('pre, .table-wrapper') && (it.scrollWidth > window.innerWidth || getComputedStyle(it).overflowX !== 'visible')).map(
+    (it) => it.clientWidth && it.scrollWidth > it.clientWidth + 1 && !it.closest('pre, .table-wrapper') &&
+      (it.scrollWidth > window.innerWidth ||
+        it.scrollWidth > window.innerWidth - 40 && getComputedStyle(it).overflowX !== 'visible')).map(
     (it) => `${it.tagName.toLowerCase()}.${it.className} ${it.scrollWidth}`),
   tables: all('.table-wrapper').filter((it) => it.scrollWidth > it.clientWidth).length,
   missing: all('img').filter((it) => !it.naturalWidth).map((it) => it.src),
