@@ -154,8 +154,13 @@ def bound_by_equations(definition):
     for it in re.finditer(rf"^{re.escape(definition.name)}(?= )(.*?)=(?=\s)", definition.text, re.M | re.S):
         if " : " not in it[1].split("\n")[0]:
             words = re.sub(r"\w+\.\w+", " ", it[1])
-            found |= {word for word in WORD.findall(words) if not meaning(word, definition.path)}
+            found |= {word for word in WORD.findall(words) if not is_pattern(meaning(word, definition.path))}
     return found
+
+
+def is_pattern(target):
+    """Whether a name may be a constructor. (A variable may have the name of a function.)"""
+    return target.part if isinstance(target, Target) else bool(target)
 
 
 def split_by(text, sign):
