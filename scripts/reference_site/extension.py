@@ -85,8 +85,8 @@ def body_of_folder(path, page, pages):
     """The list of the files of a folder."""
     rows = []
     for file in sorted(it for it in pages if it.startswith(f"{path}/")):
-        address = os.path.relpath(pages[file], os.path.dirname(page))
-        rows.append(f'<li><a href="{address}.html">{html.escape(os.path.relpath(file, path))}</a></li>')
+        address = os.path.relpath(f"{pages[file]}.html", os.path.dirname(page))
+        rows.append(f'<li><a href="{address}">{html.escape(os.path.relpath(file, path))}</a></li>')
     return f"<ul>{''.join(rows)}</ul>"
 
 

@@ -345,5 +345,5 @@ def std(word, module):
 
 def href(page, to, anchor=""):
     """The address of a page and an anchor, from another page."""
-    path = "" if page == to else posixpath.relpath(to, posixpath.dirname(page)) + ".html"
+    path = "" if page == to else posixpath.relpath(f"{to}.html", posixpath.dirname(page))
     return path + (f"#{quote(anchor)}" if anchor else "")
