@@ -8,7 +8,9 @@ from claims import CLAIMS, LABEL, Claims, named
 from closure import WORD
 from common import read
 from definitions import Definition
-from names import Target, href, meaning
+from homes import Target
+from meanings import meaning
+from names import href
 from surface import items_of
 
 PAGE = "documents/PROVED"

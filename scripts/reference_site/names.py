@@ -1,20 +1,20 @@
-"""What the names in contracts and definitions mean, and their texts with links."""
+"""Texts of contracts, definitions and code with links."""
 
-import functools
 import html
 import posixpath
 import re
-from typing import NamedTuple
 from urllib.parse import quote
 
-from closure import WORD, spec_file
-from common import crates, is_there, read
-from definitions import Definition, definitions_of
+from closure import WORD
+from common import read
 from homes import Target
-from surface import functions_by_owner, items_of, resolved
+from kinds import (
+    OF_BORROWS, fields_of, kind_before, kind_of_field, kinds_by_place, kinds_in, kinds_of_lambdas, kinds_of_signature,
+    record_of, result_of, results_by_place, split_by,
+)
+from meanings import Std, imports, meaning, meaning_of_path
+from surface import resolved
 
-IMPORTS = re.compile(r"^ *(?:ghost |unfoldable |pub )*use Rattle\.([\w.]+?)\.\{(.*?)\}", re.M | re.S)
-ALIASES = re.compile(r"^ *(?:ghost |unfoldable |pub )*use Rattle\.([\w.]+) as (\w+);?$", re.M)
 TOKEN = re.compile(
     r"(?P<comment>(?:--|//)[^\n]*)|(?P<string>\"(?:[^\"\\\n]|\\.)*\")|(?P<number>\b(?:0x[0-9A-Fa-f_]+|\d+)\b)"
     rf"|(?P<word>{WORD.pattern})|(?P<sign>[≡≢×→↔λ≤<∷⊎⊥=+*&|%^◌/-]+)|(?P<other>.|\n)", re.S)
@@ -29,93 +29,6 @@ RUST = (
 ).split()
 
 
-class Std(NamedTuple):
-    """A name of the standard library, by its module."""
-    module: str
-
-
-@functools.cache
-def imports(path):
-    """The names that a file brings in, each with its module and its name there, and the names of modules."""
-    text, found, modules = read(path), {}, {}
-    for module, names in IMPORTS.findall(text):
-        for it in names.split(","):
-            name, _, local = it.strip().partition(" as ")
-            found[local.strip() or name] = (module, name)
-    for module, local in ALIASES.findall(text):
-        if module.split(".")[-1] == local:
-            found[local] = tuple(module.rsplit(".", 1))
-        else:
-            modules[local] = module
-    return found, modules
-
-
-def declared(module, name):
-    """The type, variant or constant of the code that a module of declarations has by a name."""
-    crate, _, inner = module.partition(".specs.declared.")
-    words = inner.split(".")
-    if crate not in crates():
-        return Std(module)
-    at = next((n for n in range(len(words), 0, -1) if is_there(f"crates/{crate}/src/{'/'.join(words[:n])}.rt")), 0)
-    file = f"crates/{crate}/src/{'/'.join(words[:at]) or 'lib'}.rt"
-    of_file = {it.name: it for it in items_of(file) if not it.owner}
-    rest = [it for it in words[at:] if it not in ("TheVariants", "TheConstants")]
-    if not rest:
-        return Target(of_file[name]) if name in of_file else None
-    item = of_file.get(rest[0])
-    if not item:
-        return None
-    return Target(item, name) if any(it.name == name for it in item.parts) else Target(item)
-
-
-def member(module, name):
-    """What a module has by a name."""
-    if ".declared." in module:
-        return declared(module, name)
-    file = spec_file(module)
-    return in_spec(name, file) if file else None if module.split(".")[0] in crates() else Std(module)
-
-
-def in_spec(name, file):
-    """The definition of a spec file, or the field or constructor, by its name."""
-    those = definitions_of(file)
-    if name in those:
-        return Target(those[name])
-    return next((Target(it, name) for it in those.values() if name in it.fields), None)
-
-
-@functools.cache
-def meaning(word, path):
-    """What a word in a file means: a target, a name of the standard library, or None."""
-    if path.endswith(".antt") and word in definitions_of(path):
-        return Target(definitions_of(path)[word])
-    found, modules = imports(path)
-    if word in found:
-        return member(*found[word])
-    if path.endswith(".antt"):
-        those = (it for it in definitions_of(path).values() if it.kind == "data" and word in it.fields)
-        return next((Target(it, word) for it in those), None)
-    item = resolved(word, path)
-    return Target(item) if item else None
-
-
-@functools.cache
-def meaning_of_path(base, word, path):
-    """What a word after another and a dot means, if the other is a module, a type or a trait."""
-    _, modules = imports(path)
-    if base in modules:
-        return member(modules[base], word)
-    found = meaning(base, path)
-    if isinstance(found, Target) and not found.part:
-        parts = getattr(found.thing, "fields", None) or [it.name for it in getattr(found.thing, "parts", [])]
-        if word in parts:
-            return Target(found.thing, word)
-        if getattr(found.thing, "kind", "") in ("struct", "trait", "enum"):
-            those = functions_by_owner(found.thing.crate).get(found.thing.name, [])
-            return next((Target(it) for it in those if it.name == word), None)
-    return None
-
-
 def with_those_above(trait):
     """A trait, and those that it names after its own name, and so on."""
     found = [trait]
@@ -127,17 +40,32 @@ def with_those_above(trait):
 
 class Scope:
     """Where a text stands: its file, what is bound in it, the trait of each type parameter, the record whose fields are
-    bare names in it, and the types of what is bound."""
+    bare names in it, and the records of what is bound."""
 
-    def __init__(self, path, bound=(), traits=None, trait=None, record=None, types=None):
+    def __init__(self, path, bound=(), traits=None, trait=None, record=None, kinds=None):
         self.path, self.bound, self.traits, self.trait, self.record = path, {*bound}, traits or {}, trait, record
-        self.types = types or {}
+        self.kinds, self.results = kinds or {}, {}
 
     def of(self, word):
         if self.record and word in self.record.fields:
             return Target(self.record, word)
         traits = with_those_above(self.trait) if self.trait else []
         return next((Target(trait, word) for trait in traits for it in trait.parts if it.name == word), None)
+
+    def result_of_call(self, head):
+        """The record that a function returns, or a member of a trait."""
+        if head in self.results:
+            return self.results[head]
+        first, _, rest = head.partition(".")
+        target = self.of(first) if not rest else None
+        if rest and (trait := self.traits.get(first)):
+            target = Target(trait, rest)
+        parts = getattr(target.thing, "parts", ()) if target else ()
+        if member := next((it for it in parts if it.name == target.part), None):
+            return record_of(split_by(member.text, "→")[-1], target.thing.path)
+        found = meaning(head, self.path)
+        is_definition = isinstance(found, Target) and not found.part and hasattr(found.thing, "fields")
+        return result_of(found.thing) if is_definition else None
 
 
 def bound_in(text):
@@ -163,57 +91,15 @@ def is_pattern(target):
     return target.part if isinstance(target, Target) else bool(target)
 
 
-def split_by(text, sign):
-    """The parts of a text between signs that stand in no brackets."""
-    parts, depth = [""], 0
-    for it in re.split(rf"([(){{}}]|{sign})", text):
-        depth += (it in "({") - (it in ")}") if it and it in "(){}" else 0
-        if not depth and re.fullmatch(sign, it):
-            parts.append("")
-        else:
-            parts[-1] += it
-    return parts
-
-
-def has_fields(word, path):
-    """The record or the struct that a word in a file means, or None."""
-    found = meaning(word, path) if word else None
-    return found.thing if isinstance(found, Target) and not found.part and fields_of(found.thing) else None
-
-
-def fields_of(thing):
-    """The names of the fields of a record or a struct."""
-    if isinstance(thing, Definition):
-        return thing.fields if thing.kind == "record" else []
-    return [it.name for it in thing.parts if it.kind == "field"]
-
-
-def types_in(text, path):
-    """The records of what groups of a text bind, by name."""
-    found = {}
-    for it in re.finditer(r"[({]([^(){}:=;.]+) : (\w+)", text):
-        if record := has_fields(it[2], path):
-            found |= dict.fromkeys(it[1].split(), record)
-    return found
-
-
-def types_by_place(definition):
-    """The records of what the equations of a definition bind, by the type of the definition."""
-    head, name = re.match(r"[^:]* : (.*?)(?=^\S)", definition.text, re.M | re.S), re.escape(definition.name)
-    found = {}
-    for it in re.finditer(rf"^{name} (.*?) =(?=\s)", definition.text, re.M | re.S) if head else ():
-        for word, of_place in zip(split_by(it[1], r"\s+"), split_by(head[1], "→")):
-            record = has_fields(of_place.strip(), definition.path)
-            if record and re.fullmatch(r"\w+", word):
-                found[word] = record
-    return found
-
-
 def scope_of_definition(definition):
     bound = bound_in(definition.text) | bound_by_equations(definition)
     record = definition if definition.kind in ("record", "data") else None
-    types = types_by_place(definition) | types_in(definition.text, definition.path)
-    return Scope(definition.path, bound - ({*record.fields} if record else set()), record=record, types=types)
+    kinds = kinds_by_place(definition) | kinds_in(definition.text, definition.path)
+    if record:
+        kinds = {name: it for name in record.fields if (it := kind_of_field(record, name))} | kinds
+    scope = Scope(definition.path, bound - ({*record.fields} if record else set()), record=record, kinds=kinds)
+    scope.results = results_by_place(definition)
+    return scope
 
 
 def parameters(text):
@@ -240,14 +126,18 @@ def scope_of_item(item):
         own = trait_named(item.owner, item.path)
     generics = re.search(r"fn \w+<(.*?)>\(", head, re.S)
     bound |= {*traits, *re.findall(r"\b[A-Z]\w*\b", generics[1] if generics else "")}
-    return Scope(item.path, bound, {name: trait_named(it, item.path) for name, it in traits.items()}, own)
+    traits = {name: trait_named(it, item.path) for name, it in traits.items()}
+    owner = resolved(item.owner, item.path) if item.owner and not own else None
+    return Scope(item.path, bound, traits, own, kinds=kinds_of_signature(item, owner) if item.kind == "fn" else None)
 
 
 class Marker:
     """Writes texts with links. It notes what each text leads to, and the names that have no meaning."""
 
     def __init__(self, homes):
-        self.homes, self.edges, self.unknown, self.standard, self.links = homes, {}, {}, {}, 0
+        self.homes, self.edges, self.unknown, self.standard = homes, {}, {}, {}
+        # the numbers of links, and of fields whose record is not known
+        self.links, self.fields = 0, 0
 
     def link(self, target, page, text, source=None, title=""):
         """A link to a target from a page."""
@@ -274,9 +164,10 @@ class Marker:
     def word(self, it, text, scope, bound, page, source, before):
         word, at = it[0], it.start()
         if at > 1 and text[at - 1] == "." and not text[at - 2].isspace():
-            target = self.after_dot(word, before if text[: at - 1].endswith(before) else "", scope)
+            target = self.after_dot(word, text, at, before if text[: at - 1].endswith(before) else "", scope)
             if isinstance(target, Target):
                 return self.link(target, page, word, source)
+            self.fields += not target and word not in OF_BORROWS
             return std(word, target.module) if target else f'<span class="na">{word}</span>'
         if word in WORDS_OF_LANGUAGE:
             return f'<span class="k">{word}</span>'
@@ -301,12 +192,17 @@ class Marker:
             self.unknown.setdefault(word, set()).add(scope.path)
         return word
 
-    def after_dot(self, word, before, scope):
+    @staticmethod
+    def after_dot(word, text, at, before, scope):
         """What a word after a dot means: a member of a trait or a type, or a field of a record."""
         if (trait := scope.traits.get(before)) and any(it.name == word for it in trait.parts):
             return Target(trait, word)
-        if word in fields_of(scope.types[before]) if before in scope.types else False:
-            return Target(scope.types[before], word)
+        if word in OF_BORROWS:
+            return None
+        kinds = scope.kinds | kinds_in(text, scope.path) | kinds_of_lambdas(text, scope.kinds)
+        record = kind_before(text, at, kinds, scope.result_of_call)
+        if record and word in fields_of(record):
+            return Target(record, word)
         return scope.of(word) if before == "Self" else meaning_of_path(before, word, scope.path) if before else None
 
     def rust(self, text, item, page):

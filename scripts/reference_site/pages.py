@@ -8,8 +8,9 @@ from claims import CLAIMS
 from common import read
 from definitions import definitions_of, head_of, spec_files
 from groups import grouped
-from homes import anchor_of, page_of_spec
-from names import Std, Target, breakable, href, meaning, scope_of_definition, scope_of_item
+from homes import Target, anchor_of, page_of_spec
+from meanings import Std, meaning
+from names import breakable, href, scope_of_definition, scope_of_item
 from sources import headline
 from surface import Item, exported, files_of, functions_by_owner, head_comment, items_of, libraries, models_of, resolved
 

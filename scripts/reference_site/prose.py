@@ -7,8 +7,8 @@ import re
 
 from common import TOP, is_there, paths, read
 from definitions import spec_files
-from homes import page_of_spec
-from names import Target, breakable, href
+from homes import Target, page_of_spec
+from names import breakable, href
 from surface import libraries
 
 DOCUMENTS = ("README.md", "ARCHITECTURE.md", "CONTRIBUTING.md", "CHANGELOG.md", "docs/*.md", "data/README.md")
