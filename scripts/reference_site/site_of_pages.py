@@ -179,7 +179,8 @@ class Site:
         unknown += [f"section {it} of the standard" for it in sorted(self.standard.unknown)] + self.prose.dead
         yield f"{len(unknown)} names without a link, beside {len(self.marker.standard)} of the standard library"
         yield from (f"  {it}" for it in unknown)
-        yield f"{self.marker.fields} fields after a dot without a link: private ones, the library's, and where no type is written"
+        yield (f"{self.marker.fields} fields after a dot without a link: private ones, those of the standard library, and "
+               "where no type is written")
         yield from (f"  not read: {it}" for it in NOT_READ)
 
 
