@@ -114,19 +114,27 @@ class Site:
             return f"`{path}`"
         return f'<a class="ref" href="{href(page, *self.homes.home(target))}"><code>{breakable(path)}</code></a>'
 
+    def link_to_clause(self, path, clause, page):
+        """A link to a clause of a function of the start page."""
+        target = self.prose.target(path)
+        if not target or all(it.label != clause for it in target.thing.clauses):
+            self.prose.dead.append(f"start.md: clause {clause} of {path}")
+            return f"`{clause}`"
+        to, anchor = self.homes.home(target)
+        return f'<a href="{href(page, to, f"{anchor}.{clause}")}"><code>{clause}</code></a>'
+
     def write_start(self):
         """The start page, and the lists of pages on it."""
         page = "index"
         with open(f"{HERE}/start.md", encoding="utf-8") as file:
             text = file.read()
-        run_page, anchor = self.homes.home(self.prose.target("encoding_rs::run::decode_run"))
-        words = {it: f'<a href="{href(page, run_page, f"{anchor}.{it}")}"><code>{it}</code></a>'
+        words = {it: self.link_to_clause("encoding_rs::run::decode_run", it, page)
                  for it in ("beginning", "text", "faults")}
         words["constants"] = f'<a href="{href(page, "crates/encoding_rs/constants")}">constants</a>'
         words["crates"] = ", ".join(f'<a href="{href(page, f"crates/{it}")}"><code>{it}</code></a>'
                                     for it in FOR_CALLERS)
         words["documents"] = ", ".join(f'<a href="{href(page, page_of_document(it))}">{it}</a>' for it in documents())
-        text = re.sub(r"\{(\w+)\}", lambda it: words[it[1]], text)
+        text = re.sub(r"\{(\w+)\}", lambda it: words.get(it[1], it[0]), text)
         text = re.sub(r"\[`([^`]+)`\]", lambda it: self.link(it[1], page), text)
         pages = [it for _, branches in self.tree() for _, it, _ in branches]
         self.pages.room[page] = f"{text}\n\n{toctree(pages)}"

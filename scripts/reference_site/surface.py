@@ -83,8 +83,9 @@ class Item:
 def libraries():
     """The libraries: those that callers link, and then the others, highest first."""
     every = list(crates())
-    below = every[: every.index(LAST_LIBRARY) + 1]
-    return [*FOR_CALLERS, *(it for it in reversed(below) if it not in FOR_CALLERS)]
+    below = every[: every.index(LAST_LIBRARY) + 1] if LAST_LIBRARY in every else every
+    first = [it for it in FOR_CALLERS if it in every]
+    return [*first, *(it for it in reversed(below) if it not in first)]
 
 
 def line_at(text, place):
