@@ -6,6 +6,7 @@ import os
 import re
 import shutil
 
+from docutils import nodes
 from pygments import highlight
 from pygments.filter import simplefilter
 from pygments.formatters import HtmlFormatter
@@ -69,6 +70,14 @@ def put_tree(app, pagename, templatename, context, doctree):  # pylint: disable=
     context["toctree"] = lambda **_: tree(app, pagename, address)
 
 
+def tell_apart(app, doctree):  # pylint: disable=unused-argument
+    """Gives a section another name where an item on its page has that one."""
+    text = "".join(it.astext() for it in doctree.findall(nodes.raw))
+    anchors = {*re.findall(r'<div class="anchor" id="([^"]+)"', text)}
+    for section in doctree.findall(nodes.section):
+        section["ids"] = [f"{it}-section" if it in anchors else it for it in section["ids"]]
+
+
 # Sources
 
 def lines_of(path, text):
@@ -125,6 +134,7 @@ def write_sources(app, failure):
 
 
 def setup(app):
+    app.connect("doctree-read", tell_apart, priority=100)
     app.connect("html-page-context", put_tree, priority=400)
     app.connect("build-finished", take_along)
     app.connect("build-finished", write_sources)

@@ -180,15 +180,15 @@ class Site:
         yield f"{len(of_callers)} items for callers, {below} of crates below, {private} private ones that are named"
         yield (f"{len(self.pages.clauses)} conditions and clauses, {len(self.homes.definitions)} definitions in "
                f"{len(spec_files())} files")
-        yield (f"{self.marker.links} links from signatures, clauses and definitions, {self.claims.links} from claims, "
-               f"{self.prose.links} from documents, {self.standard.links} to the standard")
+        yield (f"{self.marker.links} links from signatures, clauses and definitions, {self.claims.links} from "
+               f"{len(self.claims.rows)} claims, {self.prose.links} from documents, {self.standard.links} to the standard")
         yield f"{len(self.pages.room)} pages, {len(self.sources.pages)} of sources"
         unknown = [f"{name} ({', '.join(sorted(those))})" for name, those in sorted(self.marker.unknown.items())]
         unknown += [f"section {it} of the standard" for it in sorted(self.standard.unknown)] + self.prose.dead
         yield f"{len(unknown)} names without a link, beside {len(self.marker.standard)} of the standard library"
         yield from (f"  {it}" for it in unknown)
-        yield (f"{self.marker.fields} fields after a dot without a link: private ones, those of the standard library, and "
-               "where no type is written")
+        yield (f"{self.marker.fields} fields after a dot without a link: private ones, those of the standard library, "
+               "and where no type is written")
         yield from (f"  not read: {it}" for it in NOT_READ)
 
 
