@@ -181,7 +181,8 @@ class Site:
         yield (f"{len(self.pages.clauses)} conditions and clauses, {len(self.homes.definitions)} definitions in "
                f"{len(spec_files())} files")
         yield (f"{self.marker.links} links from signatures, clauses and definitions, {self.claims.links} from "
-               f"{len(self.claims.rows)} claims, {self.prose.links} from documents, {self.standard.links} to the standard")
+               f"{len(self.claims.rows)} claims, {self.prose.links} from documents, "
+               f"{self.standard.links} to the standard")
         yield f"{len(self.pages.room)} pages, {len(self.sources.pages)} of sources"
         unknown = [f"{name} ({', '.join(sorted(those))})" for name, those in sorted(self.marker.unknown.items())]
         unknown += [f"section {it} of the standard" for it in sorted(self.standard.unknown)] + self.prose.dead
