@@ -217,4 +217,8 @@ def build(folder):
 def walk(folder):
     """Walks through the site of a folder. The status."""
     install(SELENIUM, {PYTHON: "python3"} | CHROMIUM)
-    return subprocess.run([PYTHON, "-B", f"{HERE}/walk.py", folder], stdin=subprocess.DEVNULL, check=False).returncode
+    # (the browser leaves files where temporary ones are)
+    with tempfile.TemporaryDirectory(prefix="reference-", ignore_cleanup_errors=True) as room:
+        words = [PYTHON, "-B", f"{HERE}/walk.py", folder]
+        ran = subprocess.run(words, stdin=subprocess.DEVNULL, env=os.environ | {"TMPDIR": room}, check=False)
+    return ran.returncode
