@@ -13,8 +13,8 @@ import tempfile
 TOP = os.path.dirname(os.path.dirname(os.path.abspath(__file__)))
 NAME = os.path.basename(sys.argv[0])
 os.environ["PATH"] += ":/usr/local/bin"
-# (scripts take modules of bench/ too)
-sys.path.append(f"{TOP}/bench")
+# (scripts take modules of bench/ and reference_site/ too)
+sys.path += [f"{TOP}/bench", f"{TOP}/scripts/reference_site"]
 sys.stdout.reconfigure(line_buffering=True)
 
 

@@ -1,5 +1,18 @@
-"""Writes the reference: pages in Markdown, and by Sphinx a site of them."""
+"""Writes a reference to browse, from sources, definitions and documents: scripts/reference [--walk] [FOLDER]
 
+Each public item of the libraries has its signature, its documentation and its contract. Each name in a clause leads to
+its definition, each definition to those under it and to its section of the standard, and each claim of docs/PROVED.md
+to its clauses. The site is written to FOLDER, or to out/reference. It needs no server and no network: open index.html.
+
+--walk then walks through it in headless Chromium, and says what it saw: every link leads somewhere, a search finds
+what it should, clicks lead from a call to the rule of UTF-8, nothing is wider than a phone, and nothing is fetched. The
+status is 0 only if all of that held.
+
+Sphinx, MyST and furo, and for the walk Chromium and Selenium, are Debian's packages, and are installed where they are
+missing. Where one cannot be had, a line says which, and the status is 2.
+"""
+
+import argparse
 import html
 import json
 import os
@@ -193,8 +206,15 @@ class Site:
         yield from (f"  not read: {it}" for it in NOT_READ)
 
 
+def is_site(folder):
+    """Whether Sphinx has made a folder."""
+    return os.path.exists(f"{folder}/.buildinfo")
+
+
 def build(folder):
-    """Builds the site into a folder, and prints what it has."""
+    """Builds the site into a folder, and prints what it has. A folder of anything else is left as it is."""
+    if os.path.exists(folder) and not (os.path.isdir(folder) and (is_site(folder) or not os.listdir(folder))):
+        give_up(f"{folder} is there, and is no reference")
     install(SPHINX, {PYTHON: "python3"})
     site = Site()
     with tempfile.TemporaryDirectory(prefix="reference-") as room:
@@ -222,3 +242,13 @@ def walk(folder):
         words = [PYTHON, "-B", f"{HERE}/walk.py", folder]
         ran = subprocess.run(words, stdin=subprocess.DEVNULL, env=os.environ | {"TMPDIR": room}, check=False)
     return ran.returncode
+
+
+def main():
+    parser = argparse.ArgumentParser(description=__doc__, formatter_class=argparse.RawDescriptionHelpFormatter)
+    parser.add_argument("--walk", action="store_true", help="walk through it in Chromium")
+    parser.add_argument("folder", nargs="?", default=FOLDER, metavar="FOLDER")
+    options = parser.parse_args()
+    folder = os.path.abspath(options.folder)
+    build(folder)
+    return walk(folder) if options.walk else 0
