@@ -1,6 +1,7 @@
 //! Results of calls without replacement.
 
 /// Why a call without replacement stopped.
+#[must_use]
 #[derive(Clone, Copy, PartialEq, Eq, Debug)]
 pub enum DecoderResult {
     /// All of the input is read, and every sequence that it determines is put out.

@@ -1,6 +1,7 @@
 //! Results of an encoder's calls without replacement.
 
 /// Why a call of an encoder without replacement stopped.
+#[must_use]
 #[derive(Clone, Copy, PartialEq, Eq, Debug)]
 pub enum EncoderResult {
     /// All of the input is read, and with `last` the text is ended.
