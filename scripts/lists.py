@@ -6,7 +6,7 @@ from typing import NamedTuple
 
 from common import give_up, is_there, read
 
-ENCODINGS, CODECS = "data/encodings.txt", "data/codecs.txt"
+ENCODINGS, CODECS, CONSTANTS = "data/encodings.txt", "data/codecs.txt", "data/constants.txt"
 PROPERTIES = ("ascii-compatible", "single-byte", "writes-utf-8")
 
 
@@ -230,6 +230,15 @@ def encodings():
         if twice := sorted({it for it in words if words.count(it) > 1}):
             refuse(ENCODINGS, f"twice: {', '.join(twice)}")
     return found
+
+
+@functools.cache
+def texts_of_encodings():
+    """What each encoding is in practice, by name."""
+    found = re.findall(r"^(\S+)\n((?: +\S.*\n)+)", read(CONSTANTS), re.M)
+    if [it[0] for it in found] != [it.name for it in encodings()]:
+        refuse(CONSTANTS, f"it has not the encodings of {ENCODINGS} in their order")
+    return dict(found)
 
 
 def labels_of(those):

@@ -6,7 +6,7 @@ A word is a text, and a list has words for each of its items. Both have the name
 import textwrap
 
 from common import paths, read
-from lists import byte_ranges, constant_of, first_of, encodings, labels_of, lists, pairs_of, snake_of
+from lists import byte_ranges, constant_of, first_of, encodings, labels_of, lists, pairs_of, snake_of, texts_of_encodings
 from tables import BY, DATA, INDEXES, NO_POINTER, PAGE, PAGES, SINGLE_BYTE, pages_of, pointers_of, sources
 
 POINTERS = "crates/enc_index_pointers/src/pointers"
@@ -24,10 +24,16 @@ def words_of_labels(labels):
     return "\n    " + "\n    ++ ".join(f'words "{line}"' for line in lines)
 
 
+def about(name):
+    """What an encoding is in practice, as lines of a doc comment."""
+    text = " ".join(texts_of_encodings()[name].split())
+    return textwrap.fill(text, 100, initial_indent="/// ", subsequent_indent="/// ", break_on_hyphens=False)
+
+
 def words_of_encoding(it):
     index_in_code = f"(SingleByteIndex::{it.index})" if it.index else ""
     return names_of(it.ident, it.constant) | {
-        "title": it.name, "section": it.section,
+        "title": it.name, "section": it.section, "about": about(it.name),
         "codec_in_code": f"Codec::{it.codec}{index_in_code}",
         "codec_in_spec": f"codec.{it.codec}" + (f" index.{it.index}" if it.index else ""),
         "Output": "Utf8" if it.writes_utf_8 else it.ident,
