@@ -23,12 +23,12 @@ pub trait NewDecoder {
     // its codec
     ghost codec: { Self → Codec };
 
-    /// Returns a decoder that has read nothing. Takes no memory.
+    /// Returns a decoder that has read nothing.
     fn new_decoder(self) -> VariantDecoder
         ensures state { variant_decoder_state result ≡ initial_state (codec_rule (codec self)) }
         ensures lengths { variant_decoder_lengths result ≡ codec_lengths (codec self) };
 
-    /// Returns the formulas for the lengths to allocate for its text. Takes no memory.
+    /// Returns the formulas for the lengths to allocate for its text.
     fn text_lengths(self) -> TextLengths
         ensures { result ≡ codec_lengths (codec self) };
 }

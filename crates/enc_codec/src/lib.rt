@@ -1,4 +1,4 @@
-//! The codec of an encoding, and a decoder that is any of them.
+//! The codec of an encoding, and a decoder that is any of them. No call takes memory.
 //!
 //! Written by scripts/make-sources from data/templates: change the text there, and not this file.
 #![tactic(auto)]

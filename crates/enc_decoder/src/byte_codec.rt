@@ -81,7 +81,7 @@ pub trait ByteCodec: Copy {
     /// Takes whole sequences from the front of `src`, none of them malformed.
     ///
     /// Puts out their text, and returns the state after them and their length in bytes. It may take
-    /// any number of them, and none. Takes no memory.
+    /// any number of them, and none.
     fn take_run<U: Units>(self, src: &[u8], out: &mut U) -> (Self, usize)
         ensures { TakesRun U.units_of state self result.0 src.now result.1 (U.output out.old)
             (U.output out.new) }
@@ -93,7 +93,7 @@ pub trait ByteCodec: Copy {
 
     /// Returns whether the next byte is malformed by itself, with this state after it.
     ///
-    /// False says nothing. Takes no memory.
+    /// False says nothing.
     ///
     /// It is called first, since such bytes are many if the input is no text of the encoding.
     #[inline(always)]
@@ -109,7 +109,7 @@ pub trait ByteCodec: Copy {
     ///
     /// The text of a malformed one is U+FFFD. `None` if it is not one character, if it designates
     /// another character set, or if more than the byte after it is needed to determine it. It may
-    /// be `None` for any other too. Takes no memory.
+    /// be `None` for any other too.
     #[inline(always)]
     fn replaced_char(self, src: &[u8], at: usize) -> Option<(char, usize)>
         requires { at < length src.now }

@@ -29,7 +29,7 @@ macro_rules! decode_in_mode {
     };
 }
 
-/// Decodes the held bytes and then those of `src`, as if they came together. Takes no memory.
+/// Decodes the held bytes and then those of `src`, as if they came together.
 pub fn convert<D: RawDecoder, U: Units>(
     codec: &mut D,
     held: &[u8],

@@ -1,5 +1,5 @@
 //! The contract of every decoder, the loop over the bytes of a call that keeps it for every codec,
-//! and calls over held bytes and the bytes that follow them.
+//! and calls over held bytes and the bytes that follow them. No call takes memory.
 #![tactic(auto)]
 
 mod byte_codec;

@@ -147,7 +147,7 @@ fn is_reported<U: Units>(out: &U, kind: Kind, mode: ErrorMode) -> bool
 ///
 /// It stops when all input is read, the next sequence does not fit, or one is malformed. In error
 /// mode "replacement" a malformed sequence is reported only if U+FFFD fits, and otherwise the
-/// output is full. Takes no memory.
+/// output is full.
 pub fn run<C: ByteCodec, U: Units>(
     codec: &mut C,
     src: &[u8],

@@ -32,7 +32,7 @@ pub trait RawDecoder: Copy {
     /// It stops when all of `src` is read, the next sequence does not fit into `out`, or one is
     /// malformed. With `last` nothing follows `src`. In error mode "replacement" the caller writes
     /// U+FFFD for a malformed sequence. So it is reported only if U+FFFD fits into `out`, and
-    /// otherwise the output is full. Takes no memory.
+    /// otherwise the output is full.
     fn decode<U: Units>(
         &mut self,
         src: &[u8],
@@ -60,8 +60,7 @@ pub trait RawDecoder: Copy {
     ///
     /// Puts out their text and returns their length in bytes. The state is the same after them. It
     /// may take any number of them, and none: all while bytes are pending. It is called after a
-    /// malformed sequence, since more of them follow if the input is no text of the encoding. Takes
-    /// no memory.
+    /// malformed sequence, since more of them follow if the input is no text of the encoding.
     #[inline(always)]
     fn replace_run<U: Units>(&self, src: &[u8], out: &mut U) -> usize
         ensures { TakesSequences U.units_of (state self.now) (state self.now) src.now result
@@ -74,8 +73,7 @@ pub trait RawDecoder: Copy {
 
     /// Decodes a chunk, with replacement (Encoding Standard 4.1, error mode "replacement").
     ///
-    /// It stops when all of `src` is read or the next sequence does not fit into `out`. Takes no
-    /// memory.
+    /// It stops when all of `src` is read or the next sequence does not fit into `out`.
     ///
     /// A decoder that is one of several leaves the whole call to that one, so that it is not chosen
     /// anew after each malformed sequence.
@@ -108,7 +106,7 @@ pub trait RawDecoder: Copy {
         }
     }
 
-    /// Returns the number of pending bytes, at most five. Takes no memory.
+    /// Returns the number of pending bytes, at most five.
     fn held(&self) -> usize
         ensures count { result ≡ length (state self.now).pending }
         ensures few { result ≤ 5 };
@@ -117,20 +115,18 @@ pub trait RawDecoder: Copy {
     ///
     /// In such a prefix each byte is a valid sequence by itself, of the character with its number.
     /// `None` if that holds of no byte: bytes are pending, another character set than that of the
-    /// start is designated, or no byte of the encoding is a character by itself. Takes no memory.
+    /// start is designated, or no byte of the encoding is a character by itself.
     fn latin1_byte_compatible_up_to(&self, bytes: &[u8]) -> Option<usize>
         ensures { AnswersCodecLatin1 (state self.now) bytes.now result };
 
     /// Returns the formulas for the lengths to allocate, which are enough for every input.
-    ///
-    /// Takes no memory.
     fn text_lengths(&self) -> TextLengths
         ensures formulas { result ≡ formulas self.now }
         ensures enough { AreEnoughForCodec (formulas self.now) (state self.now) };
 
     /// Returns the length in bytes to allocate for UTF-8 from `byte_length` more bytes.
     ///
-    /// It is enough with replacement. `None` if it overflows `usize`. Takes no memory.
+    /// It is enough with replacement. `None` if it overflows `usize`.
     fn max_utf8_buffer_length(&self, byte_length: usize) -> Option<usize>
         ensures { result ≡
             utf_8_length (formulas self.now) byte_length (length (state self.now).pending) }
@@ -138,7 +134,7 @@ pub trait RawDecoder: Copy {
         self.text_lengths().utf8(byte_length, self.held())
     }
 
-    /// Returns the same without replacement. Takes no memory.
+    /// Returns the same without replacement.
     fn max_utf8_buffer_length_without_replacement(&self, byte_length: usize) -> Option<usize>
         ensures { result ≡
             reporting_length (formulas self.now) byte_length (length (state self.now).pending) }
@@ -148,8 +144,6 @@ pub trait RawDecoder: Copy {
     }
 
     /// Returns the length in code units to allocate for UTF-16 from `byte_length` more bytes.
-    ///
-    /// Takes no memory.
     fn max_utf16_buffer_length(&self, byte_length: usize) -> Option<usize>
         ensures { result ≡
             utf_16_length (formulas self.now) byte_length (length (state self.now).pending) }

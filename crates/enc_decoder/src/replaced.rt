@@ -38,7 +38,7 @@ fn replace_some<C: ByteCodec, U: Units>(codec: C, src: &[u8], out: &mut U) -> us
 /// Puts out sequences from the front of `src` one by one, with U+FFFD for each malformed one, as
 /// `RawDecoder::replace_run` does.
 ///
-/// It takes none while bytes are pending. Takes no memory.
+/// It takes none while bytes are pending.
 #[inline(always)]
 pub fn replace_each<C: ByteCodec, U: Units>(codec: C, src: &[u8], out: &mut U) -> usize
     ensures { TakesSequences U.units_of (C.state codec) (C.state codec) src.now result

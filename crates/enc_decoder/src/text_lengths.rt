@@ -31,7 +31,7 @@ fn code_units(bytes: usize, held: usize) -> Option<usize>
 impl TextLengths {
     /// Returns the length in bytes to allocate for UTF-8 from `bytes` more bytes, with replacement.
     ///
-    /// `held` bytes are pending. Takes no memory.
+    /// `held` bytes are pending.
     pub fn utf8(self, bytes: usize, held: usize) -> Option<usize>
         ensures { result ≡ utf_8_length self bytes held }
     {
@@ -44,7 +44,7 @@ impl TextLengths {
         }
     }
 
-    /// Returns the same without replacement. Takes no memory.
+    /// Returns the same without replacement.
     pub fn utf8_without_replacement(self, bytes: usize, held: usize) -> Option<usize>
         ensures { result ≡ reporting_length self bytes held }
     {
@@ -56,7 +56,7 @@ impl TextLengths {
 
     /// Returns the length in code units to allocate for UTF-16 from `bytes` more bytes.
     ///
-    /// `held` bytes are pending. Takes no memory.
+    /// `held` bytes are pending.
     pub fn utf16(self, bytes: usize, held: usize) -> Option<usize>
         ensures { result ≡ utf_16_length self bytes held }
     {

@@ -60,7 +60,7 @@ impl Model for Iso2022JpDecoder {
 }
 
 impl Iso2022JpDecoder {
-    /// Returns a decoder that has read nothing, with ASCII designated. Takes no memory.
+    /// Returns a decoder that has read nothing, with ASCII designated.
     pub fn new() -> Iso2022JpDecoder
         ensures { result ≡ state_with_held CharacterSet.Ascii Option.None }
     {

@@ -1,4 +1,4 @@
-//! The decoder of ISO-2022-JP.
+//! The decoder of ISO-2022-JP. No call takes memory.
 #![tactic(auto)]
 
 mod character_set;

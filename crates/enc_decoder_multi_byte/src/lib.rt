@@ -1,4 +1,4 @@
-//! Decoders of the legacy multi-byte encodings without escape sequences.
+//! Decoders of the legacy multi-byte encodings without escape sequences. No call takes memory.
 //!
 //! Written by scripts/make-sources from data/templates: change the text there, and not this file.
 #![tactic(auto)]

@@ -77,7 +77,7 @@ pub struct MultiByteDecoder<E> {
 }
 
 impl<E: MultiByte> MultiByteDecoder<E> {
-    /// Returns a decoder that has read nothing. Takes no memory.
+    /// Returns a decoder that has read nothing.
     pub fn new() -> MultiByteDecoder<E>
         ensures { result.pending ≡ Pending.Nothing }
     {

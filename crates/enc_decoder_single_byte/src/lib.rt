@@ -1,5 +1,5 @@
 //! Decoders of encodings in which each byte is a sequence by itself: the legacy single-byte ones,
-//! x-user-defined, and replacement.
+//! x-user-defined, and replacement. No call takes memory.
 #![tactic(auto)]
 
 mod one_byte;

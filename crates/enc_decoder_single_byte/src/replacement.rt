@@ -28,7 +28,7 @@ impl Model for ReplacementDecoder {
 }
 
 impl ReplacementDecoder {
-    /// Returns a decoder that has read nothing. Takes no memory.
+    /// Returns a decoder that has read nothing.
     pub fn new() -> ReplacementDecoder
         ensures { result ≡ false }
     {

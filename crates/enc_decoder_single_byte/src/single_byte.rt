@@ -24,7 +24,7 @@ pub struct SingleByteDecoder {
 }
 
 impl SingleByteDecoder {
-    /// Returns a decoder for the encoding with this index. Takes no memory.
+    /// Returns a decoder for the encoding with this index.
     pub fn new(index: SingleByteIndex) -> SingleByteDecoder
         ensures { result.index ≡ index }
     {

@@ -20,7 +20,7 @@ use enc_units::{Pieces, Units, put_run};
 pub struct XUserDefinedDecoder;
 
 impl XUserDefinedDecoder {
-    /// Returns a decoder. Takes no memory.
+    /// Returns a decoder.
     pub fn new() -> XUserDefinedDecoder {
         XUserDefinedDecoder
     }

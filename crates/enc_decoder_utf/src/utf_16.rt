@@ -37,7 +37,7 @@ impl Model for Utf16Decoder {
 }
 
 impl Utf16Decoder {
-    /// Returns a decoder that has read nothing, big-endian or little-endian. Takes no memory.
+    /// Returns a decoder that has read nothing, big-endian or little-endian.
     pub fn new(big_endian: bool) -> Utf16Decoder
         ensures { result ≡ with_pending big_endian Pending.Nothing }
     {

@@ -37,7 +37,7 @@ impl Model for Utf8Decoder {
 }
 
 impl Utf8Decoder {
-    /// Returns a decoder that has read nothing. Takes no memory.
+    /// Returns a decoder that has read nothing.
     pub fn new() -> Utf8Decoder
         ensures { result ≡ Pending.Nothing }
     {

@@ -22,8 +22,6 @@ use enc_encoder::{Barring, ByteLengths, Repertoire, StatelessEncoder};
 use enc_index::Codec;
 
 /// Returns whether an encoding has an encoder: all except UTF-16BE, UTF-16LE and replacement.
-///
-/// Takes no memory.
 pub fn has_encoder(codec: Codec) -> bool
     ensures { result ≡ is_some (encoder_rule codec) }
 {
@@ -44,8 +42,8 @@ fn barring<R: Repertoire>(repertoire: R, barred: &'static [char]) -> StatelessEn
 /// Returns an encoder at the start of a text, with barred characters.
 ///
 /// The characters of `barred` are unmappable too. The encoder keeps the list, also after the end of
-/// the text. Takes no memory. Conditions: the encoding has an encoder, and each character of the
-/// list is U+0080 or above.
+/// the text. Conditions: the encoding has an encoder, and each character of the list is U+0080 or
+/// above.
 pub fn new_encoder(codec: Codec, barred: &'static [char]) -> VariantEncoder
     requires encoder { is_some (encoder_rule codec) ≡ true }
     requires barred { are_beyond_ascii barred.now ≡ true }
@@ -73,7 +71,7 @@ pub fn new_encoder(codec: Codec, barred: &'static [char]) -> VariantEncoder
 
 /// Returns the formulas for the lengths to allocate in the output encoding.
 ///
-/// They are those of UTF-8 if the encoding has no encoder. Takes no memory.
+/// They are those of UTF-8 if the encoding has no encoder.
 pub fn byte_lengths(codec: Codec) -> ByteLengths
     ensures { result ≡ encoder_lengths codec }
 {

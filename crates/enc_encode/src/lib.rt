@@ -1,5 +1,5 @@
-//! The encoders, each by the bytes of its characters, the encoder of an encoding, and an encoder that
-//! is any of them.
+//! The encoders, each by the bytes of its characters, the encoder of an encoding, and an encoder
+//! that is any of them. No call takes memory.
 //!
 //! Written by scripts/make-sources from data/templates: change the text there, and not this file.
 #![tactic(auto)]

@@ -81,7 +81,7 @@ impl BarredChars for CharList {
 impl<R: Repertoire> Barring<R> {
     /// Returns an encoding without the characters of a list.
     ///
-    /// ASCII is never barred. Takes no memory.
+    /// ASCII is never barred.
     pub fn new(repertoire: R, barred: &'static [char]) -> Barring<R>
         ensures repertoire { result.repertoire ≡ repertoire }
         ensures barred { result.barred.now ≡ barred.now }

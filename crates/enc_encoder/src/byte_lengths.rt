@@ -23,7 +23,7 @@ pub enum ByteLengths {
 impl ByteLengths {
     /// Returns the length in bytes to allocate for `units` code units of UTF-8.
     ///
-    /// Up to an unmappable character. Takes no memory.
+    /// Up to an unmappable character.
     pub fn from_utf8(self, units: usize) -> Option<usize>
         ensures { result ≡ from_utf_8_length self units }
     {
@@ -36,7 +36,7 @@ impl ByteLengths {
 
     /// Returns the length in bytes to allocate for `units` code units of UTF-16.
     ///
-    /// Up to an unmappable character. Takes no memory.
+    /// Up to an unmappable character.
     pub fn from_utf16(self, units: usize) -> Option<usize>
         ensures { result ≡ from_utf_16_length self units }
     {

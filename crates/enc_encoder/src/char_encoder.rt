@@ -16,7 +16,7 @@ pub trait CharEncoder: Copy {
     /// Writes the bytes of the first characters to a slice, from `from` on.
     ///
     /// They are mappable and in the designated character set. Returns the number of bytes written.
-    /// The run need not be maximal: by default it is empty. Takes no memory.
+    /// The run need not be maximal: by default it is empty.
     #[inline(always)]
     fn write_run<C: Chars>(self, src: &mut C, dst: &mut [u8], from: usize) -> usize
         requires { from ≤ length dst.old }

@@ -1,5 +1,6 @@
 //! The contract of every encoder, the loop over the characters of a call that keeps it, and calls
-//! by error mode: a decimal reference in place of each unmappable character, or a report of it.
+//! by error mode: a decimal reference in place of each unmappable character, or a report of it. No
+//! call takes memory.
 #![tactic(auto)]
 
 mod barring;

@@ -80,7 +80,7 @@ fn first_run<E: CharEncoder, C: Chars>(encoder: E, src: &mut C, dst: &mut [u8]) 
 /// Encodes by an encoder that takes one character at a time: the loop of every encoder's call.
 ///
 /// It stops when all characters are read, the bytes that come next do not fit, or a character is
-/// unmappable. Takes no memory.
+/// unmappable.
 pub fn run<E: CharEncoder, C: Chars>(
     encoder: &mut E,
     src: &mut C,

@@ -30,7 +30,7 @@ pub trait RawEncoder {
     /// character is unmappable. With `last` nothing follows `src`, and the text is ended.
     ///
     /// The bytes of a character are written together; an escape sequence before it may be written
-    /// alone. The bytes of `dst` after those written are unchanged. Takes no memory.
+    /// alone. The bytes of `dst` after those written are unchanged.
     fn encode<C: Chars>(&mut self, src: &mut C, dst: &mut [u8], last: bool) -> EncoderStop
         ensures call { EncoderCallInto C.units_of last
             (place (state self.old) (C.rest src.old) dst.old 0)
@@ -41,27 +41,25 @@ pub trait RawEncoder {
 
     /// Returns whether an escape sequence is due at the end of the text.
     ///
-    /// That is so while a character set other than ASCII is designated. Takes no memory.
+    /// That is so while a character set other than ASCII is designated.
     fn has_pending_state(&self) -> bool
         ensures { result ≡ is_escape_due (state self.now).set };
 
     /// Returns the formulas for the lengths to allocate, which are enough from any state on.
-    ///
-    /// Takes no memory.
     fn byte_lengths(&self) -> ByteLengths
         ensures formulas { result ≡ formulas self.now }
         ensures enough { AreEnoughForEncoder (formulas self.now) (state self.now) };
 
     /// Returns the length in bytes to allocate for `byte_length` more bytes of UTF-8.
     ///
-    /// It is enough without replacement. `None` if it overflows `usize`. Takes no memory.
+    /// It is enough without replacement. `None` if it overflows `usize`.
     fn max_buffer_length_from_utf8_without_replacement(&self, byte_length: usize) -> Option<usize>
         ensures { result ≡ from_utf_8_length (formulas self.now) byte_length }
     {
         self.byte_lengths().from_utf8(byte_length)
     }
 
-    /// Returns the same for `u16_length` code units of UTF-16. Takes no memory.
+    /// Returns the same for `u16_length` code units of UTF-16.
     fn max_buffer_length_from_utf16_without_replacement(&self, u16_length: usize) -> Option<usize>
         ensures { result ≡ from_utf_16_length (formulas self.now) u16_length }
     {

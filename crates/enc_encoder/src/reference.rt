@@ -6,7 +6,7 @@ ghost use Rattle.enc_encoder.specs.Text.{reference as reference_to};
 /// The length in bytes of the longest reference: that of U+10FFFF, `&#1114111;`.
 pub const LONGEST_REFERENCE: usize = 10;
 
-/// Writes the reference to a character at the end of `bytes`. Returns its start. Takes no memory.
+/// Writes the reference to a character at the end of `bytes`. Returns its start.
 fn write_at_end(c: char, bytes: &mut [u8; 10]) -> usize
     ensures within { result ≤ 10 }
     ensures reference { drop result bytes.new ≡ reference_to c }
@@ -73,7 +73,7 @@ fn with_five_digits(number: u32) -> [u8; 8]
 /// Writes the reference to a character after the bytes written.
 ///
 /// Returns its length in bytes. The number of nearly every character has four or five digits: their
-/// references are stored as a whole. Takes no memory.
+/// references are stored as a whole.
 pub fn put_reference(c: char, dst: &mut [u8], written: usize) -> usize
     requires { written + 10 ≤ length dst.old }
     ensures len { result ≡ length (reference_to c) }

@@ -34,7 +34,7 @@ fn full_result<E: RawEncoder, C: Chars>(encoder: &E, src: &C, last: bool) -> Enc
 ///
 /// With [`ErrorMode::Html`] the last 10 bytes of `dst` are kept free for references. With fewer
 /// than 10 bytes it does nothing. After a reference that ends at the kept part or in it, it writes
-/// no more. Takes no memory.
+/// no more.
 #[inline(always)]
 pub fn encode_in_mode<E: RawEncoder, C: Chars>(
     encoder: &mut E,

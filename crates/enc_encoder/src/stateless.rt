@@ -72,7 +72,7 @@ pub struct StatelessEncoder<R> {
 }
 
 impl<R: Repertoire> StatelessEncoder<R> {
-    /// Returns the encoder of an encoding. Takes no memory.
+    /// Returns the encoder of an encoding.
     pub fn new(repertoire: R) -> StatelessEncoder<R>
         ensures { result.repertoire ≡ repertoire }
     {

@@ -23,14 +23,14 @@ pub trait DoubleByteIndex {
     /// Returns the character of a pointer ("index code point"), by the first run that has it.
     ///
     /// `None` for an unmapped pointer: no run has it, or its code point is 0, a surrogate or past
-    /// the index's planes. One load from a table. Takes no memory.
+    /// the index's planes. One load from a table.
     fn at(pointer: u32) -> Option<char>
         ensures { result ≡ pointer_char shape pointer };
 
     /// Returns the UTF-8 of the character at a place, as a word.
     ///
     /// The word has the bytes, the first lowest, and their number in the highest byte. 0 if the
-    /// place is empty or the character has four bytes. One load. Takes no memory.
+    /// place is empty or the character has four bytes. One load.
     fn word(place: usize) -> u32
         requires { place < grid_len shape }
         ensures { 0 < result → HasWord (grid_char shape place) result };
@@ -38,7 +38,7 @@ pub trait DoubleByteIndex {
     /// Returns the UTF-16 code unit of the character at a place.
     ///
     /// 0 if the place is empty or the character has two code units. At place 0 it is the code unit
-    /// of U+0000, which is 0 too. One load. Takes no memory.
+    /// of U+0000, which is 0 too. One load.
     fn unit(place: usize) -> u16
         requires { place < grid_len shape }
         ensures { 0 < result → (grid_char shape place ≡ Some result) × IsScalar result };

@@ -1,5 +1,5 @@
 //! The indexes of the Encoding Standard (5): their entries, and the characters of pointers in
-//! constant time, proved equal to the entries; and the names of the codecs.
+//! constant time, proved equal to the entries; and the names of the codecs. No call takes memory.
 #![tactic(auto)]
 
 mod codec;

@@ -39,8 +39,7 @@ impl List {
     /// Returns the character of a pointer ("index code point"), by the first run that has it.
     ///
     /// `None` for an unmapped pointer: no run has it, or its code point is 0, a surrogate or past
-    /// the index's planes. One load from a table, or for gb18030 ranges a binary search. Takes no
-    /// memory.
+    /// the index's planes. One load from a table, or for gb18030 ranges a binary search.
     #[inline(always)]
     pub fn at(&self, pointer: u32) -> Option<char>
         ensures { result ≡ index_at (planes_of self.now) (runs_of self.now) pointer }
@@ -62,7 +61,7 @@ impl List {
         }
     }
 
-    /// Returns its runs, in the order of their pointers. Takes no memory.
+    /// Returns its runs, in the order of their pointers.
     pub fn runs(&self) -> &'static [(u32, u32, u32)]
         ensures { result.now ≡ runs_of self.now }
     {
@@ -77,7 +76,7 @@ impl List {
         }
     }
 
-    /// Returns the planes that contain its characters. Takes no memory.
+    /// Returns the planes that contain its characters.
     pub fn planes(&self) -> Planes
         ensures { result ≡ planes_of self.now }
     {

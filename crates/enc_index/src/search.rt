@@ -6,7 +6,7 @@ ghost use Rattle.enc_index.specs.Search.{are_ascending_runs, run_with_pointer};
 
 use crate::table::{Planes, character_after};
 
-/// Returns the first run that has a number, by binary search. Takes no memory.
+/// Returns the first run that has a number, by binary search.
 ///
 /// - `runs`: ascend, and none overlaps another.
 pub fn run_with(runs: &[(u32, u32, u32)], number: u32) -> Option<(u32, u32, u32)>

@@ -15,7 +15,7 @@ use crate::table::{character_in, unit_in, word_in};
 impl SingleByteIndex {
     /// Returns the character of a pointer, by the first run that has it.
     ///
-    /// `None` if it is unmapped, as every one from 128 on. One load from a table. Takes no memory.
+    /// `None` if it is unmapped, as every one from 128 on. One load from a table.
     #[inline(always)]
     pub fn at(self, pointer: u32) -> Option<char>
         ensures { result ≡ index_at Basic (single_byte_runs self) pointer }
@@ -27,7 +27,7 @@ impl SingleByteIndex {
     /// Returns the UTF-8 of a byte's character, as a word.
     ///
     /// A byte below 0x80 is ASCII. The word has the bytes, the first lowest, and their number in
-    /// the highest byte. 0 if the byte's pointer is unmapped. One load. Takes no memory.
+    /// the highest byte. 0 if the byte's pointer is unmapped. One load.
     #[inline(always)]
     pub fn word(self, byte: u8) -> u32
         ensures ascii { byte < 0x80 → 0 < result → HasWord (Some byte) result }
@@ -41,7 +41,7 @@ impl SingleByteIndex {
     /// Returns the UTF-16 code unit of a byte's character.
     ///
     /// 0 if the byte's pointer is unmapped. For byte 0 it is the code unit of U+0000, which is 0
-    /// too. One load. Takes no memory.
+    /// too. One load.
     #[inline(always)]
     pub fn unit(self, byte: u8) -> u16
         ensures ascii { byte < 0x80 → 0 < result → (Some byte ≡ Some result) × IsScalar result }

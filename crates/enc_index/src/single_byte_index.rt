@@ -71,7 +71,7 @@ pub enum SingleByteIndex {
 }
 
 impl SingleByteIndex {
-    /// Returns its runs, in the order of their pointers. Takes no memory.
+    /// Returns its runs, in the order of their pointers.
     pub fn runs(self) -> &'static [(u32, u32, u32)]
         ensures { result.now ≡ single_byte_runs self }
     {
@@ -107,8 +107,6 @@ impl SingleByteIndex {
     }
 
     /// Returns its number, from 0 to 26, in the order above: its place among the tables of all.
-    ///
-    /// Takes no memory.
     #[inline(always)]
     pub fn number(self) -> usize
         ensures which { result ≡ table_number self }

@@ -1,5 +1,5 @@
 //! The pointers of characters in the indexes of the Encoding Standard (5), as encoders look them
-//! up, in constant time, proved equal to the indexes' entries.
+//! up, in constant time, proved equal to the indexes' entries. No call takes memory.
 //!
 //! Written by scripts/make-sources from data/templates: change the text there, and not this file.
 #![tactic(auto)]

@@ -20,7 +20,7 @@ impl EncodingId {
     /// Returns the encoding that a label names (Encoding Standard 4.2, "get an encoding").
     ///
     /// `None` if it names none. ASCII whitespace around the label does not matter (tab, line feed,
-    /// form feed, carriage return and space), nor does case. Takes no memory.
+    /// form feed, carriage return and space), nor does case.
     pub fn for_label(label: &[u8]) -> Option<EncodingId>
         ensures { result ≡ id_of_label label.now }
     {

@@ -1,5 +1,5 @@
 //! The encodings by identifier: names, labels, codecs and properties (Encoding Standard 4.2).
-//! Labels are in a table with binary search.
+//! Labels are in a table with binary search. No call takes memory.
 #![tactic(auto)]
 
 mod encoding_id;

@@ -52,7 +52,7 @@ fn search(table: &[&str], word: &[u8]) -> Option<usize>
 
 /// Returns the place of a word in the table of labels, in upper or lower case.
 ///
-/// `None` if it is no label. Makes at most eight comparisons. Takes no memory.
+/// `None` if it is no label. Makes at most eight comparisons.
 pub(crate) fn place(word: &[u8]) -> Option<usize>
     ensures place { result ≡ word_place table (map to_ascii_lowercase word.now) }
     ensures within { IfSome result (λ place. place < length table) }

@@ -223,8 +223,8 @@ impl<'a, R: Source> DecodeReader<'a, R> {
     /// Returns a reader of `reader`, through the buffer `input`.
     ///
     /// It decodes by `encoding`, or by UTF-8 if that is `None`. A byte order mark overrides both.
-    /// Nothing is read yet. If the source has failed, so has the reader. Takes no memory.
-    /// Condition: `input` is not empty.
+    /// Nothing is read yet. If the source has failed, so has the reader. Condition: `input` is not
+    /// empty.
     pub fn new(
         reader: &'a mut R,
         encoding: Option<Encoding>,
@@ -325,8 +325,8 @@ impl<'a, R: Source> DecodeReader<'a, R> {
     ///
     /// Returns the number of bytes written, 0 only at the end, and then in each later read. The
     /// source is read only while this read has written nothing, so the text may be shorter than the
-    /// room. The bytes of `dst` after the text are unchanged. Takes no memory. Condition: `dst` has
-    /// at least four bytes.
+    /// room. The bytes of `dst` after the text are unchanged. Condition: `dst` has at least four
+    /// bytes.
     ///
     /// Errors write nothing: `Reader` if the source failed in this read (no error of it is tried
     /// again), and `Failed` in each later read.
@@ -450,8 +450,7 @@ impl<'a, R: Source> DecodeReader<'a, R> {
     /// These are well-formed in UTF-8, and ASCII in another ASCII-compatible encoding. Lent text
     /// stays in the reader's own buffer, and is not copied. [`DecodeReader::text`] returns the
     /// text, until the next read. It is empty only at the end. At least 4096 bytes are lent; `dst`
-    /// is unchanged then. Errors are those of `read_str`. Takes no memory. Condition: `dst` has at
-    /// least four bytes.
+    /// is unchanged then. Errors are those of `read_str`. Condition: `dst` has at least four bytes.
     pub fn read_or_lend(&mut self, dst: &mut [u8]) -> Result<HandedText, ReadFault>
         requires { 4 ≤ length dst.old }
         ensures ok { IfOk result (λ handed. HandsOut (R.remaining self.old.reader.now)
@@ -495,7 +494,7 @@ impl<'a, R: Source> DecodeReader<'a, R> {
 
     /// Returns the text of the last read, which got `dst`.
     ///
-    /// Takes no memory. Condition: there was no read, and no write to `dst`, since.
+    /// Condition: there was no read, and no write to `dst`, since.
     pub fn text<'b>(&'b self, dst: &'b [u8], handed: HandedText) -> &'b [u8]
         requires { IsAtHand self.now dst.now handed }
         ensures { result.now ≡ handed_text self.now dst.now handed }
@@ -510,7 +509,6 @@ impl<'a, R: Source> DecodeReader<'a, R> {
     /// Returns the encoding that its decoder decodes, after a fault too.
     ///
     /// That is the encoding of a byte order mark read, or otherwise the one that it was made with.
-    /// Takes no memory.
     pub fn encoding(&self) -> Encoding
         ensures { result ≡ self.now.decoder.encoding }
     {
@@ -519,7 +517,7 @@ impl<'a, R: Source> DecodeReader<'a, R> {
 
     /// Returns whether U+FFFD was handed out for a malformed sequence.
     ///
-    /// It may be called after a fault too. Takes no memory.
+    /// It may be called after a fault too.
     pub fn had_errors(&self) -> bool
         ensures { result ≡ self.now.had_errors }
     {

@@ -1,6 +1,6 @@
 //! Reading text: a [`DecodeReader`] reads bytes from a [`Source`] and hands them out as UTF-8.
 //!
-//! It reads a buffer at a time. [`FromRead`] makes a source of any reader.
+//! It reads a buffer at a time. [`FromRead`] makes a source of any reader. No call takes memory.
 #![tactic(auto)]
 
 mod decode_reader;

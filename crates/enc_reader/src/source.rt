@@ -42,7 +42,7 @@ pub struct FromRead<R: Read> {
 }
 
 impl<R: Read> FromRead<R> {
-    /// Returns a source that reads from `inner` and has not failed. Takes no memory.
+    /// Returns a source that reads from `inner` and has not failed.
     pub fn new(inner: R) -> FromRead<R>
         ensures inner { result.inner ≡ inner }
         ensures not_failed { result.failed ≡ false }

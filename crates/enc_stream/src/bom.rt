@@ -21,7 +21,7 @@ impl Encoding {
     /// Returns the encoding and the length of the byte order mark at the start of `buffer`.
     ///
     /// That is "BOM sniff" of Encoding Standard 6. The length is in bytes. `None` if there is none.
-    /// Only the first three bytes are read. Takes no memory.
+    /// Only the first three bytes are read.
     pub fn for_bom(buffer: &[u8]) -> Option<(Encoding, usize)>
         ensures mark { result ≡ bom_of buffer.now }
         ensures within { IfSome result (λ found. found.1 ≤ length buffer.now) }

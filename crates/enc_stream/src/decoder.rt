@@ -129,8 +129,7 @@ impl Decoder {
     ///   That call gets the unread bytes of `src` again.
     ///
     /// Any length of `dst` will do, 0 too; with four bytes each call makes progress. The bytes of
-    /// `dst` after those written are unchanged. Takes no memory. Condition: the decoder is not
-    /// finished.
+    /// `dst` after those written are unchanged. Condition: the decoder is not finished.
     pub fn decode_to_utf8(
         &mut self,
         src: &[u8],
@@ -178,8 +177,7 @@ impl Decoder {
     ///   gets the text of calls with replacement.
     ///
     /// Any length of `dst` will do, 0 too; with four bytes each call makes progress. The bytes of
-    /// `dst` after those written are unchanged. Takes no memory. Condition: the decoder is not
-    /// finished.
+    /// `dst` after those written are unchanged. Condition: the decoder is not finished.
     pub fn decode_to_utf8_without_replacement(
         &mut self,
         src: &[u8],
@@ -216,8 +214,7 @@ impl Decoder {
     /// code units.
     ///
     /// Any length of `dst` will do, 0 too; with two code units each call makes progress. The code
-    /// units of `dst` after those written are unchanged. Takes no memory. Condition: the decoder is
-    /// not finished.
+    /// units of `dst` after those written are unchanged. Condition: the decoder is not finished.
     pub fn decode_to_utf16(
         &mut self,
         src: &[u8],
@@ -258,8 +255,7 @@ impl Decoder {
     /// number written are in code units.
     ///
     /// Any length of `dst` will do, 0 too; with two code units each call makes progress. The code
-    /// units of `dst` after those written are unchanged. Takes no memory. Condition: the decoder is
-    /// not finished.
+    /// units of `dst` after those written are unchanged. Condition: the decoder is not finished.
     pub fn decode_to_utf16_without_replacement(
         &mut self,
         src: &[u8],

@@ -74,7 +74,7 @@ impl Encoding {
     /// Returns an encoder of its output encoding (Encoding Standard 4.3, "get an output encoding").
     ///
     /// That is UTF-8 for UTF-16BE, UTF-16LE and replacement, and the encoding itself otherwise. The
-    /// encoder is at the start of a text. Takes no memory.
+    /// encoder is at the start of a text.
     pub fn new_encoder(self) -> Encoder
         ensures { result ≡ fresh_encoder [] self }
     {
@@ -85,8 +85,7 @@ impl Encoding {
     ///
     /// The characters of `barred` are unmappable too. The list bars the character itself, before
     /// another is looked up in its place. The encoder keeps the list, also after the end of a text.
-    /// Takes no memory. Condition: each character of the list is U+0080 or above
-    /// ([`Encoding::barred_ok`]).
+    /// Condition: each character of the list is U+0080 or above ([`Encoding::barred_ok`]).
     pub fn new_encoder_barring(self, barred: &'static [char]) -> Encoder
         requires { are_beyond_ascii barred.now ≡ true }
         ensures { result ≡ fresh_encoder barred.now self }
@@ -113,7 +112,7 @@ fn stop(result_of_call: EncoderResult) -> CoderResult
 }
 
 impl Encoder {
-    /// Returns the encoding that it writes, which is an output encoding. Takes no memory.
+    /// Returns the encoding that it writes, which is an output encoding.
     pub fn encoding(&self) -> Encoding
         ensures { result ≡ self.now.encoding }
     {
@@ -122,8 +121,7 @@ impl Encoder {
 
     /// Returns whether an escape sequence is due at the end of the text.
     ///
-    /// That is so while a character set other than ASCII is designated, in ISO-2022-JP alone. Takes
-    /// no memory.
+    /// That is so while a character set other than ASCII is designated, in ISO-2022-JP alone.
     pub fn has_pending_state(&self) -> bool
         ensures { result ≡ is_escape_due self.now.set }
     {
@@ -190,7 +188,7 @@ impl Encoder {
     /// nothing is left to do, and otherwise `OutputFull`.
     ///
     /// Any length of `dst` will do, 0 too; with 14 bytes, or 4 if none are kept free, each call
-    /// makes progress. The bytes of `dst` after those written are unchanged. Takes no memory.
+    /// makes progress. The bytes of `dst` after those written are unchanged.
     pub fn encode_from_utf8(
         &mut self,
         src: &str,
@@ -377,7 +375,7 @@ impl Encoder {
     ///
     /// Any length of `dst` will do, 0 too; with four bytes each call makes progress. The bytes of a
     /// character are written together; an escape sequence before it may be written alone. The bytes
-    /// of `dst` after those written are unchanged. Takes no memory.
+    /// of `dst` after those written are unchanged.
     pub fn encode_from_utf8_without_replacement(
         &mut self,
         src: &str,

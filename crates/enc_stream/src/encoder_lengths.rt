@@ -15,8 +15,7 @@ impl Encoder {
     /// Returns the length in bytes to allocate for UTF-8 input, without replacement.
     ///
     /// With that, [`Encoder::encode_from_utf8_without_replacement`] never returns `OutputFull` for
-    /// `byte_length` more bytes. `None` if a step of the formula overflows `usize`. Takes no
-    /// memory.
+    /// `byte_length` more bytes. `None` if a step of the formula overflows `usize`.
     pub fn max_buffer_length_from_utf8_without_replacement(
         &self,
         byte_length: usize,
@@ -31,8 +30,7 @@ impl Encoder {
     /// Returns the length in bytes to allocate for UTF-16 input, without replacement.
     ///
     /// With that, [`Encoder::encode_from_utf16_without_replacement`] never returns `OutputFull` for
-    /// `u16_length` more code units. `None` if a step of the formula overflows `usize`. Takes no
-    /// memory.
+    /// `u16_length` more code units. `None` if a step of the formula overflows `usize`.
     pub fn max_buffer_length_from_utf16_without_replacement(
         &self,
         u16_length: usize,
@@ -49,7 +47,7 @@ impl Encoder {
     /// If no character of `byte_length` more bytes is unmappable, one call of
     /// [`Encoder::encode_from_utf8`] reads all then. The length includes the 10 bytes that are kept
     /// free for references, unless the encoding is UTF-8 and no character is barred. `None` if a
-    /// step of the formula overflows `usize`. Takes no memory.
+    /// step of the formula overflows `usize`.
     pub fn max_buffer_length_from_utf8_if_no_unmappables(&self, byte_length: usize) -> Option<usize>
         ensures formula { result ≡ checked_add
             (from_utf_8_length (output_lengths self.now.encoding) byte_length)

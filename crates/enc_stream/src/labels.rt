@@ -11,7 +11,7 @@ impl Encoding {
     /// Returns the encoding that a label names (Encoding Standard 4.2, "get an encoding").
     ///
     /// `None` if it names none. ASCII whitespace around the label does not matter (tab, line feed,
-    /// form feed, carriage return and space), nor does case. Takes no memory.
+    /// form feed, carriage return and space), nor does case.
     pub fn for_label(label: &[u8]) -> Option<Encoding>
         ensures { result ≡ encoding_of_label label.now }
     {
@@ -21,7 +21,7 @@ impl Encoding {
 
     /// Returns the encoding that a label names, or `None` if it names replacement or none.
     ///
-    /// The same as [`Encoding::for_label`] otherwise. Takes no memory.
+    /// The same as [`Encoding::for_label`] otherwise.
     pub fn for_label_no_replacement(label: &[u8]) -> Option<Encoding>
         ensures { result ≡ encoding_of_label_no_replacement label.now }
     {

@@ -10,7 +10,7 @@ use crate::constants::UTF_8;
 use crate::encoding::Encoding;
 
 impl Encoding {
-    /// Returns its name (Encoding Standard 4.2), which is one of its labels. Takes no memory.
+    /// Returns its name (Encoding Standard 4.2), which is one of its labels.
     pub fn name(self) -> &'static str
         ensures { result.now ≡ name_of self }
     {
@@ -20,7 +20,6 @@ impl Encoding {
     /// Returns its output encoding (Encoding Standard 4.3, "get an output encoding").
     ///
     /// That is UTF-8 for replacement, UTF-16BE and UTF-16LE, and the encoding itself otherwise.
-    /// Takes no memory.
     pub fn output_encoding(self) -> Encoding
         ensures { result ≡ output_encoding_of self }
     {
@@ -31,8 +30,7 @@ impl Encoding {
 
     /// Returns whether [`Encoding::new_encoder_barring`] accepts a list.
     ///
-    /// It does if each character is U+0080 or above, so that references can be written. Takes no
-    /// memory.
+    /// It does if each character is U+0080 or above, so that references can be written.
     pub fn barred_ok(barred: &[char]) -> bool
         ensures { result ≡ are_beyond_ascii barred.now }
     {
@@ -44,7 +42,7 @@ impl Encoding {
         true
     }
 
-    /// Returns whether its output encoding is UTF-8, which has every character. Takes no memory.
+    /// Returns whether its output encoding is UTF-8, which has every character.
     pub fn can_encode_everything(self) -> bool
         ensures { IsTrue result ↔ (output_encoding_of self ≡ UTF_8) }
     {
@@ -54,7 +52,7 @@ impl Encoding {
     /// Returns whether bytes below 0x80 are the ASCII characters with their numbers.
     ///
     /// Then these characters are also written so, by `laws::ascii_compatible_encode_ascii`. False
-    /// for replacement, UTF-16BE, UTF-16LE and ISO-2022-JP, and true otherwise. Takes no memory.
+    /// for replacement, UTF-16BE, UTF-16LE and ISO-2022-JP, and true otherwise.
     pub fn is_ascii_compatible(self) -> bool
         ensures { result ≡ is_ascii_compatible self }
     {
@@ -64,7 +62,7 @@ impl Encoding {
     /// Returns whether each of its bytes is a character by itself.
     ///
     /// True for the 28 legacy single-byte encodings (Encoding Standard 9) and x-user-defined, and
-    /// false otherwise. Takes no memory.
+    /// false otherwise.
     pub fn is_single_byte(self) -> bool
         ensures { result ≡ is_single_byte self }
     {

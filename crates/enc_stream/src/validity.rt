@@ -8,7 +8,7 @@ use crate::encoding::Encoding;
 impl Encoding {
     /// Returns the length in bytes of the longest prefix that is well-formed UTF-8.
     ///
-    /// Well-formed is as in Unicode Standard 3.9, D92 and table 3-7. Takes no memory.
+    /// Well-formed is as in Unicode Standard 3.9, D92 and table 3-7.
     pub fn utf8_valid_up_to(bytes: &[u8]) -> usize
         ensures { IsLongestPrefix IsWellFormedUtf8 bytes.now result }
     {
@@ -16,8 +16,6 @@ impl Encoding {
     }
 
     /// Returns the length in bytes of the longest prefix that is ASCII: bytes below 0x80.
-    ///
-    /// Takes no memory.
     pub fn ascii_valid_up_to(bytes: &[u8]) -> usize
         ensures { IsLongestPrefix AreAscii bytes.now result }
     {
@@ -27,7 +25,7 @@ impl Encoding {
     /// Returns the length in bytes of the longest prefix that stands for itself in ISO-2022-JP.
     ///
     /// At its start ISO-2022-JP has ASCII designated (Encoding Standard 12.2.1). The bytes below
-    /// 0x80 stand for themselves then, except 0x0E, 0x0F and 0x1B. Takes no memory.
+    /// 0x80 stand for themselves then, except 0x0E, 0x0F and 0x1B.
     pub fn iso_2022_jp_ascii_valid_up_to(bytes: &[u8]) -> usize
         ensures { IsLongestPrefix AreIso2022JpAscii bytes.now result }
     {

@@ -16,21 +16,17 @@ pub trait Chars {
     // the characters still to come
     ghost rest: { Self → List ℕ };
 
-    /// Returns the number of unread code units. Takes no memory.
+    /// Returns the number of unread code units.
     fn unread(&self) -> usize
         ensures { result ≡ length (units_of_text units_of (rest self.now)) };
 
     /// Returns the next character and the number of its code units, or `None` at the end.
-    ///
-    /// Takes no memory.
     fn peek(&self) -> Option<(char, usize)>
         ensures first { MatchOption result (rest self.now ≡ [])
             (λ p. rest self.now ≡ p.0 ∷ drop 1 (rest self.now)) }
         ensures width { IfSome result (λ p. p.1 ≡ length (units_of p.0)) };
 
     /// Returns whether the next character is ASCII, or false, as it does by default.
-    ///
-    /// Takes no memory.
     fn begins_with_ascii(&self) -> bool
         ensures { IsTrue result → AreAscii (take 1 (rest self.now)) }
     {
@@ -38,7 +34,7 @@ pub trait Chars {
         false
     }
 
-    /// Reads the next character. Takes no memory. Condition: the input is not at its end.
+    /// Reads the next character. Condition: the input is not at its end.
     fn advance(&mut self)
         requires { rest self.old ≢ [] }
         ensures { rest self.new ≡ drop 1 (rest self.old) };
@@ -47,7 +43,7 @@ pub trait Chars {
     ///
     /// Returns the number of bytes written.
     ///
-    /// The run need not be maximal: it may be empty, as it is by default. Takes no memory.
+    /// The run need not be maximal: it may be empty, as it is by default.
     fn write_mapped<M: Mapping>(&mut self, mapping: M, dst: &mut [u8], from: usize) -> usize
         requires { from ≤ length dst.old }
         ensures { WritesMapped (M.means mapping) (rest self.old) (rest self.new) dst.old dst.new

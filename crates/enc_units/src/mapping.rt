@@ -15,27 +15,21 @@ pub trait Mapping: Copy {
 
     /// Returns the bytes of a character beyond ASCII, or `None` if it ends a run.
     ///
-    /// Takes no memory. Condition: it is beyond ASCII.
+    /// Condition: it is beyond ASCII.
     fn bytes_in_run(self, c: char) -> Option<Bytes>
         requires { 0x80 ≤ c }
         ensures { IfSome result (λ b. means self (byte_list b) c) };
 
     /// Returns whether a byte is ASCII written as itself, or false.
-    ///
-    /// Takes no memory.
     fn is_own(self, byte: u8) -> bool
         ensures { IsTrue result → IsWrittenAsItself (means self) byte };
 
     /// Returns how many of sixteen bytes at the front are ASCII written as itself, or fewer.
-    ///
-    /// Takes no memory.
     fn ascii_len(self, lanes: u8x16) -> usize
         ensures bound { result ≤ 16 }
         ensures ascii { AreWrittenAsThemselves (means self) (take result lanes) };
 
     /// Returns whether all of ASCII is written as itself, or false, as it does by default.
-    ///
-    /// Takes no memory.
     #[inline(always)]
     fn keeps_ascii(self) -> bool
         ensures { IsTrue result → KeepsAscii (means self) }
@@ -45,8 +39,6 @@ pub trait Mapping: Copy {
     }
 
     /// Returns whether every character is written as its UTF-8, or false, as it does by default.
-    ///
-    /// Takes no memory.
     #[inline(always)]
     fn is_utf8(self) -> bool
         ensures { IsTrue result → AreWrittenAsUtf8 (means self) }
@@ -57,8 +49,6 @@ pub trait Mapping: Copy {
 
     /// Returns whether [`Mapping::unit_byte`] has most characters of most texts, or false, as it
     /// does by default.
-    ///
-    /// Takes no memory.
     #[inline(always)]
     fn has_unit_bytes(self) -> bool {
         let _mapping = self;
@@ -68,8 +58,8 @@ pub trait Mapping: Copy {
     /// Returns the byte of a character below U+0800, ASCII included, if its bytes are that one
     /// byte, or 0, as it does by default.
     ///
-    /// U+07FF has none, so that it can stand for all characters from U+0800 on. Takes no memory.
-    /// Condition: the character is below U+0800.
+    /// U+07FF has none, so that it can stand for all characters from U+0800 on. Condition: the
+    /// character is below U+0800.
     #[inline(always)]
     fn unit_byte(self, unit: u16) -> u8
         requires { unit < 0x800 }

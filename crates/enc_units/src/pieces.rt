@@ -21,7 +21,7 @@ pub trait Pieces: Copy {
 
     /// Returns the character whose bytes begin at `at`, and their number, at least one.
     ///
-    /// `None` if no character is known to begin there. Takes no memory.
+    /// `None` if no character is known to begin there.
     fn piece(self, src: &[u8], at: usize) -> Option<(char, usize)>
         requires { at < length src.now }
         ensures some { IfSome result (λ p. 0 < p.1) }
@@ -29,14 +29,12 @@ pub trait Pieces: Copy {
         ensures means { IfSome result (λ p. means self (take p.1 (drop at src.now)) p.0) };
 
     /// Returns whether each byte below 0x80 is the ASCII character with that number.
-    ///
-    /// Takes no memory.
     fn has_ascii(self) -> bool
         ensures { IsTrue result → (b : ℕ) → b < 0x80 → means self (b ∷ []) b };
 
     /// Returns how many of sixteen bytes at the front are the ASCII characters with their numbers.
     ///
-    /// They may be fewer. It is of use if `has_ascii` is false. Takes no memory.
+    /// They may be fewer. It is of use if `has_ascii` is false.
     #[inline(always)]
     fn own_len(self, bytes: u8x16) -> usize
         ensures bound { result ≤ 16 }
@@ -47,7 +45,7 @@ pub trait Pieces: Copy {
         0
     }
 
-    /// Returns the byte order if the input is UTF-16: true for big-endian. Takes no memory.
+    /// Returns the byte order if the input is UTF-16: true for big-endian.
     fn code_units(self) -> Option<bool>
         ensures { IfSome result (AreCodeUnits (means self)) }
     {
@@ -57,7 +55,7 @@ pub trait Pieces: Copy {
 
     /// Returns whether looking characters up by their places pays: most have one byte or two.
     ///
-    /// The output is the same either way. Takes no memory.
+    /// The output is the same either way.
     fn are_pairs(self) -> bool {
         let _pieces = self;
         false
@@ -66,7 +64,7 @@ pub trait Pieces: Copy {
     /// Returns how many characters of a run are written one by one, before lookups by places.
     ///
     /// Some if runs of random bytes are short, and none if they are long or the runs of a text are
-    /// short too. The output is the same for every number. Takes no memory.
+    /// short too. The output is the same for every number.
     fn few(self) -> usize {
         let _pieces = self;
         0
@@ -76,8 +74,7 @@ pub trait Pieces: Copy {
     /// leads a pair.
     ///
     /// Which bytes lead a pair is a guess, for bytes at which a character begins: a wrong one costs
-    /// time, and changes no output. `None` if there are no pairs. No branch and no load. Takes no
-    /// memory.
+    /// time, and changes no output. `None` if there are no pairs. No branch and no load.
     #[inline(always)]
     fn places(self, first: u8x16, second: u8x16) -> Option<Places>
         ensures { IfSome result
@@ -91,7 +88,6 @@ pub trait Pieces: Copy {
     /// Returns the UTF-8 of the character at a place, as a word.
     ///
     /// The word is that of `word`. 0 if there is no character, or none that is known. One load.
-    /// Takes no memory.
     #[inline(always)]
     fn word_at(self, place: u16) -> u32
         requires { IsPlace (stands_for self) place }
@@ -103,7 +99,7 @@ pub trait Pieces: Copy {
         0
     }
 
-    /// Returns the same character as a code unit of UTF-16, or 0. Takes no memory.
+    /// Returns the same character as a code unit of UTF-16, or 0.
     #[inline(always)]
     fn unit_at(self, place: u16) -> u16
         requires { IsPlace (stands_for self) place }
@@ -118,8 +114,7 @@ pub trait Pieces: Copy {
     /// Returns the UTF-8 of the character that the first byte is, or the pair, as a word.
     ///
     /// The word has the bytes, the first lowest, and their number in the highest byte. 0 if they
-    /// are no character, or none that is known. No branch and at most one load from a table. Takes
-    /// no memory.
+    /// are no character, or none that is known. No branch and at most one load from a table.
     #[inline(always)]
     fn word(self, is_pair: bool, first: u8, second: u8) -> u32
         ensures { 0 < result → MeansWord (means self) (byte_or_pair is_pair first second) result }
@@ -129,7 +124,7 @@ pub trait Pieces: Copy {
         0
     }
 
-    /// Returns the same character as a code unit of UTF-16, or 0. Takes no memory.
+    /// Returns the same character as a code unit of UTF-16, or 0.
     #[inline(always)]
     fn unit(self, is_pair: bool, first: u8, second: u8) -> u16
         ensures { 0 < result → MeansUnit (means self) (byte_or_pair is_pair first second) result }
@@ -142,7 +137,7 @@ pub trait Pieces: Copy {
     /// Returns whether looking each byte up by `word` and `unit` pays: most bytes are a character
     /// by themselves.
     ///
-    /// The output is the same either way. Takes no memory.
+    /// The output is the same either way.
     fn are_bytes(self) -> bool {
         let _pieces = self;
         false
@@ -151,9 +146,8 @@ pub trait Pieces: Copy {
 
 /// Writes characters from the front of `src`, as `put_pieces` of the output does.
 ///
-/// Returns their length in bytes. Takes no memory. It is a function of its own, so that the loop
-/// over bytes that calls it stays small enough to be inlined into the loop that replaces malformed
-/// sequences.
+/// Returns their length in bytes. It is a function of its own, so that the loop over bytes that
+/// calls it stays small enough to be inlined into the loop that replaces malformed sequences.
 #[inline(never)]
 pub fn put_run<U: Units, P: Pieces>(out: &mut U, pieces: P, src: &[u8]) -> usize
     ensures { PutsPieces U.units_of (P.means pieces) (U.output out.old) (U.output out.new) src.now

@@ -17,8 +17,6 @@ pub struct Places {
 
 impl Places {
     /// Returns the places of pairs for bytes from 0x80 on, and each byte below as its own place.
-    ///
-    /// Takes no memory.
     #[inline(always)]
     pub fn with_ascii(pairs: u16x16, first: u8x16) -> Places
         ensures leads { (i : ℕ) → i < 16 →
@@ -37,8 +35,6 @@ impl Places {
 
 /// Returns the number of each byte from `first` to `last`, where `first` has `number`, and of any
 /// other byte its lane of `others`.
-///
-/// Takes no memory.
 #[inline(always)]
 pub fn numbers_in(bytes: u8x16, first: u8, last: u8, number: u8, others: u8x16) -> u8x16
     requires range { first ≤ last }
@@ -54,8 +50,6 @@ pub fn numbers_in(bytes: u8x16, first: u8, last: u8, number: u8, others: u8x16) 
 
 /// Returns the places at these rows and columns, where rows of `row_len` places come after the 256
 /// of single bytes.
-///
-/// Takes no memory.
 #[inline(always)]
 pub fn places_at(rows: u8x16, columns: u8x16, row_len: u16) -> u16x16
     requires { row_len < 0xFF }

@@ -6,7 +6,7 @@ ghost use Rattle.enc_units.specs.Rest.{without_continuations};
 /// Sets the bytes from 0x80 to 0xBF that directly follow the first `at` to 00.
 ///
 /// They are the rest of a character whose first bytes were overwritten. All other bytes are
-/// unchanged. Takes no memory. Condition: there are at least `at` bytes.
+/// unchanged. Condition: there are at least `at` bytes.
 pub fn clear_rest(dst: &mut [u8], at: usize)
     requires { at ≤ length dst.old }
     ensures front { take at dst.new ≡ take at dst.old }

@@ -31,7 +31,7 @@ pub struct StringTail<'a> {
 }
 
 impl<'a> StringTail<'a> {
-    /// Returns an output into the whole spare capacity. Takes no memory.
+    /// Returns an output into the whole spare capacity.
     pub fn new(text: &'a mut String) -> StringTail<'a>
         ensures same_borrow { result.text.ghost_name ≡ text.entry.ghost_name }
         ensures now { result.text.now ≡ text.old }

@@ -21,7 +21,7 @@ pub struct Utf16Chars<'a> {
 }
 
 impl<'a> Utf16Chars<'a> {
-    /// Returns the input of all characters of some code units. Takes no memory.
+    /// Returns the input of all characters of some code units.
     pub fn new(units: &'a [u16]) -> Utf16Chars<'a>
         ensures { result.units.now ≡ units.now }
     {

@@ -37,7 +37,7 @@ pub struct Utf16Slice<'a> {
 }
 
 impl<'a> Utf16Slice<'a> {
-    /// Returns an output into the whole slice, with nothing written. Takes no memory.
+    /// Returns an output into the whole slice, with nothing written.
     pub fn new(dst: &'a mut [u16]) -> Utf16Slice<'a>
         ensures same_borrow { result.dst.ghost_name ≡ dst.entry.ghost_name }
         ensures now { result.dst.now ≡ dst.old }

@@ -16,7 +16,7 @@ pub struct Utf8Chars<'a> {
 }
 
 impl<'a> Utf8Chars<'a> {
-    /// Returns the input of all characters of a text. Takes no memory.
+    /// Returns the input of all characters of a text.
     pub fn new(text: &'a str) -> Utf8Chars<'a>
         ensures { result.text.now ≡ text.now }
     {

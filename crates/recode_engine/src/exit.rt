@@ -5,7 +5,7 @@ ghost use Rattle.recode_engine.specs.Status.{status_of};
 
 use crate::engine::RecodeFault;
 
-/// Returns the exit status of a run. Takes no memory.
+/// Returns the exit status of a run.
 ///
 /// 0 if nothing was replaced, 1 if something was, and 3 after a fault.
 pub fn status(outcome: &Result<bool, RecodeFault>) -> u8

@@ -8,7 +8,7 @@ use enc_stream::Encoding;
 /// Returns the encodings that two labels name, to decode from and to write.
 ///
 /// The output encoding of the second is written. `None` if one of them names replacement or no
-/// encoding. Takes no memory.
+/// encoding.
 pub fn labels(from: &str, to: &str) -> Option<(Encoding, Encoding)>
     ensures from { IfSome result (λ encodings. NamesEncoding from.now encodings.0) }
     ensures to { IfSome result (λ encodings. NamesEncoding to.now encodings.1) }

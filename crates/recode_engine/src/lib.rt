@@ -1,7 +1,8 @@
 //! Recoding: [`run`] reads bytes from a [`Source`], recodes them, and writes them to a [`Sink`].
 //!
 //! [`FromRead`] and [`FromWrite`] make a source of any reader and a sink of any writer. [`labels`]
-//! finds the encodings of a run by their labels, and [`status`] returns its exit status.
+//! finds the encodings of a run by their labels, and [`status`] returns its exit status. No call
+//! takes memory.
 #![tactic(auto)]
 
 mod engine;

@@ -42,7 +42,7 @@ pub struct FromWrite<W: Write> {
 }
 
 impl<W: Write> FromWrite<W> {
-    /// Returns a sink that writes to `inner` and has not failed. Takes no memory.
+    /// Returns a sink that writes to `inner` and has not failed.
     pub fn new(inner: W) -> FromWrite<W>
         ensures inner { result.inner ≡ inner }
         ensures not_failed { result.failed ≡ false }

@@ -243,7 +243,7 @@ impl<B: BarredChars> CharEncoder for ShiftingEncoder<B> {
 impl Iso2022JpEncoder {
     /// Returns an encoder at the start of a text, with barred characters.
     ///
-    /// The characters of `barred` are unmappable too. ASCII is never barred. Takes no memory.
+    /// The characters of `barred` are unmappable too. ASCII is never barred.
     pub fn new(barred: &'static [char]) -> Iso2022JpEncoder
         ensures set { result.set ≡ Ascii }
         ensures barred { result.barred.now ≡ barred.now }

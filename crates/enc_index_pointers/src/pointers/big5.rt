@@ -10,8 +10,7 @@ use crate::pages::big5::{BIG5_PAGE_OF, BIG5_POINTERS};
 
 /// Returns the pointer of a character in index Big5, or `None` if there is none.
 ///
-/// For Big5. It is the first from 5024 on, or the last for U+2550, U+255E, U+2561, U+256A, U+5341 and U+5345.
-/// Two loads. Takes no memory.
+/// For Big5. It is the first from 5024 on, or the last for U+2550, U+255E, U+2561, U+256A, U+5341 and U+5345. Two loads.
 #[inline(always)]
 pub fn big5(c: char) -> Option<u32>
     ensures value { result ≡ big5_pointer c }

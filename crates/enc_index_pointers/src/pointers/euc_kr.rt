@@ -10,8 +10,7 @@ use crate::pages::euc_kr::{EUC_KR_PAGE_OF, EUC_KR_POINTERS};
 
 /// Returns the pointer of a character in index EUC-KR, or `None` if there is none.
 ///
-/// For EUC-KR. It is the first.
-/// Two loads. Takes no memory.
+/// For EUC-KR. It is the first. Two loads.
 #[inline(always)]
 pub fn euc_kr(c: char) -> Option<u32>
     ensures value { result ≡ euc_kr_pointer c }

@@ -10,8 +10,7 @@ use crate::pages::gb18030::{GB18030_PAGE_OF, GB18030_POINTERS};
 
 /// Returns the pointer of a character in index gb18030, or `None` if there is none.
 ///
-/// For GBK and gb18030. It is the first.
-/// Two loads. Takes no memory.
+/// For GBK and gb18030. It is the first. Two loads.
 #[inline(always)]
 pub fn gb18030(c: char) -> Option<u32>
     ensures value { result ≡ gb18030_pointer c }

@@ -10,7 +10,7 @@ use enc_index::run_with;
 /// Returns the index gb18030 ranges pointer, for four bytes, or `None` if there is none.
 ///
 /// It is 7457 for U+E7C7, and otherwise the pointer in the range that has the character. A binary
-/// search. Takes no memory.
+/// search.
 pub fn gb18030_ranges(c: char) -> Option<u32>
     ensures value { result ≡ gb18030_ranges_pointer c }
     ensures bound { IfSome result (λ p. p < 1237576) }

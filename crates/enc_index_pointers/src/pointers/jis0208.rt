@@ -10,8 +10,7 @@ use crate::pages::jis0208::{JIS0208_PAGE_OF, JIS0208_POINTERS};
 
 /// Returns the pointer of a character in index jis0208, or `None` if there is none.
 ///
-/// For EUC-JP and ISO-2022-JP. It is the first, if that is below 8836.
-/// Two loads. Takes no memory.
+/// For EUC-JP and ISO-2022-JP. It is the first, if that is below 8836. Two loads.
 #[inline(always)]
 pub fn jis0208(c: char) -> Option<u32>
     ensures value { result ≡ jis0208_pointer c }

@@ -10,8 +10,7 @@ use crate::pages::shift_jis::{SHIFT_JIS_PAGE_OF, SHIFT_JIS_POINTERS};
 
 /// Returns the pointer of a character in index jis0208, or `None` if there is none.
 ///
-/// For Shift_JIS. It is the first that is not 8272 to 8835.
-/// Two loads. Takes no memory.
+/// For Shift_JIS. It is the first that is not 8272 to 8835. Two loads.
 #[inline(always)]
 pub fn shift_jis(c: char) -> Option<u32>
     ensures value { result ≡ shift_jis_pointer c }

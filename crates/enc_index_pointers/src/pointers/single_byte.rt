@@ -9,7 +9,7 @@ use enc_index::SingleByteIndex;
 
 /// Returns the index pointer in the index of a legacy single-byte encoding.
 ///
-/// It is the first, which is a byte less 0x80. `None` if there is none. Two loads. Takes no memory.
+/// It is the first, which is a byte less 0x80. `None` if there is none. Two loads.
 #[inline(always)]
 pub fn single_byte(index: SingleByteIndex, c: char) -> Option<u32>
     ensures value { result ≡ single_byte_pointer index c }

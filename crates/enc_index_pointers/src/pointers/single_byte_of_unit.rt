@@ -10,7 +10,7 @@ use enc_index::SingleByteIndex;
 /// Returns the byte of a character below U+0800 in a legacy single-byte encoding, or 0.
 ///
 /// It is the character itself in ASCII, and 0x80 and the index pointer beyond ASCII. U+07FF has
-/// none. One load. Takes no memory. Condition: the character is below U+0800.
+/// none. One load. Condition: the character is below U+0800.
 #[inline(always)]
 pub fn single_byte_of_unit(index: SingleByteIndex, unit: u16) -> u8
     requires { unit < 0x800 }

@@ -16,7 +16,7 @@ use crate::life_cycle::LifeCycle;
 use enc_codec::RawDecoder;
 
 impl Decoder {
-    /// Returns the encoding that it decodes. A sniffed byte order mark changes it. Takes no memory.
+    /// Returns the encoding that it decodes. A sniffed byte order mark changes it.
     pub fn encoding(&self) -> Encoding
         ensures { result ≡ self.now.encoding }
     {
@@ -25,7 +25,7 @@ impl Decoder {
 
     /// Returns whether a call with `last` has returned `InputEmpty`.
     ///
-    /// No call may follow then. Takes no memory.
+    /// No call may follow then.
     pub fn is_finished(&self) -> bool
         ensures { result ≡ has_finished self.now }
     {
@@ -49,7 +49,7 @@ impl Decoder {
     ///
     /// It is enough for `byte_length` more bytes, in [`Decoder::decode_to_utf8`] and the calls to a
     /// str and to a String. `None` if a step of the formula overflows `usize`. The decoder is
-    /// unchanged. Takes no memory. Condition: it is not finished.
+    /// unchanged. Condition: it is not finished.
     pub fn max_utf8_buffer_length(&self, byte_length: usize) -> Option<usize>
         requires { has_finished self.now ≡ false }
         ensures length { result ≡ max_length query.Utf8 self.now byte_length }
@@ -74,7 +74,7 @@ impl Decoder {
     /// Returns the length in code units to allocate for UTF-16, with replacement or without.
     ///
     /// It is enough for `byte_length` more bytes. `None` if a step of the formula overflows
-    /// `usize`. The decoder is unchanged. Takes no memory. Condition: it is not finished.
+    /// `usize`. The decoder is unchanged. Condition: it is not finished.
     pub fn max_utf16_buffer_length(&self, byte_length: usize) -> Option<usize>
         requires { has_finished self.now ≡ false }
         ensures length { result ≡ max_length query.Utf16 self.now byte_length }
@@ -87,8 +87,7 @@ impl Decoder {
     /// Returns the length of a prefix of `bytes` that is Latin-1, if they are the next input.
     ///
     /// In such a prefix each byte is a valid sequence by itself, of the character with the same
-    /// number. In Shift_JIS the byte 0x80 counts, which is U+0080. The decoder is unchanged. Takes
-    /// no memory.
+    /// number. In Shift_JIS the byte 0x80 counts, which is U+0080. The decoder is unchanged.
     ///
     /// It is `None` if that holds of no byte:
     ///

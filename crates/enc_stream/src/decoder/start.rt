@@ -39,7 +39,7 @@ fn first_life(encoding: Encoding, handling: BomHandling) -> LifeCycle
 
 /// Returns the length in bytes to allocate for the UTF-8 of a whole input, without replacement.
 ///
-/// It is that of a decoder at the start, which it does not make. Takes no memory.
+/// It is that of a decoder at the start, which it does not make.
 pub(crate) fn whole_length(
     encoding: Encoding,
     handling: BomHandling,
@@ -56,7 +56,7 @@ impl Encoding {
     /// Returns a decoder that looks for all three byte order marks (Encoding Standard 6, "decode").
     ///
     /// If the input begins with one, the decoder changes to the byte order mark's encoding. It has
-    /// read nothing. Takes no memory.
+    /// read nothing.
     pub fn new_decoder(self) -> Decoder
         ensures { result ≡ fresh_decoder handling.Sniff self }
     {
@@ -66,7 +66,7 @@ impl Encoding {
     /// Returns a decoder that removes the byte order mark of its own encoding.
     ///
     /// That is "UTF-8 decode" of Encoding Standard 6, for any encoding. Only UTF-8, UTF-16BE and
-    /// UTF-16LE have a byte order mark. The decoder has read nothing. Takes no memory.
+    /// UTF-16LE have a byte order mark. The decoder has read nothing.
     pub fn new_decoder_with_bom_removal(self) -> Decoder
         ensures { result ≡ fresh_decoder handling.Remove self }
     {
@@ -76,7 +76,7 @@ impl Encoding {
     /// Returns a decoder that looks for no byte order mark.
     ///
     /// That is "UTF-8 decode without BOM" of Encoding Standard 6, for any encoding. The decoder has
-    /// read nothing. Takes no memory.
+    /// read nothing.
     pub fn new_decoder_without_bom_handling(self) -> Decoder
         ensures { result ≡ fresh_decoder handling.Off self }
     {

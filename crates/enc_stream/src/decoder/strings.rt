@@ -22,7 +22,7 @@ impl Decoder {
     /// afterwards. The text written may end within a character of the old text. Then the rest of
     /// that character (bytes 0x80 to 0xBF) becomes 00. All later bytes of `dst` are unchanged.
     ///
-    /// Takes no memory. Conditions: the decoder is not finished, and `dst` is well-formed UTF-8.
+    /// Conditions: the decoder is not finished, and `dst` is well-formed UTF-8.
     pub fn decode_to_str(
         &mut self,
         src: &[u8],
@@ -60,7 +60,7 @@ impl Decoder {
     /// The same as [`Decoder::decode_to_utf8_without_replacement`], except that all of `dst` is
     /// well-formed UTF-8 afterwards, as with [`Decoder::decode_to_str`].
     ///
-    /// Takes no memory. Conditions: the decoder is not finished, and `dst` is well-formed UTF-8.
+    /// Conditions: the decoder is not finished, and `dst` is well-formed UTF-8.
     pub fn decode_to_str_without_replacement(
         &mut self,
         src: &[u8],
