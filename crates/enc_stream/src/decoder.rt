@@ -1,6 +1,6 @@
 //! Decoders.
 
-ghost use Rattle.std.specs.Prelude.{◌≡◌, ℕ, ◌≤◌, false, length, take, drop};
+ghost use Rattle.std.specs.Prelude.{◌≡◌, ℕ, ◌+◌, ◌≤◌, false, length, take, drop};
 ghost use Rattle.std.specs.Char.{encode_utf8};
 ghost use Rattle.std.specs.Char.Escape.{encode_utf16};
 ghost use Rattle.std.specs.Str.{IsUtf8};
@@ -8,7 +8,7 @@ ghost use Rattle.enc_units.specs.Results.{decoder_result_of};
 ghost use Rattle.enc_decoder.specs.Call.{Replacement, Fatal, reaches_end};
 ghost use Rattle.enc_decoder.specs.Replacing.{replaces, decode_error_mode};
 ghost use Rattle.enc_stream.specs.Decoding.{has_finished, LeavesFewerBytes, AnswersDecodeInto};
-ghost use Rattle.enc_stream.specs.Decoding.{AnswersDecode};
+ghost use Rattle.enc_stream.specs.Decoding.{AnswersDecode, ReportsBytesSoFar};
 
 mod queries;
 mod start;
@@ -87,7 +87,7 @@ impl Decoder {
         last: bool,
         mode: ErrorMode,
     ) -> DecoderOutcome
-        requires { has_finished self.old ≡ false }
+        requires unfinished { has_finished self.old ≡ false }
         ensures { AnswersDecodeInto U.units_of (decode_error_mode (replaces mode)) self.old self.new
             src.now last (U.output out.old) (U.output out.new) result.result result.read
             result.replaced }
@@ -137,7 +137,7 @@ impl Decoder {
         dst: &mut [u8],
         last: bool,
     ) -> (CoderResult, usize, usize, bool)
-        requires { has_finished self.old ≡ false }
+        requires unfinished { has_finished self.old ≡ false }
         ensures call { AnswersDecode encode_utf8 4 self.old self.new (record {
           src = src.now;
           last = last;
@@ -153,6 +153,7 @@ impl Decoder {
         ensures text { IsUtf8 (take result.2 dst.new) }
         ensures rest { drop result.2 dst.new ≡ drop result.2 dst.old }
         ensures ended { has_finished self.new ≡ reaches_end last (decoder_result_of result.0) }
+        ensures pending { length self.new.pending ≤ length self.old.pending + result.1 }
         ensures progress { (result.0 ≡ CoderResult.InputEmpty → ⊥) → 4 ≤ length dst.old →
             LeavesFewerBytes self.old self.new src.now result.1 }
     {
@@ -186,7 +187,7 @@ impl Decoder {
         dst: &mut [u8],
         last: bool,
     ) -> (DecoderResult, usize, usize)
-        requires { has_finished self.old ≡ false }
+        requires unfinished { has_finished self.old ≡ false }
         ensures call { AnswersDecode encode_utf8 4 self.old self.new (record {
           src = src.now;
           last = last;
@@ -202,6 +203,8 @@ impl Decoder {
         ensures text { IsUtf8 (take result.2 dst.new) }
         ensures rest { drop result.2 dst.new ≡ drop result.2 dst.old }
         ensures ended { has_finished self.new ≡ reaches_end last result.0 }
+        ensures pending { length self.new.pending ≤ length self.old.pending + result.1 }
+        ensures within { ReportsBytesSoFar self.old result.0 result.1 }
         ensures progress { (result.0 ≡ DecoderResult.InputEmpty → ⊥) → 4 ≤ length dst.old →
             LeavesFewerBytes self.old self.new src.now result.1 }
     {
@@ -224,7 +227,7 @@ impl Decoder {
         dst: &mut [u16],
         last: bool,
     ) -> (CoderResult, usize, usize, bool)
-        requires { has_finished self.old ≡ false }
+        requires unfinished { has_finished self.old ≡ false }
         ensures call { AnswersDecode encode_utf16 2 self.old self.new (record {
           src = src.now;
           last = last;
@@ -239,6 +242,7 @@ impl Decoder {
         ensures written { result.2 ≤ length dst.old }
         ensures rest { drop result.2 dst.new ≡ drop result.2 dst.old }
         ensures ended { has_finished self.new ≡ reaches_end last (decoder_result_of result.0) }
+        ensures pending { length self.new.pending ≤ length self.old.pending + result.1 }
         ensures progress { (result.0 ≡ CoderResult.InputEmpty → ⊥) → 2 ≤ length dst.old →
             LeavesFewerBytes self.old self.new src.now result.1 }
     {
@@ -266,7 +270,7 @@ impl Decoder {
         dst: &mut [u16],
         last: bool,
     ) -> (DecoderResult, usize, usize)
-        requires { has_finished self.old ≡ false }
+        requires unfinished { has_finished self.old ≡ false }
         ensures call { AnswersDecode encode_utf16 2 self.old self.new (record {
           src = src.now;
           last = last;
@@ -281,6 +285,8 @@ impl Decoder {
         ensures written { result.2 ≤ length dst.old }
         ensures rest { drop result.2 dst.new ≡ drop result.2 dst.old }
         ensures ended { has_finished self.new ≡ reaches_end last result.0 }
+        ensures pending { length self.new.pending ≤ length self.old.pending + result.1 }
+        ensures within { ReportsBytesSoFar self.old result.0 result.1 }
         ensures progress { (result.0 ≡ DecoderResult.InputEmpty → ⊥) → 2 ≤ length dst.old →
             LeavesFewerBytes self.old self.new src.now result.1 }
     {

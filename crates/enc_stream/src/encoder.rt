@@ -88,7 +88,7 @@ impl Encoding {
     /// Takes no memory. Condition: each character of the list is U+0080 or above
     /// ([`Encoding::barred_ok`]).
     pub fn new_encoder_barring(self, barred: &'static [char]) -> Encoder
-        requires { are_beyond_ascii barred.now ≡ true }
+        requires beyond_ascii { are_beyond_ascii barred.now ≡ true }
         ensures { result ≡ fresh_encoder barred.now self }
     {
         let encoding = self.output_encoding();

@@ -1,6 +1,6 @@
 //! Decoding into strings: over the text of a str, and at the end of a String.
 
-ghost use Rattle.std.specs.Prelude.{◌≡◌, ◌-◌, ◌≤◌, false, length, take, drop};
+ghost use Rattle.std.specs.Prelude.{◌≡◌, ◌+◌, ◌-◌, ◌≤◌, false, length, take, drop};
 ghost use Rattle.std.specs.Char.{encode_utf8};
 ghost use Rattle.std.specs.String.{string_bytes, string_len, string_capacity};
 ghost use Rattle.std.specs.Str.{IsUtf8};
@@ -9,7 +9,7 @@ ghost use Rattle.enc_units.specs.Rest.{without_continuations};
 ghost use Rattle.enc_units.specs.Results.{decoder_result_of};
 ghost use Rattle.enc_decoder.specs.Call.{Replacement, Fatal, reaches_end};
 ghost use Rattle.enc_stream.specs.Decoding.{has_finished, LeavesFewerBytes};
-ghost use Rattle.enc_stream.specs.Decoding.{AnswersDecode};
+ghost use Rattle.enc_stream.specs.Decoding.{AnswersDecode, ReportsBytesSoFar};
 
 use super::{Decoder, unreported};
 use enc_decoder::ErrorMode;
@@ -29,7 +29,7 @@ impl Decoder {
         dst: &mut [u8],
         last: bool,
     ) -> (CoderResult, usize, usize, bool)
-        requires open { has_finished self.old ≡ false }
+        requires unfinished { has_finished self.old ≡ false }
         requires utf8 { IsWellFormedUtf8 dst.old }
         ensures call { AnswersDecode encode_utf8 4 self.old self.new (record {
           src = src.now;
@@ -47,6 +47,7 @@ impl Decoder {
         ensures rest { drop result.2 dst.new ≡ without_continuations (drop result.2 dst.old) }
         ensures utf8 { IsWellFormedUtf8 dst.new }
         ensures ended { has_finished self.new ≡ reaches_end last (decoder_result_of result.0) }
+        ensures pending { length self.new.pending ≤ length self.old.pending + result.1 }
         ensures progress { (result.0 ≡ CoderResult.InputEmpty → ⊥) → 4 ≤ length dst.old →
             LeavesFewerBytes self.old self.new src.now result.1 }
     {
@@ -67,7 +68,7 @@ impl Decoder {
         dst: &mut [u8],
         last: bool,
     ) -> (DecoderResult, usize, usize)
-        requires open { has_finished self.old ≡ false }
+        requires unfinished { has_finished self.old ≡ false }
         requires utf8 { IsWellFormedUtf8 dst.old }
         ensures call { AnswersDecode encode_utf8 4 self.old self.new (record {
           src = src.now;
@@ -85,6 +86,8 @@ impl Decoder {
         ensures rest { drop result.2 dst.new ≡ without_continuations (drop result.2 dst.old) }
         ensures utf8 { IsWellFormedUtf8 dst.new }
         ensures ended { has_finished self.new ≡ reaches_end last result.0 }
+        ensures pending { length self.new.pending ≤ length self.old.pending + result.1 }
+        ensures within { ReportsBytesSoFar self.old result.0 result.1 }
         ensures progress { (result.0 ≡ DecoderResult.InputEmpty → ⊥) → 4 ≤ length dst.old →
             LeavesFewerBytes self.old self.new src.now result.1 }
     {
@@ -107,7 +110,7 @@ impl Decoder {
         dst: &mut String,
         last: bool,
     ) -> (CoderResult, usize, bool)
-        requires { has_finished self.old ≡ false }
+        requires unfinished { has_finished self.old ≡ false }
         ensures call { AnswersDecode encode_utf8 4 self.old self.new (record {
           src = src.now;
           last = last;
@@ -123,6 +126,7 @@ impl Decoder {
             ≡ string_bytes dst.old }
         ensures capacity { string_capacity dst.old ≤ string_capacity dst.new }
         ensures ended { has_finished self.new ≡ reaches_end last (decoder_result_of result.0) }
+        ensures pending { length self.new.pending ≤ length self.old.pending + result.1 }
         ensures progress { (result.0 ≡ CoderResult.InputEmpty → ⊥) →
             4 ≤ string_capacity dst.old - string_len dst.old →
             LeavesFewerBytes self.old self.new src.now result.1 }
@@ -146,7 +150,7 @@ impl Decoder {
         dst: &mut String,
         last: bool,
     ) -> (DecoderResult, usize)
-        requires { has_finished self.old ≡ false }
+        requires unfinished { has_finished self.old ≡ false }
         ensures call { AnswersDecode encode_utf8 4 self.old self.new (record {
           src = src.now;
           last = last;
@@ -162,6 +166,8 @@ impl Decoder {
             ≡ string_bytes dst.old }
         ensures capacity { string_capacity dst.old ≤ string_capacity dst.new }
         ensures ended { has_finished self.new ≡ reaches_end last result.0 }
+        ensures pending { length self.new.pending ≤ length self.old.pending + result.1 }
+        ensures within { ReportsBytesSoFar self.old result.0 result.1 }
         ensures progress { (result.0 ≡ DecoderResult.InputEmpty → ⊥) →
             4 ≤ string_capacity dst.old - string_len dst.old →
             LeavesFewerBytes self.old self.new src.now result.1 }
