@@ -18,7 +18,8 @@ ghost use Rattle.enc_stream.specs.OwnText.{owned_str_capacity, owned_slice_capac
 
 use crate::bom::BomHandling;
 use crate::encoding::Encoding;
-use crate::one_shot::{OneShotError, convert_strictly, convert_text, convert_whole};
+use crate::one_shot::{convert_strictly, convert_text, convert_whole};
+use crate::one_shot_error::OneShotError;
 use crate::own_text::{encodes_as_itself, own_text};
 use std::alloc::Global;
 use std::borrow::{CowSlice, CowStr};
