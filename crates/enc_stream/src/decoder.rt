@@ -128,9 +128,9 @@ impl Decoder {
     /// - `OutputFull`: the next character, or U+FFFD, does not fit. A later call writes it whole.
     ///   That call gets the unread bytes of `src` again.
     ///
-    /// Any length of `dst` will do, 0 too; with four bytes each call makes progress. The bytes of
-    /// `dst` after those written are unchanged. Takes no memory. Condition: the decoder is not
-    /// finished.
+    /// Any length of `dst` will do, 0 too; with four bytes each call makes progress: a loop ends by
+    /// `progress`, since the number of bytes pending and unread falls. The bytes of `dst` after
+    /// those written are unchanged. Takes no memory. Condition: the decoder is not finished.
     pub fn decode_to_utf8(
         &mut self,
         src: &[u8],
@@ -175,12 +175,13 @@ impl Decoder {
     ///
     /// - `InputEmpty` and `OutputFull`: as for [`Decoder::decode_to_utf8`].
     /// - `Malformed(l, a)`: the malformed sequence is the l bytes before the last a bytes read so
-    ///   far. It is reported whether or not U+FFFD would fit. A caller who puts U+FFFD in its place
-    ///   gets the text of calls with replacement.
+    ///   far, so its offset is the number of bytes read so far less a and l (`within`). It is
+    ///   reported whether or not U+FFFD would fit. A caller who puts U+FFFD in its place gets the
+    ///   text of calls with replacement.
     ///
-    /// Any length of `dst` will do, 0 too; with four bytes each call makes progress. The bytes of
-    /// `dst` after those written are unchanged. Takes no memory. Condition: the decoder is not
-    /// finished.
+    /// Any length of `dst` will do, 0 too; with four bytes each call makes progress: a loop ends by
+    /// `progress`, since the number of bytes pending and unread falls. The bytes of `dst` after
+    /// those written are unchanged. Takes no memory. Condition: the decoder is not finished.
     pub fn decode_to_utf8_without_replacement(
         &mut self,
         src: &[u8],
@@ -218,9 +219,10 @@ impl Decoder {
     /// The same as [`Decoder::decode_to_utf8`], except that `dst` and the number written are in
     /// code units.
     ///
-    /// Any length of `dst` will do, 0 too; with two code units each call makes progress. The code
-    /// units of `dst` after those written are unchanged. Takes no memory. Condition: the decoder is
-    /// not finished.
+    /// Any length of `dst` will do, 0 too; with two code units each call makes progress: a loop
+    /// ends by `progress`, since the number of bytes pending and unread falls. The code units of
+    /// `dst` after those written are unchanged. Takes no memory. Condition: the decoder is not
+    /// finished.
     pub fn decode_to_utf16(
         &mut self,
         src: &[u8],
@@ -261,9 +263,10 @@ impl Decoder {
     /// The same as [`Decoder::decode_to_utf8_without_replacement`], except that `dst` and the
     /// number written are in code units.
     ///
-    /// Any length of `dst` will do, 0 too; with two code units each call makes progress. The code
-    /// units of `dst` after those written are unchanged. Takes no memory. Condition: the decoder is
-    /// not finished.
+    /// Any length of `dst` will do, 0 too; with two code units each call makes progress: a loop
+    /// ends by `progress`, since the number of bytes pending and unread falls. The code units of
+    /// `dst` after those written are unchanged. Takes no memory. Condition: the decoder is not
+    /// finished.
     pub fn decode_to_utf16_without_replacement(
         &mut self,
         src: &[u8],

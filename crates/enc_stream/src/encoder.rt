@@ -190,7 +190,9 @@ impl Encoder {
     /// nothing is left to do, and otherwise `OutputFull`.
     ///
     /// Any length of `dst` will do, 0 too; with 14 bytes, or 4 if none are kept free, each call
-    /// makes progress. The bytes of `dst` after those written are unchanged. Takes no memory.
+    /// makes progress: a loop ends by `progress` or `progress_if_none_kept`, since fewer steps are
+    /// left (`steps_left`: an escape sequence, a character's bytes and a report are a step each).
+    /// The bytes of `dst` after those written are unchanged. Takes no memory.
     pub fn encode_from_utf8(
         &mut self,
         src: &str,
@@ -234,7 +236,7 @@ impl Encoder {
     ///
     /// The same as [`Encoder::encode_from_utf8`], except that the number read is in code units. A
     /// surrogate without its partner in `src` is U+FFFD: so are both halves of a pair that is split
-    /// between two calls.
+    /// between two calls. A loop ends in the same way.
     pub fn encode_from_utf16(
         &mut self,
         src: &[u16],
@@ -278,7 +280,7 @@ impl Encoder {
     /// The same as [`Encoder::encode_from_utf8`] into a slice as long as the Vec's spare capacity,
     /// which may be 0. Returns why the call stopped, the number of bytes read from `src`, and
     /// whether a reference was written. Appends within the capacity, which does not shrink: takes
-    /// no memory.
+    /// no memory. A loop ends in the same way, by the spare capacity.
     pub fn encode_from_utf8_to_vec(
         &mut self,
         src: &str,
@@ -320,7 +322,8 @@ impl Encoder {
     ///
     /// The same as [`Encoder::encode_from_utf8_without_replacement`] into a slice as long as the
     /// Vec's spare capacity, which may be 0. Returns why the call stopped, and the number of bytes
-    /// read from `src`. Appends within the capacity, which does not shrink: takes no memory.
+    /// read from `src`. Appends within the capacity, which does not shrink: takes no memory. A loop
+    /// ends in the same way, by the spare capacity.
     pub fn encode_from_utf8_to_vec_without_replacement(
         &mut self,
         src: &str,
@@ -375,9 +378,10 @@ impl Encoder {
     ///   reference to c (`&#`, its number and `;`) there: the designated character set has these
     ///   characters.
     ///
-    /// Any length of `dst` will do, 0 too; with four bytes each call makes progress. The bytes of a
-    /// character are written together; an escape sequence before it may be written alone. The bytes
-    /// of `dst` after those written are unchanged. Takes no memory.
+    /// Any length of `dst` will do, 0 too; with four bytes each call makes progress: a loop ends by
+    /// `progress`, since fewer steps are left (`steps_left`, as for [`Encoder::encode_from_utf8`]).
+    /// The bytes of a character are written together; an escape sequence before it may be written
+    /// alone. The bytes of `dst` after those written are unchanged. Takes no memory.
     pub fn encode_from_utf8_without_replacement(
         &mut self,
         src: &str,
@@ -413,7 +417,7 @@ impl Encoder {
     ///
     /// The same as [`Encoder::encode_from_utf8_without_replacement`], except that the number read
     /// is in code units. A surrogate without its partner in `src` is U+FFFD: so are both halves of
-    /// a pair that is split between two calls.
+    /// a pair that is split between two calls. A loop ends in the same way.
     pub fn encode_from_utf16_without_replacement(
         &mut self,
         src: &[u16],

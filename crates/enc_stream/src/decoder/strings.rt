@@ -22,7 +22,9 @@ impl Decoder {
     /// afterwards. The text written may end within a character of the old text. Then the rest of
     /// that character (bytes 0x80 to 0xBF) becomes 00. All later bytes of `dst` are unchanged.
     ///
-    /// Takes no memory. Conditions: the decoder is not finished, and `dst` is well-formed UTF-8.
+    /// With four bytes of `dst` a loop ends by `progress`, since the number of bytes pending and
+    /// unread falls. Takes no memory. Conditions: the decoder is not finished, and `dst` is
+    /// well-formed UTF-8.
     pub fn decode_to_str(
         &mut self,
         src: &[u8],
@@ -61,7 +63,9 @@ impl Decoder {
     /// The same as [`Decoder::decode_to_utf8_without_replacement`], except that all of `dst` is
     /// well-formed UTF-8 afterwards, as with [`Decoder::decode_to_str`].
     ///
-    /// Takes no memory. Conditions: the decoder is not finished, and `dst` is well-formed UTF-8.
+    /// With four bytes of `dst` a loop ends by `progress`, since the number of bytes pending and
+    /// unread falls. Takes no memory. Conditions: the decoder is not finished, and `dst` is
+    /// well-formed UTF-8.
     pub fn decode_to_str_without_replacement(
         &mut self,
         src: &[u8],
@@ -102,8 +106,9 @@ impl Decoder {
     /// which may be 0. Returns why the call stopped, the number of bytes read from `src`, and
     /// whether a malformed sequence was replaced.
     ///
-    /// Appends within the capacity, which does not shrink: takes no memory. Condition: the decoder
-    /// is not finished.
+    /// Appends within the capacity, which does not shrink: takes no memory. With four bytes of spare
+    /// capacity a loop ends by `progress`, since the number of bytes pending and unread falls.
+    /// Condition: the decoder is not finished.
     pub fn decode_to_string(
         &mut self,
         src: &[u8],
@@ -142,8 +147,9 @@ impl Decoder {
     /// String's spare capacity, which may be 0. Returns why the call stopped, and the number of
     /// bytes read from `src`.
     ///
-    /// Appends within the capacity, which does not shrink: takes no memory. Condition: the decoder
-    /// is not finished.
+    /// Appends within the capacity, which does not shrink: takes no memory. With four bytes of spare
+    /// capacity a loop ends by `progress`, since the number of bytes pending and unread falls.
+    /// Condition: the decoder is not finished.
     pub fn decode_to_string_without_replacement(
         &mut self,
         src: &[u8],
