@@ -106,9 +106,9 @@ impl Decoder {
     /// which may be 0. Returns why the call stopped, the number of bytes read from `src`, and
     /// whether a malformed sequence was replaced.
     ///
-    /// Appends within the capacity, which does not shrink: takes no memory. With four bytes of spare
-    /// capacity a loop ends by `progress`, since the number of bytes pending and unread falls.
-    /// Condition: the decoder is not finished.
+    /// Appends within the capacity, which does not shrink: takes no memory. With four bytes of
+    /// spare capacity a loop ends by `progress`, since the number of bytes pending and unread
+    /// falls. Condition: the decoder is not finished.
     pub fn decode_to_string(
         &mut self,
         src: &[u8],
@@ -147,9 +147,9 @@ impl Decoder {
     /// String's spare capacity, which may be 0. Returns why the call stopped, and the number of
     /// bytes read from `src`.
     ///
-    /// Appends within the capacity, which does not shrink: takes no memory. With four bytes of spare
-    /// capacity a loop ends by `progress`, since the number of bytes pending and unread falls.
-    /// Condition: the decoder is not finished.
+    /// Appends within the capacity, which does not shrink: takes no memory. With four bytes of
+    /// spare capacity a loop ends by `progress`, since the number of bytes pending and unread
+    /// falls. Condition: the decoder is not finished.
     pub fn decode_to_string_without_replacement(
         &mut self,
         src: &[u8],
