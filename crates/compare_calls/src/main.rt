@@ -45,7 +45,7 @@ struct Buffers {
 
 /// Gives a decoder the input of a call whose answer does not count, and which is not the last.
 fn feed(decoder: &mut Decoder, call: Call, buffers: &mut Buffers)
-    requires { has_finished decoder.old ≡ false }
+    requires unfinished { has_finished decoder.old ≡ false }
     ensures { has_finished decoder.new ≡ false }
 {
     let (result, _, _, _) = decoder.decode_to_utf8(call.src, &mut buffers.bytes, false);
@@ -57,7 +57,7 @@ fn feed(decoder: &mut Decoder, call: Call, buffers: &mut Buffers)
 
 /// Makes a call of a decoder.
 fn decode(decoder: &mut Decoder, call: Call, buffers: &mut Buffers) -> Answer
-    requires going { has_finished decoder.old ≡ false }
+    requires unfinished { has_finished decoder.old ≡ false }
     ensures written { result.written ≤ 4096 }
 {
     let Call { src, last, .. } = call;
@@ -84,7 +84,7 @@ fn decode(decoder: &mut Decoder, call: Call, buffers: &mut Buffers) -> Answer
 
 /// Returns the length that the query of a call returns, or 0 for none.
 fn decoded_length(decoder: &Decoder, call: Call) -> usize
-    requires { has_finished decoder.now ≡ false }
+    requires unfinished { has_finished decoder.now ≡ false }
 {
     let len = call.src.len();
     let length = match (call.utf16, call.replaces) {

@@ -222,6 +222,12 @@ abbrev pub LeavesFewerBytes : DecoderState → DecoderState → List ℕ → ℕ
 LeavesFewerBytes old new src read =
     length new.pending + (length src - read) < length old.pending + length src
 
+-- A malformed sequence that a call reports, and the bytes read after it, are among the bytes that
+-- were pending before the call and those that it has read.
+abbrev pub ReportsBytesSoFar : DecoderState → DecoderResult → ℕ → Type 0
+ReportsBytesSoFar old result read = (l a : ℕ) → result ≡ raw.Malformed l a
+    → l + a ≤ length old.pending + read
+
 -- A call of a decoder, for any output. `least` code units hold the text of any sequence.
 pub record AnswersDecode (units_of : ℕ → List ℕ) (least : ℕ) (old new : DecoderState) (c : Call)
     : Type 0 where

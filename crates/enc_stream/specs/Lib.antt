@@ -12,6 +12,7 @@ pub mod Encoder
 pub mod Lengths
 pub mod Need
 pub mod OneShot
+pub mod Errors
 pub mod OwnText
 pub use Rattle.enc_names.specs.EncodingTable
 pub use Rattle.enc_names.specs.LabelIds

@@ -7,7 +7,7 @@ use crate::constants::{UTF_8, UTF_16BE, UTF_16LE};
 use crate::encoding::Encoding;
 
 /// The byte order marks that a decoder looks for.
-#[derive(Clone, Copy)]
+#[derive(Clone, Copy, Debug)]
 pub enum BomHandling {
     /// None.
     Off,

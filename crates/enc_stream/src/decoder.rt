@@ -1,6 +1,6 @@
 //! Decoders.
 
-ghost use Rattle.std.specs.Prelude.{◌≡◌, ℕ, ◌≤◌, false, length, take, drop};
+ghost use Rattle.std.specs.Prelude.{◌≡◌, ℕ, ◌+◌, ◌≤◌, false, length, take, drop};
 ghost use Rattle.std.specs.Char.{encode_utf8};
 ghost use Rattle.std.specs.Char.Escape.{encode_utf16};
 ghost use Rattle.std.specs.Str.{IsUtf8};
@@ -8,7 +8,7 @@ ghost use Rattle.enc_units.specs.Results.{decoder_result_of};
 ghost use Rattle.enc_decoder.specs.Call.{Replacement, Fatal, reaches_end};
 ghost use Rattle.enc_decoder.specs.Replacing.{replaces, decode_error_mode};
 ghost use Rattle.enc_stream.specs.Decoding.{has_finished, LeavesFewerBytes, AnswersDecodeInto};
-ghost use Rattle.enc_stream.specs.Decoding.{AnswersDecode};
+ghost use Rattle.enc_stream.specs.Decoding.{AnswersDecode, ReportsBytesSoFar};
 
 mod queries;
 mod start;
@@ -87,7 +87,7 @@ impl Decoder {
         last: bool,
         mode: ErrorMode,
     ) -> DecoderOutcome
-        requires { has_finished self.old ≡ false }
+        requires unfinished { has_finished self.old ≡ false }
         ensures { AnswersDecodeInto U.units_of (decode_error_mode (replaces mode)) self.old self.new
             src.now last (U.output out.old) (U.output out.new) result.result result.read
             result.replaced }
@@ -128,15 +128,16 @@ impl Decoder {
     /// - `OutputFull`: the next character, or U+FFFD, does not fit. A later call writes it whole.
     ///   That call gets the unread bytes of `src` again.
     ///
-    /// Any length of `dst` will do, 0 too; with four bytes each call makes progress. The bytes of
-    /// `dst` after those written are unchanged. Condition: the decoder is not finished.
+    /// Any length of `dst` will do, 0 too; with four bytes each call makes progress: a loop ends by
+    /// `progress`, since the number of bytes pending and unread falls. The bytes of `dst` after
+    /// those written are unchanged. Condition: the decoder is not finished.
     pub fn decode_to_utf8(
         &mut self,
         src: &[u8],
         dst: &mut [u8],
         last: bool,
     ) -> (CoderResult, usize, usize, bool)
-        requires { has_finished self.old ≡ false }
+        requires unfinished { has_finished self.old ≡ false }
         ensures call { AnswersDecode encode_utf8 4 self.old self.new (record {
           src = src.now;
           last = last;
@@ -152,6 +153,7 @@ impl Decoder {
         ensures text { IsUtf8 (take result.2 dst.new) }
         ensures rest { drop result.2 dst.new ≡ drop result.2 dst.old }
         ensures ended { has_finished self.new ≡ reaches_end last (decoder_result_of result.0) }
+        ensures pending { length self.new.pending ≤ length self.old.pending + result.1 }
         ensures progress { (result.0 ≡ CoderResult.InputEmpty → ⊥) → 4 ≤ length dst.old →
             LeavesFewerBytes self.old self.new src.now result.1 }
     {
@@ -173,18 +175,20 @@ impl Decoder {
     ///
     /// - `InputEmpty` and `OutputFull`: as for [`Decoder::decode_to_utf8`].
     /// - `Malformed(l, a)`: the malformed sequence is the l bytes before the last a bytes read so
-    ///   far. It is reported whether or not U+FFFD would fit. A caller who puts U+FFFD in its place
-    ///   gets the text of calls with replacement.
+    ///   far, so its offset is the number of bytes read so far less a and l (`within`). It is
+    ///   reported whether or not U+FFFD would fit. A caller who puts U+FFFD in its place gets the
+    ///   text of calls with replacement.
     ///
-    /// Any length of `dst` will do, 0 too; with four bytes each call makes progress. The bytes of
-    /// `dst` after those written are unchanged. Condition: the decoder is not finished.
+    /// Any length of `dst` will do, 0 too; with four bytes each call makes progress: a loop ends by
+    /// `progress`, since the number of bytes pending and unread falls. The bytes of `dst` after
+    /// those written are unchanged. Condition: the decoder is not finished.
     pub fn decode_to_utf8_without_replacement(
         &mut self,
         src: &[u8],
         dst: &mut [u8],
         last: bool,
     ) -> (DecoderResult, usize, usize)
-        requires { has_finished self.old ≡ false }
+        requires unfinished { has_finished self.old ≡ false }
         ensures call { AnswersDecode encode_utf8 4 self.old self.new (record {
           src = src.now;
           last = last;
@@ -200,6 +204,8 @@ impl Decoder {
         ensures text { IsUtf8 (take result.2 dst.new) }
         ensures rest { drop result.2 dst.new ≡ drop result.2 dst.old }
         ensures ended { has_finished self.new ≡ reaches_end last result.0 }
+        ensures pending { length self.new.pending ≤ length self.old.pending + result.1 }
+        ensures within { ReportsBytesSoFar self.old result.0 result.1 }
         ensures progress { (result.0 ≡ DecoderResult.InputEmpty → ⊥) → 4 ≤ length dst.old →
             LeavesFewerBytes self.old self.new src.now result.1 }
     {
@@ -213,15 +219,16 @@ impl Decoder {
     /// The same as [`Decoder::decode_to_utf8`], except that `dst` and the number written are in
     /// code units.
     ///
-    /// Any length of `dst` will do, 0 too; with two code units each call makes progress. The code
-    /// units of `dst` after those written are unchanged. Condition: the decoder is not finished.
+    /// Any length of `dst` will do, 0 too; with two code units each call makes progress: a loop
+    /// ends by `progress`, since the number of bytes pending and unread falls. The code units of
+    /// `dst` after those written are unchanged. Condition: the decoder is not finished.
     pub fn decode_to_utf16(
         &mut self,
         src: &[u8],
         dst: &mut [u16],
         last: bool,
     ) -> (CoderResult, usize, usize, bool)
-        requires { has_finished self.old ≡ false }
+        requires unfinished { has_finished self.old ≡ false }
         ensures call { AnswersDecode encode_utf16 2 self.old self.new (record {
           src = src.now;
           last = last;
@@ -236,6 +243,7 @@ impl Decoder {
         ensures written { result.2 ≤ length dst.old }
         ensures rest { drop result.2 dst.new ≡ drop result.2 dst.old }
         ensures ended { has_finished self.new ≡ reaches_end last (decoder_result_of result.0) }
+        ensures pending { length self.new.pending ≤ length self.old.pending + result.1 }
         ensures progress { (result.0 ≡ CoderResult.InputEmpty → ⊥) → 2 ≤ length dst.old →
             LeavesFewerBytes self.old self.new src.now result.1 }
     {
@@ -254,15 +262,16 @@ impl Decoder {
     /// The same as [`Decoder::decode_to_utf8_without_replacement`], except that `dst` and the
     /// number written are in code units.
     ///
-    /// Any length of `dst` will do, 0 too; with two code units each call makes progress. The code
-    /// units of `dst` after those written are unchanged. Condition: the decoder is not finished.
+    /// Any length of `dst` will do, 0 too; with two code units each call makes progress: a loop
+    /// ends by `progress`, since the number of bytes pending and unread falls. The code units of
+    /// `dst` after those written are unchanged. Condition: the decoder is not finished.
     pub fn decode_to_utf16_without_replacement(
         &mut self,
         src: &[u8],
         dst: &mut [u16],
         last: bool,
     ) -> (DecoderResult, usize, usize)
-        requires { has_finished self.old ≡ false }
+        requires unfinished { has_finished self.old ≡ false }
         ensures call { AnswersDecode encode_utf16 2 self.old self.new (record {
           src = src.now;
           last = last;
@@ -277,6 +286,8 @@ impl Decoder {
         ensures written { result.2 ≤ length dst.old }
         ensures rest { drop result.2 dst.new ≡ drop result.2 dst.old }
         ensures ended { has_finished self.new ≡ reaches_end last result.0 }
+        ensures pending { length self.new.pending ≤ length self.old.pending + result.1 }
+        ensures within { ReportsBytesSoFar self.old result.0 result.1 }
         ensures progress { (result.0 ≡ DecoderResult.InputEmpty → ⊥) → 2 ≤ length dst.old →
             LeavesFewerBytes self.old self.new src.now result.1 }
     {

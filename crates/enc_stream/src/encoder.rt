@@ -87,7 +87,7 @@ impl Encoding {
     /// another is looked up in its place. The encoder keeps the list, also after the end of a text.
     /// Condition: each character of the list is U+0080 or above ([`Encoding::barred_ok`]).
     pub fn new_encoder_barring(self, barred: &'static [char]) -> Encoder
-        requires { are_beyond_ascii barred.now ≡ true }
+        requires beyond_ascii { are_beyond_ascii barred.now ≡ true }
         ensures { result ≡ fresh_encoder barred.now self }
     {
         let encoding = self.output_encoding();
@@ -188,7 +188,9 @@ impl Encoder {
     /// nothing is left to do, and otherwise `OutputFull`.
     ///
     /// Any length of `dst` will do, 0 too; with 14 bytes, or 4 if none are kept free, each call
-    /// makes progress. The bytes of `dst` after those written are unchanged.
+    /// makes progress: a loop ends by `progress` or `progress_if_none_kept`, since fewer steps are
+    /// left (`steps_left`: an escape sequence, a character's bytes and a report are a step each).
+    /// The bytes of `dst` after those written are unchanged.
     pub fn encode_from_utf8(
         &mut self,
         src: &str,
@@ -232,7 +234,7 @@ impl Encoder {
     ///
     /// The same as [`Encoder::encode_from_utf8`], except that the number read is in code units. A
     /// surrogate without its partner in `src` is U+FFFD: so are both halves of a pair that is split
-    /// between two calls.
+    /// between two calls. A loop ends in the same way.
     pub fn encode_from_utf16(
         &mut self,
         src: &[u16],
@@ -276,7 +278,7 @@ impl Encoder {
     /// The same as [`Encoder::encode_from_utf8`] into a slice as long as the Vec's spare capacity,
     /// which may be 0. Returns why the call stopped, the number of bytes read from `src`, and
     /// whether a reference was written. Appends within the capacity, which does not shrink: takes
-    /// no memory.
+    /// no memory. A loop ends in the same way, by the spare capacity.
     pub fn encode_from_utf8_to_vec(
         &mut self,
         src: &str,
@@ -318,7 +320,8 @@ impl Encoder {
     ///
     /// The same as [`Encoder::encode_from_utf8_without_replacement`] into a slice as long as the
     /// Vec's spare capacity, which may be 0. Returns why the call stopped, and the number of bytes
-    /// read from `src`. Appends within the capacity, which does not shrink: takes no memory.
+    /// read from `src`. Appends within the capacity, which does not shrink: takes no memory. A loop
+    /// ends in the same way, by the spare capacity.
     pub fn encode_from_utf8_to_vec_without_replacement(
         &mut self,
         src: &str,
@@ -373,9 +376,10 @@ impl Encoder {
     ///   reference to c (`&#`, its number and `;`) there: the designated character set has these
     ///   characters.
     ///
-    /// Any length of `dst` will do, 0 too; with four bytes each call makes progress. The bytes of a
-    /// character are written together; an escape sequence before it may be written alone. The bytes
-    /// of `dst` after those written are unchanged.
+    /// Any length of `dst` will do, 0 too; with four bytes each call makes progress: a loop ends by
+    /// `progress`, since fewer steps are left (`steps_left`, as for [`Encoder::encode_from_utf8`]).
+    /// The bytes of a character are written together; an escape sequence before it may be written
+    /// alone. The bytes of `dst` after those written are unchanged.
     pub fn encode_from_utf8_without_replacement(
         &mut self,
         src: &str,
@@ -411,7 +415,7 @@ impl Encoder {
     ///
     /// The same as [`Encoder::encode_from_utf8_without_replacement`], except that the number read
     /// is in code units. A surrogate without its partner in `src` is U+FFFD: so are both halves of
-    /// a pair that is split between two calls.
+    /// a pair that is split between two calls. A loop ends in the same way.
     pub fn encode_from_utf16_without_replacement(
         &mut self,
         src: &[u16],

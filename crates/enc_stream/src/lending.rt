@@ -18,7 +18,8 @@ ghost use Rattle.enc_stream.specs.OwnText.{owned_str_capacity, owned_slice_capac
 
 use crate::bom::BomHandling;
 use crate::encoding::Encoding;
-use crate::one_shot::{OneShotError, convert_strictly, convert_text, convert_whole};
+use crate::one_shot::{convert_strictly, convert_text, convert_whole};
+use crate::one_shot_error::OneShotError;
 use crate::own_text::{encodes_as_itself, own_text};
 use std::alloc::Global;
 use std::borrow::{CowSlice, CowStr};
@@ -49,10 +50,8 @@ fn lend_whole<'a>(
     if let Some(text) = own_text(encoding, handling, bytes) {
         return Ok((CowStr::Borrowed(text), false));
     }
-    match convert_whole(alloc, encoding, handling, bytes) {
-        Ok((text, had_errors)) => Ok((CowStr::Owned(text), had_errors)),
-        Err(error) => Err(error),
-    }
+    let (text, had_errors) = convert_whole(alloc, encoding, handling, bytes)?;
+    Ok((CowStr::Owned(text), had_errors))
 }
 
 impl Encoding {
@@ -199,10 +198,9 @@ impl Encoding {
         if let Some(text) = own_text(self, BomHandling::Off, bytes) {
             return Ok(Some(CowStr::Borrowed(text)));
         }
-        match convert_strictly(alloc, self, bytes) {
-            Ok(Some(text)) => Ok(Some(CowStr::Owned(text))),
-            Ok(None) => Ok(None),
-            Err(error) => Err(error),
+        match convert_strictly(alloc, self, bytes)? {
+            Some(text) => Ok(Some(CowStr::Owned(text))),
+            None => Ok(None),
         }
     }
 
@@ -242,11 +240,7 @@ impl Encoding {
             let bytes = CowSlice::Borrowed(text.as_bytes());
             return Ok((bytes, self.output_encoding(), false));
         }
-        match convert_text(alloc, self, text) {
-            Ok((bytes, encoding, had_unmappables)) => {
-                Ok((CowSlice::Owned(bytes), encoding, had_unmappables))
-            }
-            Err(error) => Err(error),
-        }
+        let (bytes, encoding, had_unmappables) = convert_text(alloc, self, text)?;
+        Ok((CowSlice::Owned(bytes), encoding, had_unmappables))
     }
 }

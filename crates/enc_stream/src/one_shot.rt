@@ -19,25 +19,10 @@ ghost use Rattle.enc_stream.specs.OneShot.{MayLackMemory, MayLackMemoryToEncode}
 use crate::bom::BomHandling;
 use crate::decoder::{Decoder, whole_length};
 use crate::encoding::Encoding;
+use crate::one_shot_error::OneShotError;
 use crate::own_text::{encodes_as_itself, own_text};
 use enc_units::{CoderResult, DecoderResult};
 use std::alloc::Global;
-
-/// Why a one-shot call failed.
-#[derive(PartialEq, Eq, Debug, Drop)]
-pub enum OneShotError {
-    /// Memory was refused.
-    Memory = 1,
-    /// A length query, or its sum with the length written before, overflowed `usize`.
-    TooLong = 2,
-}
-
-/// Returns the numbers of the errors.
-fn numbers() -> (u8, u8)
-    ensures { result ≡ (1, 2) }
-{
-    (OneShotError::Memory as u8, OneShotError::TooLong as u8)
-}
 
 /// Returns a length to allocate, if it does not overflow after `written` bytes.
 fn length_after(length: Option<usize>, written: usize) -> Result<usize, OneShotError>
@@ -78,10 +63,7 @@ fn text_with_room(alloc: Global, length: Option<usize>) -> Result<String, OneSho
     let Some(more) = length else {
         return Err(OneShotError::TooLong);
     };
-    match String::with_capacity(alloc, more.max(4)) {
-        Ok(text) => Ok(text),
-        Err(_) => Err(OneShotError::Memory),
-    }
+    Ok(String::with_capacity(alloc, more.max(4))?)
 }
 
 /// Makes room in a String for `length` more bytes, and for one character at least.
@@ -98,10 +80,8 @@ fn make_room(text: &mut String, length: Option<usize>) -> Result<(), OneShotErro
         → checked_add length (string_len text.old) ≢ None }
 {
     let more = length_after(length, text.len())?;
-    match text.reserve(more.max(4)) {
-        Ok(()) => Ok(()),
-        Err(_) => Err(OneShotError::Memory),
-    }
+    text.reserve(more.max(4))?;
+    Ok(())
 }
 
 /// Makes room in a Vec for `length` more bytes, and for a reference and one character at least.
@@ -117,10 +97,8 @@ fn make_byte_room(bytes: &mut Vec<u8>, length: Option<usize>) -> Result<(), OneS
         → checked_add length (vec_len bytes.old) ≢ None }
 {
     let more = length_after(length, bytes.len())?;
-    match bytes.reserve(more.max(14)) {
-        Ok(()) => Ok(()),
-        Err(_) => Err(OneShotError::Memory),
-    }
+    bytes.reserve(more.max(14))?;
+    Ok(())
 }
 
 /// Decodes a whole input by calls of a decoder, with U+FFFD for each malformed sequence.
@@ -168,10 +146,7 @@ fn copy_text(alloc: Global, text: &str) -> Result<String, OneShotError>
     ensures text { IfOk result (λ copy. string_bytes copy ≡ text.now) }
     ensures memory { IfErr result (λ fault. fault ≡ OneShotError.Memory) }
 {
-    match String::from_str(alloc, text) {
-        Ok(copy) => Ok(copy),
-        Err(_) => Err(OneShotError::Memory),
-    }
+    Ok(String::from_str(alloc, text)?)
 }
 
 /// Copies the text of a whole input that is its own text, without its byte order mark.
@@ -323,10 +298,7 @@ fn copy_own_bytes(alloc: Global, encoding: Encoding, text: &str) -> Result<Vec<u
     let Some(_) = encoder.max_buffer_length_from_utf8_if_no_unmappables(text.len()) else {
         return Err(OneShotError::TooLong);
     };
-    match Vec::from_slice(alloc, text.as_bytes()) {
-        Ok(copy) => Ok(copy),
-        Err(_) => Err(OneShotError::Memory),
-    }
+    Ok(Vec::from_slice(alloc, text.as_bytes())?)
 }
 
 impl Encoding {

@@ -33,7 +33,7 @@ pub(crate) fn convert_text<D: RawDecoder, U: Units>(
     out: &mut U,
     options: CallOptions,
 ) -> DecoderOutcome
-    requires open { has_ended life.old ≡ false }
+    requires unfinished { has_ended life.old ≡ false }
     requires text { HasNoMark life.old src.now options.last }
     requires holds { HeldBytesMatchCodec life.old (D.state codec.old) }
     ensures call { (e : Encoding) → rule_of e ≡ (D.state codec.old).rule →

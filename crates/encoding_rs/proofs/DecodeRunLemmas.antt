@@ -30,6 +30,7 @@ use Rattle.enc_decoder.proofs.SequenceLemmas.{any_malformed-append, any_malforme
 use Rattle.enc_decoder.proofs.SequenceLemmas.{units-append, units_of_text-append}
 use Rattle.enc_stream.proofs.EndOfInputLemmas.{fresh_sequences, none_left, fresh_open}
 use Rattle.enc_stream.proofs.WholeInputLemmas.{joined}
+use Rattle.enc_stream.proofs.DecoderCallLemmas.{pending_so_far}
 use Rattle.enc_stream.proofs.DecoderProgressLemmas.{ends_read}
 use Rattle.enc_stream.proofs.WholeEncodingLemmas.{within_after, within_bytes, encoding_ahead, still_ahead, fresh_ahead}
 use Rattle.encoding_rs.proofs.DecodeCallLemmas.{determined_by}
@@ -44,11 +45,12 @@ remaining_in_run bytes s = remaining_sequences s.decoder (drop s.read bytes)
 abbrev pub next_offset : List ℕ → DecodeRunState → ℕ
 next_offset bytes s = length bytes - length (sequence_bytes (remaining_in_run bytes s))
 
--- Every state of a run: the sequences still to come are in the input, and no call changes the
--- encoding ahead.
+-- Every state of a run: the sequences still to come are in the input, the bytes pending are among
+-- those read, and no call changes the encoding ahead.
 pub record IsInInput (handling : BomHandling) (e : Encoding) (bytes : List ℕ)
     (s : DecodeRunState) : Type 0 where
   pub within : s.read ≤ length bytes
+  pub pending : length s.decoder.pending ≤ s.read
   pub all_read : has_finished s.decoder ≡ true → s.read ≡ length bytes
   pub encoding : encoding_ahead s.decoder (drop s.read bytes) ≡ whole_encoding handling e bytes
   pub remaining : length (sequence_bytes (remaining_in_run bytes s)) ≤ length bytes
@@ -66,6 +68,7 @@ module _ (handling : BomHandling) (e : Encoding) (bytes : List ℕ) where
   pub starts_in_input : IsInInput handling e bytes (decode_run_start handling e)
   starts_in_input = record {
     within = omega arith;
+    pending = omega arith;
     all_read = λ finished. absurd (true≢false (sym finished ∙ fresh_open handling e));
     encoding = fresh_ahead handling e bytes;
     remaining = omega (arith, whole_length);
@@ -141,6 +144,12 @@ module _ {handling : BomHandling} {e : Encoding} {bytes : List ℕ} {made : Deco
       decodes.call.within,
       length-take made.offer unread,
       length-drop old.read bytes,
+    );
+    pending = omega (
+      arith,
+      pending_so_far of_call decodes,
+      in_input.pending,
+      advances.read,
     );
     all_read = λ finished.
         let ends = ends_read of_call decodes finished in

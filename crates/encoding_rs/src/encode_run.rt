@@ -22,7 +22,7 @@ use enc_units::{CoderResult, EncoderResult};
 use std::alloc::{AllocError, Global};
 
 /// One call of a run: the input's code units, the error mode, the length of the chunk and the room.
-#[derive(Clone, Copy)]
+#[derive(Clone, Copy, Debug)]
 pub struct EncodeCall {
     /// Encodes from UTF-16, and otherwise from UTF-8.
     pub utf16: bool,
@@ -35,7 +35,7 @@ pub struct EncodeCall {
 }
 
 /// The result of a run.
-#[derive(Drop)]
+#[derive(Debug, Drop)]
 pub struct EncodeReport {
     /// The bytes.
     pub bytes: Vec<u8>,
@@ -194,10 +194,8 @@ fn note_report(unmappables: &mut Vec<char>, stop: EncoderResult) -> Result<(), A
     let EncoderResult::Unmappable(c) = stop else {
         return Ok(());
     };
-    match unmappables.push(c) {
-        Ok(()) => Ok(()),
-        Err(_) => Err(AllocError),
-    }
+    unmappables.push(c)?;
+    Ok(())
 }
 
 /// Returns whether a call has reported an unmappable character.
@@ -282,7 +280,7 @@ pub fn encode_run_barring(
     text: &str,
     calls: &[EncodeCall],
 ) -> Result<EncodeReport, RunError>
-    requires { are_beyond_ascii barred.now ≡ true }
+    requires beyond_ascii { are_beyond_ascii barred.now ≡ true }
     ensures { IfOk result (IsReportOf barred.now encoding (chars text.now) calls.now) }
 {
     let mut encoder = encoding.new_encoder_barring(barred);
@@ -297,12 +295,8 @@ pub fn encode_run_barring(
         if finished {
             break;
         }
-        let Ok((done, ended)) = make_call(alloc, &mut encoder, unread, *call, &mut bytes) else {
-            return Err(RunError::Memory);
-        };
-        let Ok(()) = note_report(&mut unmappables, done.result) else {
-            return Err(RunError::Memory);
-        };
+        let (done, ended) = make_call(alloc, &mut encoder, unread, *call, &mut bytes)?;
+        note_report(&mut unmappables, done.result)?;
         let (_, rest) = split_at_char(unread, done.read);
         unread = rest;
         read += done.read;

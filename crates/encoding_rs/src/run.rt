@@ -1,6 +1,6 @@
 //! Whole runs of a decoder: the result of any list of calls.
 
-ghost use Rattle.std.specs.Prelude.{◌≡◌, ◌+◌, ◌*◌, ◌≤◌, ◌⊎◌, ◌++◌, true, false, length, take};
+ghost use Rattle.std.specs.Prelude.{◌≡◌, ℕ, ◌+◌, ◌*◌, ◌≤◌, ◌⊎◌, ◌++◌, true, false, length, take};
 ghost use Rattle.std.specs.Prelude.{IfOk, OnOk};
 ghost use Rattle.std.specs.List.{All};
 ghost use Rattle.std.specs.Char.{encode_utf8};
@@ -15,14 +15,17 @@ ghost use Rattle.encoding_rs.specs.Run.{is_malformed_result, fault_of_result, Is
 ghost use Rattle.encoding_rs.specs.Run.{HasRunDecoding, decode_run_start, whole_faults};
 ghost use Rattle.encoding_rs.specs.Run.{all_report_malformed};
 
+mod error;
+
 pub use crate::encode_run::{EncodeCall, EncodeReport, encode_run, encode_run_barring};
 pub use enc_stream::BomHandling;
+pub use error::RunError;
 use enc_stream::{Decoder, Encoding};
 use enc_units::{CoderResult, DecoderResult};
 use std::alloc::{AllocError, Global};
 
 /// One call of a run: the output's code units, the error mode, the chunk's length and the room.
-#[derive(Clone, Copy)]
+#[derive(Clone, Copy, Debug)]
 pub struct DecodeCall {
     /// Decodes to UTF-16, and otherwise to UTF-8.
     pub utf16: bool,
@@ -35,7 +38,7 @@ pub struct DecodeCall {
 }
 
 /// The result of a run.
-#[derive(Drop)]
+#[derive(Debug, Drop)]
 pub struct DecodeReport {
     /// The text.
     pub text: String,
@@ -51,20 +54,6 @@ pub struct DecodeReport {
     pub encoding: Encoding,
     /// The number of calls made.
     pub calls: usize,
-}
-
-/// Why a run failed.
-#[derive(PartialEq, Eq, Debug, Drop)]
-pub enum RunError {
-    /// Memory was refused.
-    Memory = 1,
-}
-
-/// Returns the number of the error.
-fn number() -> u8
-    ensures { result ≡ 1 }
-{
-    RunError::Memory as u8
 }
 
 /// The outcome of one call of a run.
@@ -99,7 +88,7 @@ fn call_to_utf8(
     last: bool,
     call: DecodeCall,
 ) -> Result<(DecodeOutcome, String), AllocError>
-    requires { has_finished decoder.old ≡ false }
+    requires unfinished { has_finished decoder.old ≡ false }
     ensures { IfOk result (λ done. AnswersDecodeCall encode_utf8 call decoder.old decoder.new
         chunk.now last done.0.result done.0.read done.0.replaced (string_bytes done.1)) }
 {
@@ -125,7 +114,7 @@ fn call_to_utf16(
     last: bool,
     call: DecodeCall,
 ) -> Result<(DecodeOutcome, String), AllocError>
-    requires { has_finished decoder.old ≡ false }
+    requires unfinished { has_finished decoder.old ≡ false }
     ensures { IfOk result (λ done. AnswersDecodeCall encode_utf16 call decoder.old decoder.new
         chunk.now last done.0.result done.0.read done.0.replaced (string_bytes done.1)) }
 {
@@ -155,7 +144,7 @@ fn call_to(
     last: bool,
     call: DecodeCall,
 ) -> Result<(DecodeOutcome, String), AllocError>
-    requires { has_finished decoder.old ≡ false }
+    requires unfinished { has_finished decoder.old ≡ false }
     ensures { IfOk result (λ done. AnswersDecodeCall (units_of_call call.utf16) call decoder.old
         decoder.new chunk.now last done.0.result done.0.read done.0.replaced
         (string_bytes done.1)) }
@@ -185,7 +174,7 @@ fn make_call(
     call: DecodeCall,
     text: &mut String,
 ) -> Result<DecodeOutcome, AllocError>
-    requires { has_finished decoder.old ≡ false }
+    requires unfinished { has_finished decoder.old ≡ false }
     ensures { IfOk result (λ outcome. MakesDecodeCall call decoder.old decoder.new unread.now
         (string_bytes text.old) (string_bytes text.new) outcome.result outcome.read
         outcome.replaced) }
@@ -206,21 +195,15 @@ fn note_fault(
     stop: DecoderResult,
     read: usize,
 ) -> Result<(), AllocError>
+    requires within { (l a : ℕ) → stop ≡ DecoderResult.Malformed l a → l + a ≤ read }
     ensures { OnOk result (faults.new.items ≡ faults.old.items ++ fault_of_result stop read) }
 {
-    match stop {
-        DecoderResult::InputEmpty => Ok(()),
-        DecoderResult::OutputFull => Ok(()),
-        DecoderResult::Malformed(len, after) => {
-            let start = read
-                .saturating_sub(after as usize)
-                .saturating_sub(len as usize);
-            match faults.push((start, len as usize)) {
-                Ok(()) => Ok(()),
-                Err(_) => Err(AllocError),
-            }
-        }
-    }
+    let DecoderResult::Malformed(len, after) = stop else {
+        return Ok(());
+    };
+    let start = read - after as usize - len as usize;
+    faults.push((start, len as usize))?;
+    Ok(())
 }
 
 /// Returns a decoder that looks for the byte order marks of `handling`. It has read nothing.
@@ -305,13 +288,9 @@ pub fn decode_run(
             break;
         }
         let (_, unread) = bytes.split_at(read);
-        let Ok(done) = make_call(alloc, &mut decoder, unread, *call, &mut text) else {
-            return Err(RunError::Memory);
-        };
+        let done = make_call(alloc, &mut decoder, unread, *call, &mut text)?;
         read += done.read;
-        let Ok(()) = note_fault(&mut faults, done.result, read) else {
-            return Err(RunError::Memory);
-        };
+        note_fault(&mut faults, done.result, read)?;
         had_errors |= done.replaced | reports(done.result);
         made += 1;
     }

@@ -1,11 +1,12 @@
 //! Proves what a caller relies on, by the public clauses of the library alone.
 //!
 //! `example_callers LABEL` writes the text of standard input, the beginning of it that fits in 48
-//! bytes, and the number of malformed sequences. The text is decoded into a buffer of the queried
-//! length, which is never full. The beginning is decoded in two chunks into one array.
+//! bytes, the number of malformed sequences, and the length and offset of the first. The text is
+//! decoded into a buffer of the queried length, which is never full. The beginning is decoded in
+//! two chunks into one array.
 #![tactic(auto)]
 
-ghost use Rattle.std.specs.Prelude.{◌≡◌, ◌≤◌, length, take, IfOk, IfSome};
+ghost use Rattle.std.specs.Prelude.{◌≡◌, ◌+◌, ◌≤◌, length, take, IfOk, IfSome};
 ghost use Rattle.enc_stream.specs.declared.bom.BomHandling.TheVariants.{Sniff};
 ghost use Rattle.encoding_rs.specs.Decoding.{whole_utf_8, whole_sequences};
 ghost use Rattle.example_callers.specs.Count.{malformed_count};
@@ -100,6 +101,32 @@ fn count_malformed(encoding: Encoding, bytes: &[u8]) -> usize
     }
 }
 
+/// Returns the offset and the length, in bytes, of the first malformed sequence of a whole input.
+///
+/// Neither subtraction is tested: by the clause `pending` no more bytes are pending than are read,
+/// and by `within` the sequence and those after it are among them.
+fn first_malformed(encoding: Encoding, bytes: &[u8]) -> Option<(usize, usize)>
+    ensures { IfSome result (λ place. place.0 + place.1 ≤ length bytes.now) }
+{
+    let mut decoder = encoding.new_decoder();
+    let mut piece = [0; PIECE];
+    let mut total = 0;
+    'pieces: loop {
+        let (_, unread) = bytes.split_at(total);
+        let (result, read, _) = decoder.decode_to_utf8_without_replacement(
+            unread, &mut piece, true,
+        );
+        total += read;
+        match result {
+            DecoderResult::InputEmpty => return None,
+            DecoderResult::OutputFull => {}
+            DecoderResult::Malformed(len, after) => {
+                return Some((total - after as usize - len as usize, len as usize));
+            }
+        }
+    }
+}
+
 fn main(rt: HostRuntime) -> io::Result<()> {
     let label = env::args(&rt)?.nth(1).ok_or(Error::other("no label"))?;
     let encoding = Encoding::for_label(label.as_bytes()).ok_or(Error::other("unknown label"))?;
@@ -112,5 +139,9 @@ fn main(rt: HostRuntime) -> io::Result<()> {
     let mut out = rt.stdout();
     out.write_all(&text)?;
     out.write_all(&beginning[..len])?;
-    writeln!(out, "\nmalformed sequences: {count}")
+    writeln!(out, "\nmalformed sequences: {count}")?;
+    match first_malformed(encoding, &bytes) {
+        Some((at, len)) => writeln!(out, "the first: {len} at {at}"),
+        None => Ok(()),
+    }
 }

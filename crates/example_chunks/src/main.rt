@@ -26,7 +26,7 @@ fn decode_chunk<W: Write>(
     last: bool,
     out: &mut W,
 ) -> io::Result<bool>
-    requires { has_finished decoder.old ≡ false }
+    requires unfinished { has_finished decoder.old ≡ false }
     ensures { OnOk result (has_finished decoder.new ≡ last) }
 {
     let mut text = [0; LENGTH];

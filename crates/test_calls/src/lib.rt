@@ -15,6 +15,8 @@ mod encodings;
 #[cfg(test)]
 mod ends;
 #[cfg(test)]
+mod errors;
+#[cfg(test)]
 mod lending;
 #[cfg(test)]
 mod long_texts;

@@ -51,7 +51,7 @@ impl Decoder {
     /// str and to a String. `None` if a step of the formula overflows `usize`. The decoder is
     /// unchanged. Condition: it is not finished.
     pub fn max_utf8_buffer_length(&self, byte_length: usize) -> Option<usize>
-        requires { has_finished self.now ≡ false }
+        requires unfinished { has_finished self.now ≡ false }
         ensures length { result ≡ max_length query.Utf8 self.now byte_length }
         ensures enough { IfSome result (IsEnoughRoom encode_utf8 Replacement self.now byte_length) }
     {
@@ -63,7 +63,7 @@ impl Decoder {
     /// It is enough for `byte_length` more bytes, up to a malformed sequence. The same as
     /// [`Decoder::max_utf8_buffer_length`] otherwise.
     pub fn max_utf8_buffer_length_without_replacement(&self, byte_length: usize) -> Option<usize>
-        requires { has_finished self.now ≡ false }
+        requires unfinished { has_finished self.now ≡ false }
         ensures length { result ≡ max_length query.Utf8Reporting self.now byte_length }
         ensures enough { IfSome result
             (IsEnoughRoom encode_utf8 (Fatal false) self.now byte_length) }
@@ -76,7 +76,7 @@ impl Decoder {
     /// It is enough for `byte_length` more bytes. `None` if a step of the formula overflows
     /// `usize`. The decoder is unchanged. Condition: it is not finished.
     pub fn max_utf16_buffer_length(&self, byte_length: usize) -> Option<usize>
-        requires { has_finished self.now ≡ false }
+        requires unfinished { has_finished self.now ≡ false }
         ensures length { result ≡ max_length query.Utf16 self.now byte_length }
         ensures enough { IfSome result (λ room. (mode : DecodeErrorMode) →
             IsEnoughRoom encode_utf16 mode self.now byte_length room) }

@@ -1,6 +1,6 @@
 //! Decoding into strings: over the text of a str, and at the end of a String.
 
-ghost use Rattle.std.specs.Prelude.{◌≡◌, ◌-◌, ◌≤◌, false, length, take, drop};
+ghost use Rattle.std.specs.Prelude.{◌≡◌, ◌+◌, ◌-◌, ◌≤◌, false, length, take, drop};
 ghost use Rattle.std.specs.Char.{encode_utf8};
 ghost use Rattle.std.specs.String.{string_bytes, string_len, string_capacity};
 ghost use Rattle.std.specs.Str.{IsUtf8};
@@ -9,7 +9,7 @@ ghost use Rattle.enc_units.specs.Rest.{without_continuations};
 ghost use Rattle.enc_units.specs.Results.{decoder_result_of};
 ghost use Rattle.enc_decoder.specs.Call.{Replacement, Fatal, reaches_end};
 ghost use Rattle.enc_stream.specs.Decoding.{has_finished, LeavesFewerBytes};
-ghost use Rattle.enc_stream.specs.Decoding.{AnswersDecode};
+ghost use Rattle.enc_stream.specs.Decoding.{AnswersDecode, ReportsBytesSoFar};
 
 use super::{Decoder, unreported};
 use enc_decoder::ErrorMode;
@@ -22,14 +22,15 @@ impl Decoder {
     /// afterwards. The text written may end within a character of the old text. Then the rest of
     /// that character (bytes 0x80 to 0xBF) becomes 00. All later bytes of `dst` are unchanged.
     ///
-    /// Conditions: the decoder is not finished, and `dst` is well-formed UTF-8.
+    /// With four bytes of `dst` a loop ends by `progress`, since the number of bytes pending and
+    /// unread falls. Conditions: the decoder is not finished, and `dst` is well-formed UTF-8.
     pub fn decode_to_str(
         &mut self,
         src: &[u8],
         dst: &mut [u8],
         last: bool,
     ) -> (CoderResult, usize, usize, bool)
-        requires open { has_finished self.old ≡ false }
+        requires unfinished { has_finished self.old ≡ false }
         requires utf8 { IsWellFormedUtf8 dst.old }
         ensures call { AnswersDecode encode_utf8 4 self.old self.new (record {
           src = src.now;
@@ -47,6 +48,7 @@ impl Decoder {
         ensures rest { drop result.2 dst.new ≡ without_continuations (drop result.2 dst.old) }
         ensures utf8 { IsWellFormedUtf8 dst.new }
         ensures ended { has_finished self.new ≡ reaches_end last (decoder_result_of result.0) }
+        ensures pending { length self.new.pending ≤ length self.old.pending + result.1 }
         ensures progress { (result.0 ≡ CoderResult.InputEmpty → ⊥) → 4 ≤ length dst.old →
             LeavesFewerBytes self.old self.new src.now result.1 }
     {
@@ -60,14 +62,15 @@ impl Decoder {
     /// The same as [`Decoder::decode_to_utf8_without_replacement`], except that all of `dst` is
     /// well-formed UTF-8 afterwards, as with [`Decoder::decode_to_str`].
     ///
-    /// Conditions: the decoder is not finished, and `dst` is well-formed UTF-8.
+    /// With four bytes of `dst` a loop ends by `progress`, since the number of bytes pending and
+    /// unread falls. Conditions: the decoder is not finished, and `dst` is well-formed UTF-8.
     pub fn decode_to_str_without_replacement(
         &mut self,
         src: &[u8],
         dst: &mut [u8],
         last: bool,
     ) -> (DecoderResult, usize, usize)
-        requires open { has_finished self.old ≡ false }
+        requires unfinished { has_finished self.old ≡ false }
         requires utf8 { IsWellFormedUtf8 dst.old }
         ensures call { AnswersDecode encode_utf8 4 self.old self.new (record {
           src = src.now;
@@ -85,6 +88,8 @@ impl Decoder {
         ensures rest { drop result.2 dst.new ≡ without_continuations (drop result.2 dst.old) }
         ensures utf8 { IsWellFormedUtf8 dst.new }
         ensures ended { has_finished self.new ≡ reaches_end last result.0 }
+        ensures pending { length self.new.pending ≤ length self.old.pending + result.1 }
+        ensures within { ReportsBytesSoFar self.old result.0 result.1 }
         ensures progress { (result.0 ≡ DecoderResult.InputEmpty → ⊥) → 4 ≤ length dst.old →
             LeavesFewerBytes self.old self.new src.now result.1 }
     {
@@ -99,15 +104,16 @@ impl Decoder {
     /// which may be 0. Returns why the call stopped, the number of bytes read from `src`, and
     /// whether a malformed sequence was replaced.
     ///
-    /// Appends within the capacity, which does not shrink: takes no memory. Condition: the decoder
-    /// is not finished.
+    /// Appends within the capacity, which does not shrink: takes no memory. With four bytes of
+    /// spare capacity a loop ends by `progress`, since the number of bytes pending and unread
+    /// falls. Condition: the decoder is not finished.
     pub fn decode_to_string(
         &mut self,
         src: &[u8],
         dst: &mut String,
         last: bool,
     ) -> (CoderResult, usize, bool)
-        requires { has_finished self.old ≡ false }
+        requires unfinished { has_finished self.old ≡ false }
         ensures call { AnswersDecode encode_utf8 4 self.old self.new (record {
           src = src.now;
           last = last;
@@ -123,6 +129,7 @@ impl Decoder {
             ≡ string_bytes dst.old }
         ensures capacity { string_capacity dst.old ≤ string_capacity dst.new }
         ensures ended { has_finished self.new ≡ reaches_end last (decoder_result_of result.0) }
+        ensures pending { length self.new.pending ≤ length self.old.pending + result.1 }
         ensures progress { (result.0 ≡ CoderResult.InputEmpty → ⊥) →
             4 ≤ string_capacity dst.old - string_len dst.old →
             LeavesFewerBytes self.old self.new src.now result.1 }
@@ -138,15 +145,16 @@ impl Decoder {
     /// String's spare capacity, which may be 0. Returns why the call stopped, and the number of
     /// bytes read from `src`.
     ///
-    /// Appends within the capacity, which does not shrink: takes no memory. Condition: the decoder
-    /// is not finished.
+    /// Appends within the capacity, which does not shrink: takes no memory. With four bytes of
+    /// spare capacity a loop ends by `progress`, since the number of bytes pending and unread
+    /// falls. Condition: the decoder is not finished.
     pub fn decode_to_string_without_replacement(
         &mut self,
         src: &[u8],
         dst: &mut String,
         last: bool,
     ) -> (DecoderResult, usize)
-        requires { has_finished self.old ≡ false }
+        requires unfinished { has_finished self.old ≡ false }
         ensures call { AnswersDecode encode_utf8 4 self.old self.new (record {
           src = src.now;
           last = last;
@@ -162,6 +170,8 @@ impl Decoder {
             ≡ string_bytes dst.old }
         ensures capacity { string_capacity dst.old ≤ string_capacity dst.new }
         ensures ended { has_finished self.new ≡ reaches_end last result.0 }
+        ensures pending { length self.new.pending ≤ length self.old.pending + result.1 }
+        ensures within { ReportsBytesSoFar self.old result.0 result.1 }
         ensures progress { (result.0 ≡ DecoderResult.InputEmpty → ⊥) →
             4 ≤ string_capacity dst.old - string_len dst.old →
             LeavesFewerBytes self.old self.new src.now result.1 }

@@ -2,6 +2,7 @@
 
 use std::alloc::Global;
 use std::collections::HashSet;
+use std::error::Error;
 use std::fmt::Debug;
 use std::hash::{DefaultHasher, Hash, Hasher};
 use std::test::Fail;
@@ -26,4 +27,9 @@ pub(crate) fn hash_of<T: Hash>(value: &T) -> u64 {
 /// The text of a value by `Debug`.
 pub(crate) fn debug_text<T: Debug>(alloc: Global, value: &T) -> Result<String, Fail> {
     Ok(format!(in alloc; "{value:?}")?)
+}
+
+/// The text of an error by `Display`.
+pub(crate) fn error_text<T: Error>(alloc: Global, error: &T) -> Result<String, Fail> {
+    Ok(format!(in alloc; "{error}")?)
 }

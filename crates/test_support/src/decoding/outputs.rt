@@ -62,7 +62,7 @@ fn reporting((stop, read, written): (DecoderResult, usize, usize)) -> Answer {
 
 /// Calls a decoder into UTF-8.
 fn to_utf8(decoder: &mut Decoder, given: Given<'_>, dst: &mut [u8]) -> Answer
-    requires { has_finished decoder.old ≡ false }
+    requires unfinished { has_finished decoder.old ≡ false }
 {
     if given.reporting {
         return reporting(decoder.decode_to_utf8_without_replacement(given.src, dst, given.last));
@@ -72,7 +72,7 @@ fn to_utf8(decoder: &mut Decoder, given: Given<'_>, dst: &mut [u8]) -> Answer
 
 /// Calls a decoder into UTF-16.
 fn to_utf16(decoder: &mut Decoder, given: Given<'_>, dst: &mut [u16]) -> Answer
-    requires { has_finished decoder.old ≡ false }
+    requires unfinished { has_finished decoder.old ≡ false }
 {
     if given.reporting {
         return reporting(decoder.decode_to_utf16_without_replacement(given.src, dst, given.last));
@@ -82,7 +82,7 @@ fn to_utf16(decoder: &mut Decoder, given: Given<'_>, dst: &mut [u16]) -> Answer
 
 /// Calls a decoder into a `str`.
 fn to_str(decoder: &mut Decoder, given: Given<'_>, dst: &mut [u8]) -> Result<Answer, Fail>
-    requires { has_finished decoder.old ≡ false }
+    requires unfinished { has_finished decoder.old ≡ false }
 {
     if str::from_utf8(dst).is_err() {
         return Err(Fail::new("the text to be written over is not UTF-8"));
@@ -96,7 +96,7 @@ fn to_str(decoder: &mut Decoder, given: Given<'_>, dst: &mut [u8]) -> Result<Ans
 
 /// Calls a decoder into a `String`. The answer has no count of the bytes written.
 fn to_string(decoder: &mut Decoder, given: Given<'_>, dst: &mut String) -> Answer
-    requires { has_finished decoder.old ≡ false }
+    requires unfinished { has_finished decoder.old ≡ false }
 {
     if given.reporting {
         let (result, read) = decoder.decode_to_string_without_replacement(
@@ -143,7 +143,7 @@ fn call_into_utf8(
     text: &mut Vec<u8>,
     case: &Case<'_>,
 ) -> Result<Answer, Fail>
-    requires { has_finished decoder.old ≡ false }
+    requires unfinished { has_finished decoder.old ≡ false }
 {
     let mut buffer = [OLD_BYTE; BUFFER];
     let room = given.room.min(BUFFER);
@@ -163,7 +163,7 @@ fn call_into_utf16(
     text: &mut Vec<u8>,
     case: &Case<'_>,
 ) -> Result<Answer, Fail>
-    requires { has_finished decoder.old ≡ false }
+    requires unfinished { has_finished decoder.old ≡ false }
 {
     let mut buffer = [OLD_UNIT; BUFFER];
     let room = given.room.min(BUFFER);
@@ -207,7 +207,7 @@ fn call_into_str(
     text: &mut Vec<u8>,
     case: &Case<'_>,
 ) -> Result<Answer, Fail>
-    requires { has_finished decoder.old ≡ false }
+    requires unfinished { has_finished decoder.old ≡ false }
 {
     let (old, _) = split(OLD[given.room % 4].as_bytes(), given.room);
     expect(old.len() == given.room, "a room that is too great", case)?;
@@ -232,7 +232,7 @@ fn call_into_string(
     text: &mut Vec<u8>,
     case: &Case<'_>,
 ) -> Result<Answer, Fail>
-    requires { has_finished decoder.old ≡ false }
+    requires unfinished { has_finished decoder.old ≡ false }
 {
     let capacity = IN_FRONT.len().saturating_add(given.room);
     let mut string = String::with_capacity(alloc, capacity)?;

@@ -59,7 +59,7 @@ returns-then-eq-clause-flag c =
 pub max_utf8_buffer_length-length-requires : goal.max_utf8_buffer_length-length-requires
 max_utf8_buffer_length-length-requires c =
     let goes_on : ¬ (c.decode_to_string-stop.result.0 ≡ InputEmpty) = search rules in
-    still_open _ c.decode_to_string-stop.ensures.call.decodes goes_on
+    record { unfinished = still_open _ c.decode_to_string-stop.ensures.call.decodes goes_on }
 
 pub returns-in_err-make_room-clause-too_long : goal.returns-in_err-make_room-clause-too_long
 returns-in_err-make_room-clause-too_long c =
@@ -81,7 +81,7 @@ returns-in_err-make_room-clause-memory c = λ memory.
 pub decode_to_string-requires : goal.decode_to_string-requires
 decode_to_string-requires c =
     let goes_on : ¬ (c.decode_to_string-stop.result.0 ≡ InputEmpty) = search rules in
-    still_open _ c.decode_to_string-stop.ensures.call.decodes goes_on
+    record { unfinished = still_open _ c.decode_to_string-stop.ensures.call.decodes goes_on }
 
 pub unreachable-requires : goal.unreachable-requires
 unreachable-requires c =

@@ -30,7 +30,7 @@ returns-then-reaches_end-clause-call g c = λ e same.
     let made = rw (c.unread-held.ensures, c.held.ensures.count) at c.convert-done.ensures.call in
     let reads = rw (c.unread-held.ensures, c.held.ensures.count) at c.convert-done.ensures.reads in
     rw c.shift_malformed.ensures (ends (reads_text (bytes_of_slice _ c.type_inv.src) same
-    c.requires.open c.requires.text c.requires.holds) reads c.convert-done.ensures.rule made
+    c.requires.unfinished c.requires.text c.requires.holds) reads c.convert-done.ensures.rule made
     (sym c.reaches_end.ensures ∙ c.if-reaches_end.true))
 
 pub returns-then-untouched-clause-call : goal.returns-then-untouched-clause-call
@@ -40,7 +40,7 @@ returns-then-untouched-clause-call g c = λ e same.
     let equal = both_equal _ _ _ c.if-untouched.true in
     let held = ap length (rw c.held.ensures.count at c.unread-held.ensures) in
     rw c.shift_malformed.ensures (stays (reads_text (bytes_of_slice _ c.type_inv.src) same
-    c.requires.open c.requires.text c.requires.holds) reads c.convert-done.ensures.rule made
+    c.requires.unfinished c.requires.text c.requires.holds) reads c.convert-done.ensures.rule made
     (sym c.reaches_end.ensures ∙ c.if-reaches_end.false) equal.0 (let u = equal.1 in
     omega (arith, c.held-2.ensures.count, c.held.ensures.count)))
 
@@ -51,7 +51,7 @@ returns-then-leaves_bb-clause-call g c = λ e same.
     let equal = all_equal _ _ _ _ _ c.if-leaves_bb.true in
     let held = ap length (rw c.held.ensures.count at c.unread-held.ensures) in
     rw c.shift_malformed.ensures (stays_bb (reads_text (bytes_of_slice _ c.type_inv.src) same
-    c.requires.open c.requires.text c.requires.holds) reads c.convert-done.ensures.rule made
+    c.requires.unfinished c.requires.text c.requires.holds) reads c.convert-done.ensures.rule made
     (sym c.reaches_end.ensures ∙ c.if-reaches_end.false) equal.0 (sym held ∙ equal.1)
     (let u = equal.2 in
     omega (arith, c.held-2.ensures.count)))
@@ -75,7 +75,7 @@ returns-clause-call g c = λ e same.
     let reads = rw (c.unread-held.ensures, c.held.ensures.count) at c.convert-done.ensures.reads in
     let held = ap length (rw c.held.ensures.count at c.unread-held.ensures) in
     rw c.shift_malformed.ensures (goes_on (reads_text (bytes_of_slice _ c.type_inv.src) same
-    c.requires.open c.requires.text c.requires.holds) reads c.convert-done.ensures.rule made
+    c.requires.unfinished c.requires.text c.requires.holds) reads c.convert-done.ensures.rule made
     (sym c.reaches_end.ensures ∙ c.if-reaches_end.false)
     (λ z n. not_both_equal _ _ _ c.if-untouched.false z
     (omega (arith, c.held-2.ensures.count, c.held.ensures.count)))

@@ -24,9 +24,9 @@ loop-call-init c = rw (
 pub overflow_add-read : goal.overflow_add-read
 overflow_add-read c =
     let invariant = c.loop-call.invariant in
-    let call = rw invariant.unread at c.in-Ok.ensures.call in
+    let call = rw invariant.unread at c.in_ok-done.ensures.call in
     let few = few_chars c.args.text.now c.utf8.text in
-    let all : c.loop-call.read + c.in-Ok.done.read ≤ length (chars c.args.text.now) = omega (
+    let all : c.loop-call.read + c.in_ok-done.done.read ≤ length (chars c.args.text.now) = omega (
       arith,
       read_within call,
       length-drop c.loop-call.read (chars c.args.text.now),
@@ -36,14 +36,14 @@ overflow_add-read c =
 pub loop-call-preserved : goal.loop-call-preserved
 loop-call-preserved c =
     let invariant = c.loop-call.invariant in
-    let ended = rw invariant.unread at c.in-Ok.ensures.ended in
-    rw (c.in-Ok-note_report.ensures, c.reports.ensures, ended)
+    let ended = rw invariant.unread at c.in_ok-done.ensures.ended in
+    rw (c.in_ok-note_report.ensures, c.reports.ensures, ended)
     (let advances : EncodeRunAdvances (chars c.args.text.now) _ _ _ = record {
-      result = c.in-Ok.done.result;
-      more = c.in-Ok.done.read;
-      replaced = c.in-Ok.done.replaced;
+      result = c.in_ok-done.done.result;
+      more = c.in_ok-done.done.read;
+      replaced = c.in_ok-done.done.replaced;
       not_finished = c.if-finished.false;
-      call = rw invariant.unread at c.in-Ok.ensures.call;
+      call = rw invariant.unread at c.in_ok-done.ensures.call;
       read = refl;
       unmappables = refl;
       flag = refl;
@@ -53,8 +53,8 @@ loop-call-preserved c =
       run = run-next _ c.args.calls.now _ _ invariant.made c.loop-call-test.true invariant.run
           advances;
       in_text = stays_in_text invariant.in_text advances;
-      unread = c.split_at_char.ensures.back ∙ ap (drop c.in-Ok.done.read) invariant.unread
-          ∙ drop-drop c.in-Ok.done.read c.loop-call.read (chars c.args.text.now);
+      unread = c.split_at_char.ensures.back ∙ ap (drop c.in_ok-done.done.read) invariant.unread
+          ∙ drop-drop c.in_ok-done.done.read c.loop-call.read (chars c.args.text.now);
       made = omega (arith, invariant.made);
       utf8 = search rules;
     })

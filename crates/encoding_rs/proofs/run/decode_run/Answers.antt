@@ -4,6 +4,7 @@ use Rattle.encoding_rs.specs.Run.{DecodeRunAdvances}
 use Rattle.encoding_rs.proofs.RunLemmas.{run-next}
 use Rattle.encoding_rs.proofs.DecodeRunLemmas.{starts_in_input, stays_in_input, is_decode_run, has_run, whole_text}
 use Rattle.encoding_rs.proofs.DecodeRunLemmas.{whole_flag, whole_places}
+use Rattle.enc_stream.proofs.DecoderCallLemmas.{reported_so_far}
 use Rattle.encoding_rs.proofs.DecodeEndLemmas.{ends}
 use Rattle.encoding_rs.proofs.run.decode_run.Goals as goal
 
@@ -22,13 +23,13 @@ loop-call-init c = rw (
 pub loop-call-preserved : goal.loop-call-preserved
 loop-call-preserved c =
     let invariant = c.loop-call.invariant in
-    rw (c.in-Ok-note_fault.ensures, c.reports.ensures)
+    rw (c.in_ok-note_fault.ensures, c.reports.ensures)
     (let advances : DecodeRunAdvances c.args.bytes.now _ _ _ = record {
-      result = c.in-Ok.done.result;
-      more = c.in-Ok.done.read;
-      replaced = c.in-Ok.done.replaced;
+      result = c.in_ok-done.done.result;
+      more = c.in_ok-done.done.read;
+      replaced = c.in_ok-done.done.replaced;
       not_finished = sym c.is_finished.ensures ∙ c.if-is_finished.false;
-      call = rw c.split_at.ensures.back at c.in-Ok.ensures;
+      call = rw c.split_at.ensures.back at c.in_ok-done.ensures;
       read = refl;
       faults = refl;
       flag = refl;
@@ -41,6 +42,17 @@ loop-call-preserved c =
       within = in_input.within;
       made = omega arith;
     })
+
+-- A reported sequence, and the bytes after it, are among the bytes read in the run.
+pub note_fault-requires : goal.note_fault-requires
+note_fault-requires c =
+    let so_far = reported_so_far _ c.in_ok-done.ensures.answers.decodes in record {
+      within = λ l a reported. omega (
+        arith,
+        so_far l a reported,
+        c.loop-call.invariant.in_input.pending,
+      );
+    }
 
 pub returns-clause-run : goal.returns-clause-run
 returns-clause-run c = (

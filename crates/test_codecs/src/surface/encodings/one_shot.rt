@@ -1,8 +1,10 @@
 //! One-shot calls of `Encoding`, and their error.
 
-use crate::surface::derives::{are_equal, debug_text};
+use crate::surface::derives::{are_equal, debug_text, error_text};
 use encoding_rs::{Encoding, OneShotError, SHIFT_JIS, UTF_8, WINDOWS_1257};
+use std::alloc::AllocError;
 use std::borrow::{CowSlice, CowStr};
+use std::io;
 use std::test::Fail;
 
 #[test]
@@ -12,6 +14,11 @@ fn errors_of_one_shot_calls_are_compared_and_printed(rt: HostRuntime) -> Result<
     assert!(rt; (OneShotError::Memory as u8, OneShotError::TooLong as u8) == (1, 2));
     let text = debug_text(rt.alloc(), &OneShotError::TooLong)?;
     assert!(rt; text.as_str() == "TooLong");
+    let text = error_text(rt.alloc(), &OneShotError::Memory)?;
+    assert!(rt; text.as_str() == "out of memory");
+    assert!(rt; OneShotError::from(AllocError) == OneShotError::Memory);
+    let kind = io::Error::from(OneShotError::TooLong).kind();
+    assert!(rt; kind == io::ErrorKind::InvalidInput);
     Ok(())
 }
 

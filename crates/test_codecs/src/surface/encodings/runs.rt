@@ -1,11 +1,13 @@
 //! `run`: lists of calls of a decoder or an encoder, and what they come to.
 
-use crate::surface::derives::{are_equal, copies, debug_text};
+use crate::surface::derives::{are_equal, copies, debug_text, error_text};
 use encoding_rs::run::{
     BomHandling, DecodeCall, DecodeReport, EncodeCall, EncodeReport, RunError, decode_run,
     encode_run, encode_run_barring,
 };
 use encoding_rs::{SHIFT_JIS, UTF_8, WINDOWS_1252};
+use std::alloc::AllocError;
+use std::io;
 use std::test::Fail;
 
 #[test]
@@ -14,6 +16,11 @@ fn errors_of_runs_are_compared_and_printed(rt: HostRuntime) -> Result<(), Fail> 
     assert!(rt; RunError::Memory as u8 == 1);
     let text = debug_text(rt.alloc(), &RunError::Memory)?;
     assert!(rt; text.as_str() == "Memory");
+    let text = error_text(rt.alloc(), &RunError::Memory)?;
+    assert!(rt; text.as_str() == "out of memory");
+    assert!(rt; RunError::from(AllocError) == RunError::Memory);
+    let kind = io::Error::from(RunError::Memory).kind();
+    assert!(rt; kind == io::ErrorKind::OutOfMemory);
     Ok(())
 }
 
@@ -52,6 +59,8 @@ fn a_run_decodes_by_calls_of_each_kind(rt: HostRuntime) -> Result<(), Fail> {
 #[test]
 fn a_run_looks_for_the_marks_that_it_is_given(rt: HostRuntime) -> Result<(), Fail> {
     let (sniff, _) = copies(encoding_rs::BomHandling::Sniff)?;
+    let text = debug_text(rt.alloc(), &sniff)?;
+    assert!(rt; text.as_str() == "Sniff");
     let call = DecodeCall {
         utf16: false,
         replace: true,

@@ -22,7 +22,7 @@ returns-in-Open g c =
     (sym (ap (λ n. take n c.args.src.now) sniffed.0
     ∙ take-length c.args.src.now)) sniffed.3 in
     converts_into c.laws.ensures (rw (← c.self.view_is) (shows_held _ _ _ c.self.invariant.0.1))
-    c.requires
+    c.requires.unfinished
     (rw (← c.self.view_is, sniffed.1)
     (all_held _ _ _ c.self.invariant.0.1 extends
     (sym extends.awaits ∙ sniffed.2) (bytes_of_slice _ c.type_inv.src)
@@ -72,7 +72,7 @@ pub returns : goal.returns
 returns g c =
     let inside = c.match-sniffed.self-inside in
     converts_into c.laws.ensures (rw (← c.self.view_is) (shows_held _ _ _ c.self.invariant.0.1))
-    c.requires (elim c.match-sniffed.branch [
+    c.requires.unfinished (elim c.match-sniffed.branch [
       | in-Mark w ↦
           let completes = rw w.in-Mark.is at c.sniff-sniffed.ensures.sniffed in
           let rest = rw w.self-inside-is at (c.convert_text-of_text.ensures.call

@@ -5,6 +5,7 @@ use Rattle.enc_units.specs.Output.{Output}
 use Rattle.enc_stream.proofs.EndOfInputLemmas.{ends_at_end}
 use Rattle.enc_stream.proofs.AppendedOutputLemmas.{over_text, in_front, capacity_stays}
 use Rattle.enc_stream.proofs.OutputFullLemmas.{four_bytes}
+use Rattle.enc_stream.proofs.DecoderCallLemmas.{pending_so_far, reported_so_far}
 use Rattle.enc_stream.proofs.decoder.Decoder.decode_to_string_without_replacement.Goals as goal
 
 pub returns-clause-call : goal.returns-clause-call
@@ -24,6 +25,12 @@ returns-clause-read c = (returns-clause-call c).decodes.call.within
 
 pub returns-clause-ended : goal.returns-clause-ended
 returns-clause-ended c = rw (returns-clause-call c).decodes.life (search (ends_at_end))
+
+pub returns-clause-pending : goal.returns-clause-pending
+returns-clause-pending c = pending_so_far _ (returns-clause-call c).decodes
+
+pub returns-clause-within : goal.returns-clause-within
+returns-clause-within c = reported_so_far _ (returns-clause-call c).decodes
 
 pub returns-clause-progress : goal.returns-clause-progress
 returns-clause-progress c = (returns-clause-call c).progress

@@ -2,6 +2,7 @@ use Rattle.std.proofs.Common.{refl, arith, rules}
 use Rattle.enc_stream.proofs.EndOfInputLemmas.{ends_at_end}
 use Rattle.enc_stream.proofs.AppendedOutputLemmas.{over_slice, reports_none, still_goes_on}
 use Rattle.enc_stream.proofs.OutputFullLemmas.{two_units}
+use Rattle.enc_stream.proofs.DecoderCallLemmas.{pending_so_far}
 use Rattle.enc_stream.proofs.decoder.Decoder.decode_to_utf16.Goals as goal
 
 pub unreported-requires : goal.unreported-requires
@@ -18,6 +19,9 @@ returns-clause-read c = (returns-clause-call c).decodes.call.within
 
 pub returns-clause-ended : goal.returns-clause-ended
 returns-clause-ended c = rw (returns-clause-call c).decodes.life (search (ends_at_end))
+
+pub returns-clause-pending : goal.returns-clause-pending
+returns-clause-pending c = pending_so_far _ (returns-clause-call c).decodes
 
 pub returns-clause-progress : goal.returns-clause-progress
 returns-clause-progress c = λ on. (returns-clause-call c).progress (still_goes_on _ on)

@@ -3,6 +3,7 @@ use Rattle.enc_units.proofs.AsciiPrefixLemmas.{text_utf8}
 use Rattle.enc_stream.proofs.EndOfInputLemmas.{ends_at_end}
 use Rattle.enc_stream.proofs.AppendedOutputLemmas.{over_slice, reports_none, still_goes_on}
 use Rattle.enc_stream.proofs.OutputFullLemmas.{four_bytes}
+use Rattle.enc_stream.proofs.DecoderCallLemmas.{pending_so_far}
 use Rattle.enc_stream.proofs.decoder.Decoder.decode_to_utf8.Goals as goal
 
 pub unreported-requires : goal.unreported-requires
@@ -23,6 +24,9 @@ returns-clause-text c = let call = (returns-clause-call c).decodes.call in
 
 pub returns-clause-ended : goal.returns-clause-ended
 returns-clause-ended c = rw (returns-clause-call c).decodes.life (search (ends_at_end))
+
+pub returns-clause-pending : goal.returns-clause-pending
+returns-clause-pending c = pending_so_far _ (returns-clause-call c).decodes
 
 pub returns-clause-progress : goal.returns-clause-progress
 returns-clause-progress c = λ on. (returns-clause-call c).progress (still_goes_on _ on)
