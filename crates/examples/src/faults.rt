@@ -3,6 +3,9 @@
 ghost use Rattle.std.specs.Prelude.{◌≡◌, false};
 ghost use Rattle.encoding_rs.specs.Decoding.{has_finished};
 
+#[cfg(test)]
+mod tests;
+
 use encoding_rs::{DecoderResult, Encoding};
 use std::alloc::Global;
 use std::io;
@@ -48,12 +51,7 @@ impl Place {
 
 /// Writes a line for a malformed sequence: its offset in bytes, its place in the text, and its
 /// bytes.
-fn write_fault<W: Write>(
-    offset: usize,
-    place: Place,
-    bytes: &[u8],
-    out: &mut W,
-) -> io::Result<()> {
+fn write_fault<W: Write>(offset: usize, place: Place, bytes: &[u8], out: &mut W) -> io::Result<()> {
     let Place { line, column } = place;
     write!(out, "offset {offset}, line {line}, column {column}:")?;
     for byte in bytes {
@@ -72,15 +70,18 @@ fn write_faults<W: Write>(bytes: &[u8], encoding: Encoding, out: &mut W) -> io::
     let mut place = Place::START;
     let mut count = 0usize;
     'pieces: loop {
-        let (result, read, written) =
-            decoder.decode_to_utf8_without_replacement(unread, &mut text, true);
+        let (result, read, written) = decoder.decode_to_utf8_without_replacement(
+            unread, &mut text, true,
+        );
         unread = &unread[read..];
         place = place.after_text(unsafe { str::from_utf8_unchecked(&text[..written]) });
         match result {
             DecoderResult::InputEmpty => return Ok(count),
             DecoderResult::OutputFull => {}
             DecoderResult::Malformed(length, after) => {
-                let end = bytes.len().saturating_sub(unread.len() + usize::from(after));
+                let end = bytes
+                    .len()
+                    .saturating_sub(unread.len() + usize::from(after));
                 let offset = end.saturating_sub(usize::from(length));
                 write_fault(offset, place, &bytes[offset..end], out)?;
                 place = place.after('\u{FFFD}');

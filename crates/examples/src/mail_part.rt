@@ -1,5 +1,8 @@
 //! A part of a mail by the charset of its header, decoded in chunks of a packet's size.
 
+#[cfg(test)]
+mod tests;
+
 use crate::scanner::{Run, Scanner};
 use enc_reader::{DecodeReader, FromRead};
 use encoding_rs::{Encoding, WINDOWS_1252};
