@@ -1,5 +1,8 @@
 //! A part of a mail by the charset of its header, decoded in chunks of a packet's size.
 
+ghost use Rattle.std.specs.Prelude.{◌≤◌};
+ghost use Rattle.examples.specs.Scanner.{bytes_left};
+
 #[cfg(test)]
 mod tests;
 
@@ -43,9 +46,11 @@ fn field_value<'a>(field: &'a [u8], name: &[u8]) -> Option<&'a [u8]> {
 
 /// Reads a quoted string, after the quote at its front. Returns its text, in which a backslash only
 /// quotes the byte after it (RFC 5322 3.2.4).
-fn take_quoted(alloc: Global, scanner: &mut Scanner<'_>) -> Result<Vec<u8>, AllocError> {
+fn take_quoted(alloc: Global, scanner: &mut Scanner<'_>) -> Result<Vec<u8>, AllocError>
+    ensures { bytes_left scanner.new ≤ bytes_left scanner.old }
+{
     let mut text = Vec::new(alloc);
-    while let Some(byte) = scanner.next() {
+    'bytes: while let Some(byte) = scanner.next() {
         match byte {
             b'"' => return Ok(text),
             b'\\' => text.push(scanner.next().unwrap_or(byte))?,
@@ -56,7 +61,9 @@ fn take_quoted(alloc: Global, scanner: &mut Scanner<'_>) -> Result<Vec<u8>, Allo
 }
 
 /// Reads the value of a parameter: a token, or a quoted string.
-fn take_value(alloc: Global, scanner: &mut Scanner<'_>) -> Result<Vec<u8>, AllocError> {
+fn take_value(alloc: Global, scanner: &mut Scanner<'_>) -> Result<Vec<u8>, AllocError>
+    ensures { bytes_left scanner.new ≤ bytes_left scanner.old }
+{
     if scanner.peek() == Some(b'"') {
         let _quote = scanner.next();
         return take_quoted(alloc, scanner);
@@ -70,7 +77,9 @@ fn take_parameter(
     alloc: Global,
     scanner: &mut Scanner<'_>,
     name: &[u8],
-) -> Result<Option<Vec<u8>>, AllocError> {
+) -> Result<Option<Vec<u8>>, AllocError>
+    ensures { bytes_left scanner.new ≤ bytes_left scanner.old }
+{
     scanner.skip(Run::Spaces);
     let found = scanner.take(Run::Token);
     scanner.skip(Run::Spaces);
@@ -90,7 +99,7 @@ fn take_parameter(
 fn charset(alloc: Global, content_type: &[u8]) -> Result<Option<Vec<u8>>, AllocError> {
     let mut scanner = Scanner::new(content_type);
     scanner.skip(Run::UpTo(b';'));
-    while scanner.next().is_some() {
+    'parameters: while let Some(_) = scanner.next() {
         let value = take_parameter(alloc, &mut scanner, b"charset")?;
         if value.is_some() {
             return Ok(value);

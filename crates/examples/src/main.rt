@@ -30,7 +30,10 @@ const INPUTS: &[(&str, &str, &str)] = &[
     ("faults", "gb18030", "diary.txt"),
     ("form-data", "shift_jis", "form.txt"),
     ("mail-part", "", "mail.txt"),
-    ("meta-prescan", "", "labelled.html"),
+    ("meta-prescan", "", "cyrillic.html"),
+    ("meta-prescan", "", "late.html"),
+    ("meta-prescan", "", "marked.html"),
+    ("meta-prescan", "", "shift_jis.html"),
 ];
 
 /// Runs an example over an input.

@@ -98,7 +98,9 @@ impl<'a> Scanner<'a> {
     }
 
     /// Returns the next byte, if there is one.
-    pub(crate) fn peek(&self) -> Option<u8> {
+    pub(crate) fn peek(&self) -> Option<u8>
+        ensures { OnSome result (0 < bytes_left self.now) }
+    {
         self.rest().first().copied()
     }
 
@@ -156,12 +158,10 @@ impl<'a> Scanner<'a> {
         ensures kept { bytes_left self.new ≤ bytes_left self.old }
         ensures read { OnSome result (bytes_left self.new + length word.now ≤ bytes_left self.old) }
     {
-        for start in self.at..self.bytes.len() {
-            if case.begins(&self.bytes[start..], word) {
-                self.at = start + word.len();
-                return Some(());
-            }
+        'places: while !case.begins(self.rest(), word) {
+            let _byte = self.next()?;
         }
-        None
+        self.at += word.len();
+        Some(())
     }
 }

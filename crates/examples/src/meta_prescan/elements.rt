@@ -54,7 +54,7 @@ pub(crate) fn take_attribute<'a>(scanner: &mut Scanner<'a>) -> Option<Attribute<
 
 /// Moves past the first `charset=`, with spaces around the sign.
 fn skip_past_charset(scanner: &mut Scanner<'_>) -> Option<()> {
-    loop {
+    'places: loop {
         scanner.skip_past(b"charset", Case::Ignored)?;
         scanner.skip(Run::Spaces);
         if scanner.peek()? == b'=' {

@@ -58,7 +58,7 @@ fn skip_tag(scanner: &mut Scanner<'_>) -> Option<()>
     ensures { bytes_left scanner.new ≤ bytes_left scanner.old }
 {
     scanner.skip(Run::Word(b'>'));
-    while has_attribute(scanner)? {
+    'attributes: while has_attribute(scanner)? {
         let _attribute = take_attribute(scanner)?;
     }
     Some(())
@@ -70,7 +70,7 @@ fn take_meta<'a>(scanner: &mut Scanner<'a>) -> Option<MetaElement<'a>>
 {
     scanner.skip(Run::Word(b'/'));
     let mut element = MetaElement::new();
-    while has_attribute(scanner)? {
+    'attributes: while has_attribute(scanner)? {
         element.add(take_attribute(scanner)?);
     }
     Some(element)
@@ -79,7 +79,7 @@ fn take_meta<'a>(scanner: &mut Scanner<'a>) -> Option<MetaElement<'a>>
 /// Returns the encoding of the first meta element that declares one.
 pub(crate) fn find_meta(head: &[u8]) -> Option<Encoding> {
     let mut scanner = Scanner::new(head);
-    while let Some(markup) = next_markup(&mut scanner) {
+    'markup: while let Some(markup) = next_markup(&mut scanner) {
         match markup {
             Markup::Comment => scanner.skip_past(b"-->", Case::Exact)?,
             Markup::Meta => {
