@@ -1,7 +1,8 @@
 //! The places of all malformed sequences of a file, in any encoding.
+//!
+//! Those that the program prints of data/diary.txt are where Python's codec gb18030 stops.
 
-ghost use Rattle.std.specs.Prelude.{◌≡◌, false};
-ghost use Rattle.encoding_rs.specs.Decoding.{has_finished};
+ghost use Rattle.std.specs.Prelude.{◌≡◌, ◌+◌, ◌≤◌};
 
 #[cfg(test)]
 mod tests;
@@ -49,8 +50,19 @@ impl Place {
     }
 }
 
-/// Writes a line for a malformed sequence: its offset in bytes, its place in the text, and its
-/// bytes.
+/// Returns the offsets of the first byte of a malformed sequence and of the byte after it. Its
+/// `length` bytes stand before the last `after` bytes of those read so far.
+fn ends_of_fault(read: usize, length: u8, after: u8) -> (usize, usize)
+    ensures order { result.0 ≤ result.1 }
+    ensures within { result.1 ≤ read }
+    ensures place { length + after ≤ read →
+        (result.0 + length ≡ result.1) × (result.1 + after ≡ read) }
+{
+    let end = read.saturating_sub(usize::from(after));
+    (end.saturating_sub(usize::from(length)), end)
+}
+
+/// Writes a line for a malformed sequence: its offset in bytes, its place, and its bytes.
 fn write_fault<W: Write>(offset: usize, place: Place, bytes: &[u8], out: &mut W) -> io::Result<()> {
     let Place { line, column } = place;
     write!(out, "offset {offset}, line {line}, column {column}:")?;
@@ -62,7 +74,7 @@ fn write_fault<W: Write>(offset: usize, place: Place, bytes: &[u8], out: &mut W)
 
 /// Writes a line for each malformed sequence of a whole input, and returns their number.
 ///
-/// A sequence is a character of the text, as U+FFFD is in its place where a caller replaces it.
+/// A malformed sequence counts as one character of the text, as U+FFFD does where it is replaced.
 fn write_faults<W: Write>(bytes: &[u8], encoding: Encoding, out: &mut W) -> io::Result<usize> {
     let mut decoder = encoding.new_decoder();
     let mut text = [0; LENGTH];
@@ -79,10 +91,7 @@ fn write_faults<W: Write>(bytes: &[u8], encoding: Encoding, out: &mut W) -> io::
             DecoderResult::InputEmpty => return Ok(count),
             DecoderResult::OutputFull => {}
             DecoderResult::Malformed(length, after) => {
-                let end = bytes
-                    .len()
-                    .saturating_sub(unread.len() + usize::from(after));
-                let offset = end.saturating_sub(usize::from(length));
+                let (offset, end) = ends_of_fault(bytes.len() - unread.len(), length, after);
                 write_fault(offset, place, &bytes[offset..end], out)?;
                 place = place.after('\u{FFFD}');
                 count = count.saturating_add(1);
