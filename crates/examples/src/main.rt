@@ -1,14 +1,16 @@
 //! Examples of calls, each in a file of its own.
 //!
-//! `examples detection FILE=LABEL ..` finds the encodings of files. `examples first-fault LABEL`,
-//! `examples form-data LABEL` and `examples mail-part` read standard input. `examples all` runs
+//! `examples detection FILE=LABEL ..` finds the encodings of files. The others read standard input:
+//! `examples NAME LABEL`, where `mail-part` and `meta-prescan` take no label. `examples all` runs
 //! each over the files of `data`, from which it has to be started.
 #![tactic(auto)]
 
 mod detection;
-mod first_fault;
+mod faults;
 mod form_data;
 mod mail_part;
+mod meta_prescan;
+mod scanner;
 
 use std::io::{Error, Read};
 use std::{env, fs, io};
@@ -25,18 +27,23 @@ const FILES: &[(&str, &str)] = &[
 
 /// The other examples, each with its label and its file.
 const INPUTS: &[(&str, &str, &str)] = &[
-    ("first-fault", "gb18030", "diary.txt"),
+    ("faults", "gb18030", "diary.txt"),
     ("form-data", "shift_jis", "form.txt"),
     ("mail-part", "", "mail.txt"),
+    ("meta-prescan", "", "cyrillic.html"),
+    ("meta-prescan", "", "late.html"),
+    ("meta-prescan", "", "marked.html"),
+    ("meta-prescan", "", "shift_jis.html"),
 ];
 
 /// Runs an example over an input.
 fn run<R: Read>(rt: &HostRuntime, name: &str, label: &str, input: &mut R) -> io::Result<()> {
     let mut out = rt.stdout();
     match name {
-        "first-fault" => first_fault::run(rt.alloc(), label, input, &mut out),
+        "faults" => faults::run(rt.alloc(), label, input, &mut out),
         "form-data" => form_data::run(rt.alloc(), label, input, &mut out),
         "mail-part" => mail_part::run(rt.alloc(), input, &mut out),
+        "meta-prescan" => meta_prescan::run(rt.alloc(), input, &mut out),
         _ => Err(Error::other("no such example")),
     }
 }

@@ -1,0 +1,6 @@
+use Rattle.std.specs.Prelude.{ℕ, ◌-◌, length}
+use Rattle.examples.specs.declared.scanner.Scanner.{Scanner}
+
+-- how many bytes follow the position
+abbrev pub bytes_left : Scanner → ℕ
+bytes_left s = length s.bytes.now - s.at
