@@ -1,5 +1,5 @@
-//! Decoders of UTF-8 and UTF-16. Only `plain::decode_utf_8` takes memory, from the allocator that it
-//! is passed.
+//! Decoders of UTF-8 and UTF-16. Only `plain::decode_utf_8` takes memory, from the allocator that
+//! it is passed.
 #![tactic(auto)]
 
 pub mod plain;

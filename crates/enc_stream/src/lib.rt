@@ -4,8 +4,8 @@
 //! chunks and output buffers of any size. An [`Encoding`] is found by its constant, by a label or
 //! by a byte order mark. `encoding_rs` passes all of it on.
 //!
-//! A call takes memory only if it is passed an allocator. Calls into a String or a Vec append within
-//! its capacity.
+//! A call takes memory only if it is passed an allocator. Calls into a String or a Vec append
+//! within its capacity.
 #![tactic(auto)]
 
 mod bom;
