@@ -28,7 +28,7 @@ def named_in(document):
 
 def dead_paths():
     """The paths that documents name and that are not there."""
-    documents = sorted(paths("*.md") + paths("*/*.md"))
+    documents = sorted(paths("*.md") + paths("*/*.md") + paths("crates/*/*.md"))
     named = [(document, *it) for document in documents for it in named_in(document)]
     return [f"{document}: no {it}" for document, it, path in named if not paths(ANY.sub("*", path))]
 
