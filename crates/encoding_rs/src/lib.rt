@@ -102,7 +102,8 @@
 //!   encoding of the one that it finds. That is what browsers do with pages.
 //! - [`Encoding::new_decoder_with_bom_removal`] removes that of its own encoding alone. It is for
 //!   formats that are always UTF-8 and may begin with the mark.
-//! - [`Encoding::new_decoder_without_bom_handling`] looks for none. A mark is U+FEFF in the text.
+//! - [`Encoding::new_decoder_without_bom_handling`] looks for none. A mark is part of the text, as
+//!   U+FEFF in UTF-8.
 //!
 //! ```rust
 //! let bytes = b"\xEF\xBB\xBFa";
@@ -122,14 +123,15 @@
 //! [`Decoder::max_utf8_buffer_length`], [`Decoder::max_utf16_buffer_length`], and of an encoder
 //! [`Encoder::max_buffer_length_from_utf8_if_no_unmappables`], if it has no reference to write. A
 //! query is asked before each call, since it counts what the decoder holds. It returns `None` if
-//! the length overflows `usize`.
+//! a step of its formula overflows `usize`.
 //!
 //! ## Memory
 //!
 //! A call takes memory only if it is passed an allocator: the one-shot calls and the runs of
 //! [`run`]. Where memory is refused they return an error, and where a text is lent they take none.
 //! All other calls take none, so their documentation says nothing of it. Those into a String or a
-//! Vec append within its capacity, and return `OutputFull` at its end.
+//! Vec append within its capacity, and return `OutputFull` at its end. Their clause `capacity` says
+//! that it does not shrink; that it is not raised either is no clause.
 //!
 //! ## What is proved
 //!
