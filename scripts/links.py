@@ -1,4 +1,4 @@
-"""The files, folders and tests that documents name. For scripts/documents."""
+"""The files, folders and tests that documents name, and the code that they show. For scripts/documents."""
 
 import os
 import re
@@ -9,6 +9,9 @@ from edit_list import file_of_test
 # Folders whose name begins a path of the repository, and words that begin one below crates.
 ROOTS = ("crates/", "docs/", "scripts/", "data/", "bench/", "completions/", ".ci/")
 BELOW = re.compile(r"\b((?:enc|recode|conformance|test)\w*/(?:src|specs|proofs|must-fail|edits|equal)/[\w./-]*\w)")
+# Code that is shown, and the sources that have it: tests, examples and their proofs.
+CODE = re.compile(r"^```(?:rust|antt)\n(.*?)^```$", re.M | re.S)
+EXAMPLES = ("crates/test_calls/src/doc_examples.rt", "crates/example_*/src/*.rt", "crates/example_*/proofs/**/*.antt")
 # What stands for any name.
 ANY = re.compile(r"NAME|Name|WHAT|\bname(?![a-z])")
 
@@ -25,7 +28,7 @@ def named_in(document):
 
 def dead_paths():
     """The paths that documents name and that are not there."""
-    documents = sorted(paths("*.md") + paths("*/*.md"))
+    documents = sorted(paths("*.md") + paths("*/*.md") + paths("crates/*/*.md"))
     named = [(document, *it) for document in documents for it in named_in(document)]
     return [f"{document}: no {it}" for document, it, path in named if not paths(ANY.sub("*", path))]
 
@@ -36,6 +39,19 @@ def missing_tests():
     missing = [it for it in named if not file_of_test("::".join(it))]
     return [f"docs/DIFFERENCES.md: no test {name} in crates/{crate}/src/{module.replace('::', '/')}.rt"
             for crate, module, name in missing]
+
+
+def bare(path):
+    """A file without what its lines begin with: blanks, and the marks of documentation."""
+    return re.sub(r"^ *(?:///|//!)? *", "", read(path), flags=re.M)
+
+
+def untested_code():
+    """The code in the documentation of crates that no test and no example has."""
+    examples = "".join(bare(it) for pattern in EXAMPLES for it in paths(pattern))
+    documents = paths("crates/*/src/**/*.rt") + paths("crates/*/CALLING.md")
+    shown = [(it, code) for it in documents for code in CODE.findall(bare(it))]
+    return [f"{it}: no example has: {code.splitlines()[0]}" for it, code in shown if code not in examples]
 
 
 def crates_without_a_row():

@@ -238,7 +238,7 @@ def texts_of_encodings():
     found = re.findall(r"^(\S+)\n((?: +\S.*\n)+)", read(CONSTANTS), re.M)
     if [it[0] for it in found] != [it.name for it in encodings()]:
         refuse(CONSTANTS, f"it has not the encodings of {ENCODINGS} in their order")
-    return dict(found)
+    return {name: " ".join(text.split()) for name, text in found}
 
 
 def labels_of(those):

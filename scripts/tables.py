@@ -123,15 +123,12 @@ def unit_of(character):
     return ord(character) if "" < character < "\U00010000" else 0
 
 
-def lines_of(items, each):
-    rows = (items[start : start + each] for start in range(0, len(items), each))
-    return "".join("    " + ", ".join(row) + ",\n" for row in rows)
-
-
 def items_text(doc, declaration, items, each):
     """A list of data: of a slice, where its type says so, and else of an array."""
     opens = "&[" if "&[" in declaration else "["
-    return f"/// {doc}\n#[rattlefmt::skip]\n{declaration} = {opens}\n" + lines_of(items, each) + "];\n"
+    rows = (", ".join(items[start : start + each]) for start in range(0, len(items), each))
+    lines = "".join(f"    {row},\n" for row in rows)
+    return f"/// {doc}\n#[rattlefmt::skip]\n{declaration} = {opens}\n{lines}];\n"
 
 
 def runs_text(doc, constant, runs):
@@ -147,12 +144,9 @@ def array_text(doc, constant, number, numbers, visible="pub", digits=None):
 
 def words_and_units(constant, characters, of_words, of_units, visible="pub"):
     """The UTF-8 and the UTF-16 of characters."""
-    by_word, by_unit = f"The UTF-8 of {of_words}", f"The UTF-16 code unit{of_units}"
-    words, units = map(word_of, characters), map(unit_of, characters)
-    return [
-        array_text(by_word, f"{constant}_WORDS", "u32", list(words), visible, 8),
-        array_text(by_unit, f"{constant}_UNITS", "u16", list(units), visible),
-    ]
+    words, units = list(map(word_of, characters)), list(map(unit_of, characters))
+    return [array_text(f"The UTF-8 of {of_words}", f"{constant}_WORDS", "u32", words, visible, 8),
+            array_text(f"The UTF-16 code unit{of_units}", f"{constant}_UNITS", "u16", units, visible)]
 
 
 def source(title, text, parts, more=""):
@@ -203,25 +197,17 @@ def pages_source(lookup):
 def ranges_by_code_point():
     title = "Pointers in index gb18030 ranges (Encoding Standard 5)."
     doc = "The ranges without the pointer 7457: first and last code point, and the first one's pointer."
-    items = [
-        f"(0x{code_point:04X}, 0x{code_point + last - first:04X}, {first})"
-        for first, last, code_point in ranges()
-        if first != PRIVATE_USE_POINTER
-    ]
+    items = [f"(0x{code_point:04X}, 0x{code_point + last - first:04X}, {first})"
+             for first, last, code_point in ranges() if first != PRIVATE_USE_POINTER]
     declaration = "pub const GB18030_RANGES_BY_CODE_POINT: &[(u32, u32, u32)]"
     return source(title, text_of("gb18030-ranges"), [items_text(doc, declaration, items, RUNS_A_LINE)])
-
-
-def title_of(encoding):
-    name = encoding.name.lower()
-    return encoding.name if name.startswith(("ibm", "koi8")) else name.replace("iso", "ISO")
 
 
 def single_byte_sources():
     """The runs, tables, words and units, pages and bytes of all single-byte indexes, one index after another."""
     names = [it.name.lower() for it in SINGLE_BYTE]
     runs = [
-        runs_text(f"The runs of the index of {title_of(it)}.", f"{it.constant}_RUNS", runs_of(entries_of(name)))
+        runs_text(f"The runs of the index of {it.name}.", f"{it.constant}_RUNS", runs_of(entries_of(name)))
         for it, name in zip(SINGLE_BYTE, names)
     ]
     tables = [table_of(name, 128) for name in names]
@@ -275,14 +261,10 @@ def ends_source():
     return source("The ends of characters of one and two bytes.", "", [ends])
 
 
-def marked_of(mask):
-    """The places of the bytes of eight code units that the bits of a mask mark, and zeros up to sixteen places."""
-    marked = [place for unit in range(8) if mask >> unit & 1 for place in (2 * unit, 2 * unit + 1)]
-    return marked + [0] * (16 - len(marked))
-
-
 def marked_source():
-    places = sum(map(marked_of, range(256)), [])
+    """The places of the bytes of eight code units that the bits of each mask mark, and zeros up to sixteen places."""
+    marked = [[byte for byte in range(16) if mask >> byte // 2 & 1] for mask in range(256)]
+    places = [place for those in marked for place in those + [0] * (16 - len(those))]
     doc = "The numbers of the bytes of eight code units that a mask marks: sixteen, the rest 0."
     return source("The places of marked code units.", "", [array_text(doc, "MARKED", "u8", places, "pub(crate)")])
 
@@ -326,16 +308,12 @@ def user_defined_source():
     return source("The characters of bytes in x-user-defined (Encoding Standard 14.5).", "", parts)
 
 
-def replaced_byte_of(byte):
-    """The character of a byte in ISO-2022-JP with ASCII designated, U+FFFD for a malformed one, and none for 1B."""
-    if byte == 0x1B:
-        return ""
-    return chr(byte) if byte < 128 and byte not in (0x0E, 0x0F) else "\uFFFD"
-
-
 def replaced_bytes_source():
-    """The UTF-8 and the UTF-16 of each byte in ISO-2022-JP with ASCII designated, in error mode "replacement"."""
-    characters = list(map(replaced_byte_of, range(256)))
+    """The UTF-8 and the UTF-16 of each byte in ISO-2022-JP with ASCII designated, in error mode "replacement": U+FFFD for
+    a malformed one, and none for 1B."""
+    characters = [chr(byte) if byte < 128 else "\uFFFD" for byte in range(256)]
+    characters[0x0E] = characters[0x0F] = "\uFFFD"
+    characters[0x1B] = ""
     of_words = "each byte: first byte lowest, number of bytes highest. 0 for none."
     parts = words_and_units("REPLACED", characters, of_words, " of each byte. 0 for none.", "pub(crate)")
     title = "The characters of bytes in ASCII, with U+FFFD for malformed ones (Encoding Standard 12.2.1)."
@@ -361,11 +339,6 @@ def definition_of(title, doc, name, row_type, rows):
     return out + f"{name} =\n    " + "\n    ∷ ".join(listed) + " ∷ []\n"
 
 
-def gb18030_pointer_of(lead, trail):
-    """The pointer of two bytes in index gb18030."""
-    return (lead - 0x81) * 190 + trail - (0x40 if trail < 0x7F else 0x41)
-
-
 def private_use():
     """The characters of private use with two bytes of their own in gb18030, with these, and with those of the index."""
     rows, table = rows_of(PRIVATE_USE_TEXT, 16, 16, 16), dict(entries_of("gb18030"))
@@ -373,7 +346,7 @@ def private_use():
     doc = "A character and its two bytes a row. Index gb18030 has other characters at these bytes."
     items = [f"('\\u{{{code:04X}}}', 0x{lead:02X}, 0x{trail:02X})" for code, lead, trail in rows]
     parts = [items_text(doc, "pub const PRIVATE_USE: &[(char, u8, u8)]", items, 3)]
-    in_index = [(code, table[gb18030_pointer_of(lead, trail)]) for code, lead, trail in rows]
+    in_index = [(code, table[(lead - 0x81) * 190 + trail - (0x40 if trail < 0x7F else 0x41)]) for code, lead, trail in rows]
     return {
         "crates/enc_encode/src/encoders/private_use.rt": source(title, PRIVATE_USE_TEXT, parts),
         "crates/enc_encode/specs/PrivateUse.antt": definition_of(

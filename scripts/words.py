@@ -24,16 +24,11 @@ def words_of_labels(labels):
     return "\n    " + "\n    ++ ".join(f'words "{line}"' for line in lines)
 
 
-def about(name):
-    """What an encoding is in practice, as lines of a doc comment."""
-    text = " ".join(texts_of_encodings()[name].split())
-    return textwrap.fill(text, 100, initial_indent="/// ", subsequent_indent="/// ", break_on_hyphens=False)
-
-
 def words_of_encoding(it):
     index_in_code = f"(SingleByteIndex::{it.index})" if it.index else ""
     return names_of(it.ident, it.constant) | {
-        "title": it.name, "section": it.section, "about": about(it.name),
+        "title": it.name, "section": it.section,
+        "about": textwrap.indent(textwrap.fill(texts_of_encodings()[it.name], 96, break_on_hyphens=False), "/// "),
         "codec_in_code": f"Codec::{it.codec}{index_in_code}",
         "codec_in_spec": f"codec.{it.codec}" + (f" index.{it.index}" if it.index else ""),
         "Output": "Utf8" if it.writes_utf_8 else it.ident,

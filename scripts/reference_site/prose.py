@@ -11,7 +11,8 @@ from homes import Target, page_of_spec
 from names import breakable, href
 from surface import libraries
 
-DOCUMENTS = ("README.md", "ARCHITECTURE.md", "CONTRIBUTING.md", "CHANGELOG.md", "docs/*.md", "data/README.md")
+DOCUMENTS = ("README.md", "ARCHITECTURE.md", "CONTRIBUTING.md", "CHANGELOG.md", "docs/*.md", "data/README.md",
+             "crates/*/CALLING.md")
 # A link or a picture, a word in backticks, and a path of the repository by itself.
 PICTURE = r"!\[(?P<alt>[^\]]*)\]\((?P<picture>[^)\s]+)\)"
 LINK = r"\[(?P<text>(?:`[^`]*`|[^\[\]`])*)\]\((?P<target>[^)\s]+)\)"

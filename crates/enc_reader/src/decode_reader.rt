@@ -330,6 +330,16 @@ impl<'a, R: Source> DecodeReader<'a, R> {
     ///
     /// Errors write nothing: `Reader` if the source failed in this read (no error of it is tried
     /// again), and `Failed` in each later read.
+    ///
+    /// ```rust
+    /// let mut source = FromRead::new(b"\x93caf\xE9\x94".as_slice());
+    /// let mut buffer = [0; 64];
+    /// let mut reader = DecodeReader::new(&mut source, Some(WINDOWS_1252), &mut buffer);
+    /// let mut text = [0; 64];
+    /// assert!(rt; reader.read_str(&mut text) == Ok(11));
+    /// assert!(rt; &text[..11] == "“café”".as_bytes());
+    /// assert!(rt; reader.read_str(&mut text) == Ok(0));
+    /// ```
     pub fn read_str(&mut self, dst: &mut [u8]) -> Result<usize, ReadFault>
         requires { 4 ≤ length dst.old }
         ensures ok { IfOk result (λ n. HandsOut (R.remaining self.old.reader.now)

@@ -22,6 +22,12 @@ impl Encoding {
     ///
     /// That is "BOM sniff" of Encoding Standard 6. The length is in bytes. `None` if there is none.
     /// Only the first three bytes are read.
+    ///
+    /// ```rust
+    /// assert!(rt; Encoding::for_bom(b"\xFE\xFF\0a") == Some((UTF_16BE, 2)));
+    /// assert!(rt; Encoding::for_bom(b"\xEF\xBB\xBFa") == Some((UTF_8, 3)));
+    /// assert!(rt; Encoding::for_bom(b"a") == None);
+    /// ```
     pub fn for_bom(buffer: &[u8]) -> Option<(Encoding, usize)>
         ensures mark { result ≡ bom_of buffer.now }
         ensures within { IfSome result (λ found. found.1 ≤ length buffer.now) }

@@ -131,6 +131,17 @@ impl Decoder {
     /// Any length of `dst` will do, 0 too; with four bytes each call makes progress: a loop ends by
     /// `progress`, since the number of bytes pending and unread falls. The bytes of `dst` after
     /// those written are unchanged. Condition: the decoder is not finished.
+    ///
+    /// ```rust
+    /// let mut decoder = SHIFT_JIS.new_decoder();
+    /// let mut text = [0; 8];
+    /// // The chunk ends within a character. Its first byte is read, and kept for the next call.
+    /// let outcome = decoder.decode_to_utf8(b"a\x93", &mut text, false);
+    /// assert!(rt; outcome == (CoderResult::InputEmpty, 2, 1, false));
+    /// let outcome = decoder.decode_to_utf8(b"\xFA", &mut text, true);
+    /// assert!(rt; outcome == (CoderResult::InputEmpty, 1, 3, false));
+    /// assert!(rt; &text[..3] == "日".as_bytes());
+    /// ```
     pub fn decode_to_utf8(
         &mut self,
         src: &[u8],
@@ -182,6 +193,17 @@ impl Decoder {
     /// Any length of `dst` will do, 0 too; with four bytes each call makes progress: a loop ends by
     /// `progress`, since the number of bytes pending and unread falls. The bytes of `dst` after
     /// those written are unchanged. Condition: the decoder is not finished.
+    ///
+    /// ```rust
+    /// let mut decoder = UTF_8.new_decoder();
+    /// let mut text = [0; 8];
+    /// let bytes = b"caf\xE9";
+    /// let outcome = decoder.decode_to_utf8_without_replacement(bytes, &mut text, true);
+    /// // The byte before the place that is read up to is malformed.
+    /// assert!(rt; outcome == (DecoderResult::Malformed(1, 0), 4, 3));
+    /// let outcome = decoder.decode_to_utf8_without_replacement(b"", &mut text, true);
+    /// assert!(rt; outcome == (DecoderResult::InputEmpty, 0, 0));
+    /// ```
     pub fn decode_to_utf8_without_replacement(
         &mut self,
         src: &[u8],
@@ -222,6 +244,14 @@ impl Decoder {
     /// Any length of `dst` will do, 0 too; with two code units each call makes progress: a loop
     /// ends by `progress`, since the number of bytes pending and unread falls. The code units of
     /// `dst` after those written are unchanged. Condition: the decoder is not finished.
+    ///
+    /// ```rust
+    /// let mut decoder = BIG5.new_decoder();
+    /// let mut units = [0; 8];
+    /// let outcome = decoder.decode_to_utf16(b"\xA4\xA4\xA4\xE5", &mut units, true);
+    /// assert!(rt; outcome == (CoderResult::InputEmpty, 4, 2, false));
+    /// assert!(rt; units[..2] == [0x4E2D, 0x6587]);
+    /// ```
     pub fn decode_to_utf16(
         &mut self,
         src: &[u8],

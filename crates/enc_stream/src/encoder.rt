@@ -191,6 +191,14 @@ impl Encoder {
     /// makes progress: a loop ends by `progress` or `progress_if_none_kept`, since fewer steps are
     /// left (`steps_left`: an escape sequence, a character's bytes and a report are a step each).
     /// The bytes of `dst` after those written are unchanged.
+    ///
+    /// ```rust
+    /// let mut encoder = ISO_8859_2.new_encoder();
+    /// let mut bytes = [0; 32];
+    /// let outcome = encoder.encode_from_utf8("Łódź €", &mut bytes, true);
+    /// assert!(rt; outcome == (CoderResult::InputEmpty, 11, 12, true));
+    /// assert!(rt; &bytes[..12] == b"\xA3\xF3d\xBC &#8364;".as_slice());
+    /// ```
     pub fn encode_from_utf8(
         &mut self,
         src: &str,
@@ -235,6 +243,14 @@ impl Encoder {
     /// The same as [`Encoder::encode_from_utf8`], except that the number read is in code units. A
     /// surrogate without its partner in `src` is U+FFFD: so are both halves of a pair that is split
     /// between two calls. A loop ends in the same way.
+    ///
+    /// ```rust
+    /// let mut encoder = SHIFT_JIS.new_encoder();
+    /// let mut bytes = [0; 16];
+    /// let outcome = encoder.encode_from_utf16(&[0x65E5, 0x672C], &mut bytes, true);
+    /// assert!(rt; outcome == (CoderResult::InputEmpty, 2, 4, false));
+    /// assert!(rt; &bytes[..4] == b"\x93\xFA\x96\x7B".as_slice());
+    /// ```
     pub fn encode_from_utf16(
         &mut self,
         src: &[u16],
@@ -279,6 +295,14 @@ impl Encoder {
     /// which may be 0. Returns why the call stopped, the number of bytes read from `src`, and
     /// whether a reference was written. Appends within the capacity, which does not shrink: takes
     /// no memory. A loop ends in the same way, by the spare capacity.
+    ///
+    /// ```rust
+    /// let mut encoder = GBK.new_encoder();
+    /// let mut bytes = Vec::with_capacity(rt.alloc(), 16)?;
+    /// let outcome = encoder.encode_from_utf8_to_vec("中文", &mut bytes, true);
+    /// assert!(rt; outcome == (CoderResult::InputEmpty, 6, false));
+    /// assert!(rt; &bytes[..] == b"\xD6\xD0\xCE\xC4".as_slice());
+    /// ```
     pub fn encode_from_utf8_to_vec(
         &mut self,
         src: &str,
@@ -380,6 +404,14 @@ impl Encoder {
     /// `progress`, since fewer steps are left (`steps_left`, as for [`Encoder::encode_from_utf8`]).
     /// The bytes of a character are written together; an escape sequence before it may be written
     /// alone. The bytes of `dst` after those written are unchanged.
+    ///
+    /// ```rust
+    /// let mut encoder = KOI8_U.new_encoder();
+    /// let mut bytes = [0; 8];
+    /// let outcome = encoder.encode_from_utf8_without_replacement("є€", &mut bytes, true);
+    /// assert!(rt; outcome == (EncoderResult::Unmappable('€'), 5, 1));
+    /// assert!(rt; bytes[0] == 0xA4);
+    /// ```
     pub fn encode_from_utf8_without_replacement(
         &mut self,
         src: &str,

@@ -48,6 +48,12 @@ impl Encoder {
     /// [`Encoder::encode_from_utf8`] reads all then. The length includes the 10 bytes that are kept
     /// free for references, unless the encoding is UTF-8 and no character is barred. `None` if a
     /// step of the formula overflows `usize`.
+    ///
+    /// ```rust
+    /// // A byte for each of ten ASCII bytes, and the ten that are kept free for a reference.
+    /// let encoder = WINDOWS_1252.new_encoder();
+    /// assert!(rt; encoder.max_buffer_length_from_utf8_if_no_unmappables(10) == Some(20));
+    /// ```
     pub fn max_buffer_length_from_utf8_if_no_unmappables(&self, byte_length: usize) -> Option<usize>
         ensures formula { result ≡ checked_add
             (from_utf_8_length (output_lengths self.now.encoding) byte_length)

@@ -64,6 +64,11 @@ impl Encoding {
     ///
     /// A borrowed text takes no memory, and is never refused. Otherwise memory and errors are those
     /// of [`Encoding::decode`].
+    ///
+    /// ```rust
+    /// let (text, _, _) = UTF_8.decode_lending(rt.alloc(), b"caf\xC3\xA9")?;
+    /// assert!(rt; matches!(text, CowStr::Borrowed("café")));
+    /// ```
     pub fn decode_lending<'a>(
         self,
         alloc: Global,
@@ -212,6 +217,12 @@ impl Encoding {
     ///
     /// Borrowed bytes take no memory, and are never refused. Otherwise memory and errors are those
     /// of [`Encoding::encode`].
+    ///
+    /// ```rust
+    /// let (bytes, encoding, _) = UTF_16LE.encode_lending(rt.alloc(), "é")?;
+    /// assert!(rt; matches!(bytes, CowSlice::Borrowed(b"\xC3\xA9")));
+    /// assert!(rt; encoding == UTF_8);
+    /// ```
     pub fn encode_lending<'a>(
         self,
         alloc: Global,

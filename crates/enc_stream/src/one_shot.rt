@@ -312,6 +312,11 @@ impl Encoding {
     /// empty input takes none. Errors: [`OneShotError::TooLong`] if a length to allocate, or its
     /// sum with the length written before, overflows `usize`; [`OneShotError::Memory`] if and only
     /// if memory is refused.
+    ///
+    /// ```rust
+    /// let (text, encoding, had_errors) = SHIFT_JIS.decode(rt.alloc(), b"\x93\xFA\x96\x7B\xFF")?;
+    /// assert!(rt; (text.as_str(), encoding, had_errors) == ("日本\u{FFFD}", SHIFT_JIS, true));
+    /// ```
     pub fn decode(
         self,
         alloc: Global,
@@ -344,6 +349,12 @@ impl Encoding {
     ///
     /// That is "UTF-8 decode" of Encoding Standard 6, for any encoding. Returns the text, and
     /// whether a sequence was malformed. Memory and errors are those of [`Encoding::decode`].
+    ///
+    /// ```rust
+    /// let bytes = b"\xFF\xFEa\0\x3D\xD8";
+    /// let (text, had_errors) = UTF_16LE.decode_with_bom_removal(rt.alloc(), bytes)?;
+    /// assert!(rt; (text.as_str(), had_errors) == ("a\u{FFFD}", true));
+    /// ```
     pub fn decode_with_bom_removal(
         self,
         alloc: Global,
@@ -396,6 +407,14 @@ impl Encoding {
     /// That is "UTF-8 decode without BOM or fail" of Encoding Standard 6, for any encoding. Returns
     /// the text, or `None` exactly if a sequence is malformed. Takes memory for the text in one
     /// growth, and none for an empty input. Errors are those of [`Encoding::decode`].
+    ///
+    /// ```rust
+    /// let (good, bad) = (b"caf\xC3\xA9", b"caf\xE9");
+    /// let text = UTF_8.decode_without_bom_handling_and_without_replacement(rt.alloc(), good)?;
+    /// assert!(rt; text.as_deref() == Some("café"));
+    /// let text = UTF_8.decode_without_bom_handling_and_without_replacement(rt.alloc(), bad)?;
+    /// assert!(rt; text.is_none());
+    /// ```
     pub fn decode_without_bom_handling_and_without_replacement(
         self,
         alloc: Global,
@@ -426,6 +445,12 @@ impl Encoding {
     ///
     /// Takes memory for the bytes: one growth if nothing is unmappable, and otherwise one or more.
     /// An empty text takes none. Errors are those of [`Encoding::decode`].
+    ///
+    /// ```rust
+    /// let (bytes, encoding, had_unmappables) = WINDOWS_1252.encode(rt.alloc(), "5 € → 日")?;
+    /// assert!(rt; &bytes[..] == b"5 \x80 &#8594; &#26085;".as_slice());
+    /// assert!(rt; (encoding, had_unmappables) == (WINDOWS_1252, true));
+    /// ```
     pub fn encode(
         self,
         alloc: Global,

@@ -11,6 +11,11 @@ use crate::encoding::Encoding;
 
 impl Encoding {
     /// Returns its name (Encoding Standard 4.2), which is one of its labels.
+    ///
+    /// ```rust
+    /// assert!(rt; SHIFT_JIS.name() == "Shift_JIS");
+    /// assert!(rt; Encoding::for_label(SHIFT_JIS.name().as_bytes()) == Some(SHIFT_JIS));
+    /// ```
     pub fn name(self) -> &'static str
         ensures { result.now ≡ name_of self }
     {
@@ -20,6 +25,11 @@ impl Encoding {
     /// Returns its output encoding (Encoding Standard 4.3, "get an output encoding").
     ///
     /// That is UTF-8 for replacement, UTF-16BE and UTF-16LE, and the encoding itself otherwise.
+    ///
+    /// ```rust
+    /// assert!(rt; UTF_16LE.output_encoding() == UTF_8);
+    /// assert!(rt; BIG5.output_encoding() == BIG5);
+    /// ```
     pub fn output_encoding(self) -> Encoding
         ensures { result ≡ output_encoding_of self }
     {

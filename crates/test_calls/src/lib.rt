@@ -11,6 +11,8 @@ mod bom;
 #[cfg(test)]
 mod calls;
 #[cfg(test)]
+mod doc_examples;
+#[cfg(test)]
 mod encodings;
 #[cfg(test)]
 mod ends;

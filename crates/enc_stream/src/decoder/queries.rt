@@ -50,6 +50,13 @@ impl Decoder {
     /// It is enough for `byte_length` more bytes, in [`Decoder::decode_to_utf8`] and the calls to a
     /// str and to a String. `None` if a step of the formula overflows `usize`. The decoder is
     /// unchanged. Condition: it is not finished.
+    ///
+    /// ```rust
+    /// // Each of ten bytes may be U+FFFD, which is three bytes.
+    /// let decoder = WINDOWS_1252.new_decoder_without_bom_handling();
+    /// assert!(rt; decoder.max_utf8_buffer_length(10) == Some(30));
+    /// assert!(rt; decoder.max_utf16_buffer_length(10) == Some(10));
+    /// ```
     pub fn max_utf8_buffer_length(&self, byte_length: usize) -> Option<usize>
         requires unfinished { has_finished self.now ≡ false }
         ensures length { result ≡ max_length query.Utf8 self.now byte_length }
@@ -94,6 +101,12 @@ impl Decoder {
     /// - while a byte order mark may still come, while bytes are pending, and after the end;
     /// - in ISO-2022-JP while a character set other than ASCII is designated;
     /// - always in UTF-16LE, UTF-16BE and replacement.
+    ///
+    /// ```rust
+    /// let decoder = WINDOWS_1252.new_decoder_without_bom_handling();
+    /// // E9 is U+00E9, and 80 is U+20AC.
+    /// assert!(rt; decoder.latin1_byte_compatible_up_to(b"caf\xE9 \x80") == Some(5));
+    /// ```
     pub fn latin1_byte_compatible_up_to(&self, bytes: &[u8]) -> Option<usize>
         ensures { AnswersDecoderLatin1 self.now bytes.now result }
     {

@@ -107,6 +107,14 @@ impl Decoder {
     /// Appends within the capacity, which does not shrink: takes no memory. With four bytes of
     /// spare capacity a loop ends by `progress`, since the number of bytes pending and unread
     /// falls. Condition: the decoder is not finished.
+    ///
+    /// ```rust
+    /// let mut decoder = EUC_KR.new_decoder();
+    /// let mut text = String::with_capacity(rt.alloc(), 8)?;
+    /// let outcome = decoder.decode_to_string(b"\xC7\xD1\xB1\xDB", &mut text, true);
+    /// assert!(rt; outcome == (CoderResult::InputEmpty, 4, false));
+    /// assert!(rt; text.as_str() == "한글");
+    /// ```
     pub fn decode_to_string(
         &mut self,
         src: &[u8],
