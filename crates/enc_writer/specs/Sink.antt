@@ -12,3 +12,7 @@ pub record AppendsPrefix (old new : Option (List ℕ)) (bytes : List ℕ) : Type
   pub unwritten : List ℕ
   pub prefix : bytes ≡ wrote ++ unwritten
   pub taken : AppendsContents old new wrote
+
+-- One list is a prefix of another.
+abbrev pub BeginsWithBytes : List ℕ → List ℕ → Type 0
+BeginsWithBytes all front = (others : List ℕ) × (all ≡ front ++ others)

@@ -1,13 +1,13 @@
 -- Successive calls of an encoder are one call.
-use Rattle.std.proofs.Common.{◌≡◌, ℕ, Bool, true, false, ◌||◌, Option, List, [], ◌++◌, refl}
+use Rattle.std.proofs.Common.{◌≡◌, ℕ, Bool, true, false, ◌||◌, List, [], ◌++◌, refl}
 use Rattle.std.proofs.Common.{ap, ◌∙◌, sym, append_assoc, append-nil, chars, IsUtf8}
 use Rattle.std.proofs.lemmas.Str.{encodes-chars}
-use Rattle.std.specs.Char.{encode_utf8}
 use Rattle.std.specs.Str.{encode_utf8_all}
 use Rattle.enc_units.specs.declared.coder_result.CoderResult.{CoderResult}
 use Rattle.enc_units.specs.declared.coder_result.CoderResult.TheVariants.{InputEmpty, OutputFull}
 use Rattle.enc_encoder.specs.declared.character_set.CharacterSet.TheVariants.{Ascii}
-use Rattle.enc_encoder.specs.Text.{bytes_after_text, with_references, KeepsText}
+use Rattle.enc_encoder.specs.declared.character_set.CharacterSet.{CharacterSet}
+use Rattle.enc_encoder.specs.Text.{bytes_after_text, escape_at_end, with_references, KeepsText}
 use Rattle.enc_encoder.specs.Steps.{step_chars}
 use Rattle.enc_units.specs.Results.{encoder_result_of}
 use Rattle.enc_encoder.specs.ErrorMode.{CallInMode}
@@ -17,12 +17,11 @@ use Rattle.enc_encoder.proofs.UnmappableLemmas.{any_reported_is, any_unmappable-
 use Rattle.enc_stream.specs.declared.constants.TheConstants.{UTF_8}
 use Rattle.enc_stream.specs.Encodings.{output_rule}
 use Rattle.enc_stream.specs.Encoder.{EncoderState, EncodesChunk, raw_state, html_mode}
+use Rattle.enc_stream.proofs.EncoderProgressLemmas.{none_due}
 use Rattle.enc_stream.proofs.ReferenceLemmas.{lawful_of}
 use Rattle.enc_stream.proofs.OwnBytesLemmas.{EachIsOwnChar, all_stay, all_mappable, all_written, each_in_utf_8}
-use Rattle.recode_engine.specs.Sink.{AppendsPrefix}
-use Rattle.recode_engine.specs.Writing.{bytes_from_state, bytes_to_come, TextToEncode, text_to_encode}
-use Rattle.recode_engine.specs.Writing.{EncodesText, HasEncoded, StopsWithin}
-use Rattle.recode_engine.proofs.SourceSinkLemmas.{AppendsContents-none, AppendsContents-then}
+use Rattle.enc_writer.specs.EncodedText.{bytes_from_state, bytes_to_come, TextToEncode, text_to_encode}
+use Rattle.enc_writer.specs.EncodedText.{EncodesText}
 
 pub not_ended : {P : Type 0} → false ≡ true → P
 not_ended e = cc
@@ -39,12 +38,17 @@ EncodesText-none s last =
       flag = refl;
     }
 
+-- At the end nothing is owed.
+pub none_owed : (e : EncoderState) → e.set ≡ Ascii → bytes_from_state e [] ≡ []
+none_owed e h = ap (λ (s : CharacterSet). escape_at_end ((raw_state e).rule.set_after s [])) h
+    ∙ none_due e.barred e.encoding
+
 -- one call
 pub EncodesText-call : (old : TextToEncode) {new : EncoderState} (result : CoderResult)
-    {c : CallInMode} → c.mode ≡ html_mode old.encoder → c.result ≡ encoder_result_of result
-    → c.src ≡ old.text → (encodes : EncodesChunk encode_utf8 old.encoder new c)
+    {units_of : ℕ → List ℕ} {c : CallInMode} → c.mode ≡ html_mode old.encoder → c.result ≡ encoder_result_of result
+    → c.src ≡ old.text → (encodes : EncodesChunk units_of old.encoder new c)
     → EncodesText old (text_to_encode new encodes.rest) c.last c.wrote c.replaced
-EncodesText-call old {new = new} result {c} is_html result_is src_is encodes =
+EncodesText-call old {new = new} result {c = c} is_html result_is src_is encodes =
     let call = encodes.call in
     record {
       encoding = encodes.encoding;
@@ -82,80 +86,6 @@ EncodesText-then {a} {b} {c} {w₁ = w₁} {w₂ = w₂} {r₂ = r₂} first the
       ∙ ap (λ e. any_unmappable (output_rule b.encoder.barred e) then_more.front) first.encoding
       ∙ ap (λ l. any_unmappable (output_rule l a.encoder.encoding) then_more.front) first.barred)
       ∙ sym (any_unmappable-append rule first.front then_more.front);
-}
-
--- What a sink takes
-
-pub HasEncoded-none : (s : TextToEncode) (last : Bool) (k : Option (List ℕ))
-    → HasEncoded s s last k k false
-HasEncoded-none s last k =
-    record { wrote = []; encoded = EncodesText-none s last; taken = AppendsContents-none k }
-
-pub HasEncoded-then : {a b c : TextToEncode} {last : Bool} {k₀ k₁ k₂ : Option (List ℕ)}
-    {r₁ r₂ : Bool} → HasEncoded a b last k₀ k₁ r₁ → HasEncoded b c last k₁ k₂ r₂
-    → HasEncoded a c last k₀ k₂ (r₁ || r₂)
-HasEncoded-then {k₀ = k₀} {k₁ = k₁} {k₂ = k₂} first then_more = record {
-  wrote = first.wrote ++ then_more.wrote;
-  encoded = EncodesText-then first.encoded then_more.encoded;
-  taken = AppendsContents-then k₀ k₁ k₂ first.wrote then_more.wrote first.taken then_more.taken;
-}
-
--- the same text, and another after it
-abbrev pub longer_text : TextToEncode → List ℕ → TextToEncode
-longer_text s t = text_to_encode s.encoder (s.text ++ t)
-
-pub HasEncoded-longer_text : {a b : TextToEncode} {last : Bool} {k₀ k₁ : Option (List ℕ)} {r : Bool}
-    (t : List ℕ) → HasEncoded a b false k₀ k₁ r
-    → HasEncoded (longer_text a t) (longer_text b t) last k₀ k₁ r
-HasEncoded-longer_text {a} {b} t has_encoded =
-    let encoded = has_encoded.encoded in
-    record {
-      wrote = has_encoded.wrote;
-      encoded = record {
-        encoding = encoded.encoding;
-        barred = encoded.barred;
-        front = encoded.front;
-        reads = ap (λ u. u ++ t) encoded.reads ∙ append_assoc encoded.front b.text t;
-        residual = λ z ends. ap (bytes_from_state a.encoder) (append_assoc a.text t z)
-            ∙ encoded.residual (t ++ z) (λ f. not_ended f)
-            ∙ ap (λ u. has_encoded.wrote ++ bytes_from_state b.encoder u)
-            (sym (append_assoc b.text t z));
-        flag = encoded.flag;
-      };
-      taken = has_encoded.taken;
-    }
-
--- Nothing is taken.
-pub StopsWithin-none : (s : TextToEncode) (last : Bool) (k : Option (List ℕ))
-    → StopsWithin s last k k
-StopsWithin-none s last k = record {
-  wrote = [];
-  unwritten = λ z h. bytes_to_come s z;
-  prefix = λ z h. refl;
-  taken = AppendsContents-none k;
-}
-
--- A prefix of the bytes written is taken.
-pub StopsWithin-part : {a b : TextToEncode} {last : Bool} {wrote : List ℕ} {replaced : Bool}
-    {k₀ k₁ : Option (List ℕ)} → EncodesText a b last wrote replaced → AppendsPrefix k₀ k₁ wrote
-    → StopsWithin a last k₀ k₁
-StopsWithin-part {b = b} encodes taken = record {
-  wrote = taken.wrote;
-  unwritten = λ z h. taken.unwritten ++ bytes_to_come b z;
-  prefix = λ z h. encodes.residual z h ∙ ap (λ w. w ++ bytes_to_come b z) taken.prefix
-      ∙ append_assoc taken.wrote taken.unwritten (bytes_to_come b z);
-  taken = taken.taken;
-}
-
--- A part of a text is encoded and taken, and of the rest a prefix is.
-pub StopsWithin-then : {a b : TextToEncode} {last : Bool} {k₀ k₁ k₂ : Option (List ℕ)} {r : Bool}
-    → HasEncoded a b last k₀ k₁ r → StopsWithin b last k₁ k₂ → StopsWithin a last k₀ k₂
-StopsWithin-then {k₀ = k₀} {k₁ = k₁} {k₂ = k₂} first stops = record {
-  wrote = first.wrote ++ stops.wrote;
-  unwritten = stops.unwritten;
-  prefix = λ z h. first.encoded.residual z h ∙ ap (λ x. first.wrote ++ x) (stops.prefix z h)
-      ∙ sym (append_assoc first.wrote stops.wrote (stops.unwritten z h));
-  taken = AppendsContents-then k₀ k₁ k₂ first.wrote stops.wrote first.taken stops.taken;
 }
 
 -- characters that are written as their UTF-8
