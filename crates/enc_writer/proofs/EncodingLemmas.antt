@@ -13,6 +13,7 @@ use Rattle.enc_units.specs.Results.{encoder_result_of}
 use Rattle.enc_encoder.specs.ErrorMode.{CallInMode}
 use Rattle.enc_encoder.specs.Unmappable.{any_unmappable}
 use Rattle.enc_encoder.proofs.LeavesLemmas.{leaves_in_mode}
+use Rattle.enc_encoder.proofs.ReferenceStopLemmas.{rest_is_read}
 use Rattle.enc_encoder.proofs.UnmappableLemmas.{any_reported_is, any_unmappable-append}
 use Rattle.enc_stream.specs.declared.constants.TheConstants.{UTF_8}
 use Rattle.enc_stream.specs.Encodings.{output_rule}
@@ -66,6 +67,15 @@ EncodesText-call old {new = new} result {c = c} is_html result_is src_is encodes
         → bytes_to_come old z ≡ c.wrote ++ bytes_from_state new (encodes.rest ++ z)
     by_result InputEmpty keeps_text = keeps_text
     by_result OutputFull keeps_text = keeps_text
+
+-- At the end of a text no character is unread.
+pub none_unread : (result : CoderResult) → result ≡ InputEmpty → {units_of : ℕ → List ℕ}
+    {old new : EncoderState} {c : CallInMode} → c.mode ≡ html_mode old
+    → c.result ≡ encoder_result_of result → (encodes : EncodesChunk units_of old new c)
+    → encodes.rest ≡ []
+none_unread result at_end {new = new} {c = c} is_html result_is encodes =
+    sym (rest_is_read (raw_state new) encodes.rest c.last
+    (rw (is_html, result_is, at_end) at encodes.call.stops))
 
 -- some calls, and some more that are offered the text left
 pub EncodesText-then : {a b c : TextToEncode} {last : Bool} {w₁ w₂ : List ℕ} {r₁ r₂ : Bool}

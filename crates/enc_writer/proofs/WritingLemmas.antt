@@ -2,6 +2,7 @@
 use Rattle.std.proofs.Common.{◌≡◌, ℕ, ◌+◌, Bool, true, false, ◌||◌, Option, List, [], ◌++◌, take, drop}
 use Rattle.std.proofs.Common.{refl, ap, ◌∙◌, sym, subst, append_assoc, append-nil}
 use Rattle.std.proofs.Math.Seq.{take-add}
+use Rattle.std.proofs.Math.Bool.{or_assoc}
 use Rattle.enc_units.specs.declared.coder_result.CoderResult.{CoderResult}
 use Rattle.enc_units.specs.Results.{encoder_result_of}
 use Rattle.enc_encoder.specs.declared.character_set.CharacterSet.TheVariants.{Ascii}
@@ -22,10 +23,6 @@ use Rattle.enc_writer.proofs.EncodingLemmas.{EncodesText-then}
 or_false : (x : Bool) → x ≡ (x || false)
 or_false true = refl
 or_false false = refl
-
-or_assoc : (x y z : Bool) → ((x || y) || z) ≡ (x || (y || z))
-or_assoc true y z = refl
-or_assoc false y z = refl
 
 -- Steps
 
@@ -80,8 +77,8 @@ HasEncoded-none k w t last = HasEncoded-push t last (PushesBytes-none k w)
 
 -- one call of the encoder, which writes after the bytes held
 pub HasEncoded-call : (k : Option (List ℕ)) {old new : EncoderState} (had : Bool) (result : CoderResult)
-    {units_of : ℕ → List ℕ} {c : CallInMode} (held written : ℕ) {before after left : List ℕ}
-    → c.mode ≡ html_mode old → c.result ≡ encoder_result_of result
+    {units_of : ℕ → List ℕ} {c : CallInMode} (held written : ℕ) (before after : List ℕ)
+    {left : List ℕ} → c.mode ≡ html_mode old → c.result ≡ encoder_result_of result
     → (encodes : EncodesChunk units_of old new c) → c.wrote ≡ take written (drop held after)
     → take held after ≡ take held before → left ≡ encodes.rest
     → HasEncoded k k (record { encoder = old; held = take held before; had_unmappables = had })
@@ -90,7 +87,7 @@ pub HasEncoded-call : (k : Option (List ℕ)) {old new : EncoderState} (had : Bo
       held = take (held + written) after;
       had_unmappables = had || c.replaced;
     }) c.src left c.last
-HasEncoded-call k {old} {new} had result {c = c} held written {before} {after} {left} is_html
+HasEncoded-call k {old} {new} had result {c = c} held written before after {left} is_html
     result_is encodes wrote_is held_stay left_is = record {
   wrote = c.wrote;
   replaced = c.replaced;
@@ -191,6 +188,10 @@ HasWritten-by {a = a} {b = b} {t = t} encoded =
       flag = encoded.flag ∙ ap (λ r. a.had_unmappables || r) (encoded.encoded.flag
           ∙ ap (any_unmappable (raw_state a.encoder).rule) all_read);
     }
+
+-- nothing is written
+pub HasWritten-none : (k : Option (List ℕ)) (w : WriterState) → HasWritten k k w w []
+HasWritten-none k w = HasWritten-by (HasEncoded-none k w [] false)
 
 pub HasWritten-then : {k₀ k₁ k₂ : Option (List ℕ)} {a b c : WriterState} {t u : List ℕ}
     → HasWritten k₀ k₁ a b t → HasWritten k₁ k₂ b c u → HasWritten k₀ k₂ a c (t ++ u)

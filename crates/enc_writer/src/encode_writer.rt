@@ -3,8 +3,9 @@
 ghost use Rattle.std.specs.Prelude.{◌≡◌, ◌↔◌, ◌+◌, ◌≤◌, length, drop, [], true, false, ◌++◌, chars};
 ghost use Rattle.std.specs.Prelude.{IfOk, OnOk, OnErr, IsErrOf, IfErr};
 ghost use Rattle.std.specs.Str.{IsCharBoundary};
+ghost use Rattle.std.specs.Char.Utf16.{utf16_lossy_chars};
 
-use crate::encoding_calls::encode_utf8_after;
+use crate::encoding_calls::{encode_utf8_after, encode_utf16_after};
 use crate::fault::WriteFault;
 use crate::pushing::push_both;
 use crate::sink::Sink;
@@ -35,7 +36,7 @@ pub struct EncodeWriter<'a, W: Sink> {
     ghost none_barred: { encoder.barred ≡ [] },
     ghost within: { filled ≤ length output.now },
     ghost room: { 14 ≤ length output.now },
-    ghost going: { failed ≡ false → W.has_failed writer.now ≡ false },
+    ghost going: { W.has_failed writer.now ≡ failed },
 }
 
 impl<'a, W: Sink> EncodeWriter<'a, W> {
@@ -84,7 +85,8 @@ impl<'a, W: Sink> EncodeWriter<'a, W> {
         requires going { self.old.failed ≡ false }
         ensures ok { OnOk result (PushesBytes (W.contents self.old.writer.now)
             (W.contents self.new.writer.now) (state_of self.old) (state_of self.new) bytes.now) }
-        ensures none_held { OnOk result (self.new.filled ≡ 0) }
+        ensures none_held { OnOk result (state_of self.new
+            ≡ record (state_of self.old) { held = [] }) }
         ensures kept { OnOk result (W.has_failed self.new.writer.now
             ≡ W.has_failed self.old.writer.now) }
         ensures going { OnOk result (self.new.failed ≡ false) }
@@ -144,7 +146,7 @@ impl<'a, W: Sink> EncodeWriter<'a, W> {
         if self.output.len() - self.filled >= LEAST_ROOM {
             return Ok(());
         }
-        self.push(b"")
+        self.push(&[])
     }
 
     /// Encodes a part of a text into the free part of the buffer. With `last` nothing follows the
@@ -219,8 +221,7 @@ impl<'a, W: Sink> EncodeWriter<'a, W> {
         ensures going { OnOk result (self.new.failed ≡ false) }
         ensures err { OnErr result (StopsWithin (W.contents self.old.writer.now)
             (W.contents self.new.writer.now) (state_of self.old) (chars text.now) false) }
-        ensures writer_fault { IsErrOf result WriteFault.Writer
-            → W.has_failed self.new.writer.now ≡ true }
+        ensures sink_failed { OnErr result (W.has_failed self.new.writer.now ≡ true) }
         ensures failed { OnErr result (self.new.failed ≡ true) }
         ensures from_then_on { IsErrOf result WriteFault.Failed ↔ self.old.failed ≡ true }
         ensures unchanged { IsErrOf result WriteFault.Failed → self.new ≡ self.old }
@@ -233,6 +234,64 @@ impl<'a, W: Sink> EncodeWriter<'a, W> {
         let (front, rest) = text.split_at(len);
         self.push_any(front.as_bytes())?;
         self.encode(rest, false)
+    }
+
+    /// Encodes a part of a text in UTF-16 into the free part of the buffer. Returns why it stopped,
+    /// and the number of code units read.
+    fn encode_units(&mut self, text: &[u16]) -> (CoderResult, usize)
+        requires room { self.old.filled + 14 ≤ length self.old.output.now }
+        ensures read { result.1 ≤ length text.now }
+        ensures part { HasEncoded (W.contents self.old.writer.now) (W.contents self.new.writer.now)
+            (state_of self.old) (state_of self.new) (utf16_lossy_chars text.now)
+            (utf16_lossy_chars (drop result.1 text.now)) false }
+        ensures all { result.0 ≡ CoderResult.InputEmpty
+            → utf16_lossy_chars (drop result.1 text.now) ≡ [] }
+        ensures progress { (result.0 ≡ CoderResult.InputEmpty → ⊥) →
+            LeavesFewerSteps self.old.encoder self.new.encoder false
+            (utf16_lossy_chars text.now) (utf16_lossy_chars (drop result.1 text.now)) }
+        ensures writer { self.new.writer ≡ self.old.writer }
+        ensures failed { self.new.failed ≡ self.old.failed }
+    {
+        let call = encode_utf16_after(&mut self.encoder, text, self.output, self.filled);
+        self.filled += call.written;
+        self.had_unmappables |= call.replaced;
+        (call.result, call.read)
+    }
+
+    /// Writes a text in UTF-16, with a decimal reference for each unmappable character.
+    ///
+    /// The same as [`EncodeWriter::write_str`], except that all of it is encoded. A surrogate
+    /// without its partner in `text` is U+FFFD: so are both halves of a pair that is split between
+    /// two writes.
+    pub fn write_utf16(&mut self, text: &[u16]) -> Result<(), WriteFault>
+        ensures ok { OnOk result (AppendsText (W.contents self.old.writer.now)
+            (W.contents self.new.writer.now) (state_of self.old) (state_of self.new)
+            (utf16_lossy_chars text.now)) }
+        ensures kept { OnOk result (W.has_failed self.new.writer.now
+            ≡ W.has_failed self.old.writer.now) }
+        ensures going { OnOk result (self.new.failed ≡ false) }
+        ensures err { OnErr result (StopsWithin (W.contents self.old.writer.now)
+            (W.contents self.new.writer.now) (state_of self.old) (utf16_lossy_chars text.now)
+            false) }
+        ensures sink_failed { OnErr result (W.has_failed self.new.writer.now ≡ true) }
+        ensures failed { OnErr result (self.new.failed ≡ true) }
+        ensures from_then_on { IsErrOf result WriteFault.Failed ↔ self.old.failed ≡ true }
+        ensures unchanged { IsErrOf result WriteFault.Failed → self.new ≡ self.old }
+        ensures same_writer { self.new.writer.ghost_name ≡ self.old.writer.ghost_name }
+    {
+        if self.failed {
+            return Err(WriteFault::Failed);
+        }
+        let mut rest = text;
+        'calls: loop {
+            self.make_room()?;
+            let (outcome, read) = self.encode_units(rest);
+            let (_, left) = rest.split_at(read);
+            rest = left;
+            if outcome == CoderResult::InputEmpty {
+                return Ok(());
+            }
+        }
     }
 
     /// Pushes the bytes held.
@@ -252,8 +311,7 @@ impl<'a, W: Sink> EncodeWriter<'a, W> {
         ensures going { OnOk result (self.new.failed ≡ false) }
         ensures err { OnErr result (StopsWithin (W.contents self.old.writer.now)
             (W.contents self.new.writer.now) (state_of self.old) [] false) }
-        ensures writer_fault { IsErrOf result WriteFault.Writer
-            → W.has_failed self.new.writer.now ≡ true }
+        ensures sink_failed { OnErr result (W.has_failed self.new.writer.now ≡ true) }
         ensures failed { OnErr result (self.new.failed ≡ true) }
         ensures from_then_on { IsErrOf result WriteFault.Failed ↔ self.old.failed ≡ true }
         ensures unchanged { IsErrOf result WriteFault.Failed → self.new ≡ self.old }
@@ -282,8 +340,7 @@ impl<'a, W: Sink> EncodeWriter<'a, W> {
         ensures going { OnOk result (self.new.failed ≡ false) }
         ensures err { OnErr result (StopsWithin (W.contents self.old.writer.now)
             (W.contents self.new.writer.now) (state_of self.old) [] true) }
-        ensures writer_fault { IsErrOf result WriteFault.Writer
-            → W.has_failed self.new.writer.now ≡ true }
+        ensures sink_failed { OnErr result (W.has_failed self.new.writer.now ≡ true) }
         ensures failed { OnErr result (self.new.failed ≡ true) }
         ensures from_then_on { IsErrOf result WriteFault.Failed ↔ self.old.failed ≡ true }
         ensures unchanged { IsErrOf result WriteFault.Failed → self.new ≡ self.old }
@@ -293,7 +350,7 @@ impl<'a, W: Sink> EncodeWriter<'a, W> {
             return Err(WriteFault::Failed);
         }
         self.encode("", true)?;
-        self.push(b"")?;
+        self.push(&[])?;
         Ok(self.had_unmappables)
     }
 
