@@ -1,13 +1,14 @@
 //! Examples of calls, each in a file of its own.
 //!
 //! `examples detection FILE=LABEL ..` finds the encodings of files. `examples first-fault LABEL`,
-//! `examples form-data LABEL` and `examples mail-part` read standard input. `examples all` runs
-//! each over the files of `data`, from which it has to be started.
+//! `examples form-data LABEL`, `examples legacy-writer LABEL` and `examples mail-part` read standard
+//! input. `examples all` runs each over the files of `data`, from which it has to be started.
 #![tactic(auto)]
 
 mod detection;
 mod first_fault;
 mod form_data;
+mod legacy_writer;
 mod mail_part;
 
 use std::io::{Error, Read};
@@ -28,6 +29,7 @@ const INPUTS: &[(&str, &str, &str)] = &[
     ("first-fault", "gb18030", "diary.txt"),
     ("form-data", "shift_jis", "form.txt"),
     ("mail-part", "", "mail.txt"),
+    ("legacy-writer", "iso-2022-jp", "letter.txt"),
 ];
 
 /// Runs an example over an input.
@@ -37,6 +39,7 @@ fn run<R: Read>(rt: &HostRuntime, name: &str, label: &str, input: &mut R) -> io:
         "first-fault" => first_fault::run(rt.alloc(), label, input, &mut out),
         "form-data" => form_data::run(rt.alloc(), label, input, &mut out),
         "mail-part" => mail_part::run(rt.alloc(), input, &mut out),
+        "legacy-writer" => legacy_writer::run(rt.alloc(), label, input, &mut out),
         _ => Err(Error::other("no such example")),
     }
 }
