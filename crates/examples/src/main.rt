@@ -8,6 +8,7 @@
 mod detection;
 mod faults;
 mod form_data;
+mod legacy_writer;
 mod mail_part;
 mod meta_prescan;
 mod scanner;
@@ -34,6 +35,7 @@ const INPUTS: &[(&str, &str, &str)] = &[
     ("meta-prescan", "", "late.html"),
     ("meta-prescan", "", "marked.html"),
     ("meta-prescan", "", "shift_jis.html"),
+    ("legacy-writer", "iso-2022-jp", "letter.txt"),
 ];
 
 /// Runs an example over an input.
@@ -44,6 +46,7 @@ fn run<R: Read>(rt: &HostRuntime, name: &str, label: &str, input: &mut R) -> io:
         "form-data" => form_data::run(rt.alloc(), label, input, &mut out),
         "mail-part" => mail_part::run(rt.alloc(), input, &mut out),
         "meta-prescan" => meta_prescan::run(rt.alloc(), input, &mut out),
+        "legacy-writer" => legacy_writer::run(rt.alloc(), label, input, &mut out),
         _ => Err(Error::other("no such example")),
     }
 }

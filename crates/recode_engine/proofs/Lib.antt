@@ -1,5 +1,3 @@
-pub mod SourceSinkLemmas
-pub mod EncodingLemmas
-pub mod UnencodedLemmas
+pub mod SourceLemmas
 pub mod RunLemmas
 pub mod RunOutcomeLemmas

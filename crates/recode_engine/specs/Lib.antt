@@ -1,5 +1,3 @@
-pub mod Sink
-pub mod Writing
 pub mod Run
 pub mod Labels
 pub mod Status

@@ -14,11 +14,7 @@ use Rattle.enc_stream.specs.Encoder.{whole_bytes}
 use Rattle.enc_reader.specs.Source.{ConsumesRemaining, IsExhausted}
 use Rattle.recode_engine.specs.declared.engine.RecodeFault.{RecodeFault}
 use Rattle.recode_engine.specs.declared.engine.RecodeFault.TheVariants as fault
-use Rattle.recode_engine.specs.Sink.{AppendsContents}
-
--- One list is a prefix of another.
-abbrev pub BeginsWithBytes : List ℕ → List ℕ → Type 0
-BeginsWithBytes all front = (others : List ℕ) × (all ≡ front ++ others)
+use Rattle.enc_writer.specs.Sink.{AppendsContents, BeginsWithBytes}
 
 -- the text of a whole input
 abbrev pub whole_text : Encoding → List ℕ → List ℕ

@@ -8,10 +8,9 @@
 mod engine;
 mod exit;
 mod label_pair;
-mod sink;
 
 pub use enc_reader::{FromRead, Source};
+pub use enc_writer::{FromWrite, Sink};
 pub use engine::{RecodeFault, run};
 pub use exit::status;
 pub use label_pair::labels;
-pub use sink::{FromWrite, Sink};

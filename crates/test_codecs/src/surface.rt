@@ -12,3 +12,4 @@ mod encodings;
 mod reader;
 mod recoding;
 mod units;
+mod writer;

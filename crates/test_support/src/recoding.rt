@@ -129,7 +129,7 @@ pub fn compare_write_faults(
 ) -> Result<(), Fail> {
     let (encodings, input, _, _, _) = row;
     for nth in 1..=calls {
-        for fault in [FAULT, INTERRUPTED, NOTHING] {
+        for fault in [FAULT, NOTHING] {
             let failing = steps_but(alloc, writes, nth, fault)?;
             let ran = run_by(alloc, *encodings, *input, (reads, failing.as_slice()))?;
             compare_stopped(&ran, RecodeFault::Write, nth, row)?;

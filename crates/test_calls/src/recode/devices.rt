@@ -46,7 +46,7 @@ fn a_pull_or_a_push_that_fails_is_one_call(rt: HostRuntime) {
         assert!(rt; source.failed());
         assert!(rt; reader.calls == 1);
     }
-    for fault in [FAULT, INTERRUPTED, NOTHING] {
+    for fault in [FAULT, NOTHING] {
         let steps = [fault, ALL_BYTES];
         let mut writer = StepWriter::new(rt.alloc(), &steps);
         let mut sink = FromWrite::new(&mut writer);
@@ -58,7 +58,7 @@ fn a_pull_or_a_push_that_fails_is_one_call(rt: HostRuntime) {
 
 #[test]
 fn a_push_never_flushes(rt: HostRuntime) {
-    for step in [ALL_BYTES, BYTE, FAULT, INTERRUPTED, NOTHING] {
+    for step in [ALL_BYTES, BYTE, FAULT, NOTHING] {
         let steps = [step];
         let mut writer = StepWriter::new(rt.alloc(), &steps);
         let mut sink = FromWrite::new(&mut writer);

@@ -98,14 +98,6 @@ const FAULTS: &[FaultRow] = &[
         true,
         b"a",
     ),
-    (
-        (WINDOWS_1252, UTF_8),
-        b"a\xE9",
-        &[BYTE],
-        &[BYTE, INTERRUPTED, BYTE],
-        false,
-        b"a",
-    ),
     // the end of the input, which a failed reader has not seen, would make U+FFFD of half a
     // character
     ((UTF_8, UTF_8), b"", &[FAULT], &[BYTE], true, b""),

@@ -1,0 +1,4 @@
+pub mod SinkLemmas
+pub mod EncodingLemmas
+pub mod UnencodedLemmas
+pub mod WritingLemmas

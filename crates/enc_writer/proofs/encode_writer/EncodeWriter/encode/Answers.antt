@@ -1,0 +1,45 @@
+use Rattle.std.proofs.Common.{rules, ◌≡◌, refl, ap, chars}
+use Rattle.enc_units.specs.declared.coder_result.CoderResult.TheVariants.{InputEmpty}
+use Rattle.enc_writer.specs.Writer.{state_of}
+use Rattle.enc_writer.proofs.SinkLemmas.{on_err}
+use Rattle.enc_writer.proofs.WritingLemmas.{HasEncoded-none, HasEncoded-push, HasEncoded-then, TakesPrefix-held}
+use Rattle.enc_writer.proofs.encode_writer.EncodeWriter.encode.Goals as goal
+
+pub calls-init : goal.calls-init
+calls-init g c = (
+  search rules,
+  record {
+    encoded = HasEncoded-none _ (state_of c.args.self.now) _ _;
+    going = c.requires.going;
+    kept = refl;
+    same_writer = refl;
+  },
+)
+
+pub returns-in_err-make_room-clause-err : goal.returns-in_err-make_room-clause-err
+returns-in_err-make_room-clause-err g c =
+    on_err c.from_residual.result _
+    (TakesPrefix-held c.calls.invariant.1.encoded c.in_err-make_room.ensures.err)
+
+pub returns-then-eq-clause-ok : goal.returns-then-eq-clause-ok
+returns-then-eq-clause-ok g c =
+    let at_end : c.encode_part-outcome.result.0 ≡ InputEmpty = search rules in
+    rw (c.encode_part-outcome.ensures.all at_end) at
+    (HasEncoded-then c.calls.invariant.1.encoded
+    (HasEncoded-then (HasEncoded-push (chars c.calls.rest.now) c.args.last c.in_ok-make_room.ensures.ok)
+    c.encode_part-outcome.ensures.part))
+
+pub calls-preserved : goal.calls-preserved
+calls-preserved g c =
+    let unread = ap chars c.split_at.ensures.back in (
+      search rules,
+      record {
+        encoded = rw unread (HasEncoded-then c.calls.invariant.1.encoded
+            (HasEncoded-then
+            (HasEncoded-push (chars c.calls.rest.now) c.args.last c.in_ok-make_room.ensures.ok)
+            c.encode_part-outcome.ensures.part));
+        going = search rules;
+        kept = search rules;
+        same_writer = search rules;
+      },
+    )

@@ -1,0 +1,48 @@
+use Rattle.std.proofs.Common.{rules, ◌≡◌, refl, ap, false}
+use Rattle.std.specs.Char.Utf16.{utf16_lossy_chars}
+use Rattle.enc_units.specs.declared.coder_result.CoderResult.TheVariants.{InputEmpty}
+use Rattle.enc_writer.specs.Writer.{state_of}
+use Rattle.enc_writer.proofs.SinkLemmas.{on_err}
+use Rattle.enc_writer.proofs.WritingLemmas.{HasEncoded-none, HasEncoded-push, HasEncoded-then, TakesPrefix-held}
+use Rattle.enc_writer.proofs.WritingLemmas.{AppendsText-by, StopsWithin-by, StopsWithin-none}
+use Rattle.enc_writer.proofs.encode_writer.EncodeWriter.write_utf16.Goals as goal
+
+pub returns-then-self-clause-err : goal.returns-then-self-clause-err
+returns-then-self-clause-err g c =
+    StopsWithin-none _ (state_of c.args.self.now) (utf16_lossy_chars c.args.text.now) false
+
+pub calls-init : goal.calls-init
+calls-init g c = record {
+  encoded = HasEncoded-none _ (state_of c.args.self.now) _ _;
+  going = search rules;
+  kept = refl;
+  same_writer = refl;
+}
+
+pub returns-in_err-make_room-clause-err : goal.returns-in_err-make_room-clause-err
+returns-in_err-make_room-clause-err g c =
+    on_err c.from_residual.result _
+    (StopsWithin-by (TakesPrefix-held c.calls.invariant.encoded c.in_err-make_room.ensures.err))
+
+pub returns-then-eq-clause-ok : goal.returns-then-eq-clause-ok
+returns-then-eq-clause-ok g c =
+    let at_end : c.encode_units-outcome.result.0 ≡ InputEmpty = search rules in
+    AppendsText-by
+    (rw (c.encode_units-outcome.ensures.all at_end) at
+    (HasEncoded-then c.calls.invariant.encoded
+    (HasEncoded-then
+    (HasEncoded-push (utf16_lossy_chars c.calls.rest.now) false c.in_ok-make_room.ensures.ok)
+    c.encode_units-outcome.ensures.part)))
+
+pub calls-preserved : goal.calls-preserved
+calls-preserved g c =
+    let unread = ap utf16_lossy_chars c.split_at.ensures.back in
+    record {
+      encoded = rw unread (HasEncoded-then c.calls.invariant.encoded
+          (HasEncoded-then
+          (HasEncoded-push (utf16_lossy_chars c.calls.rest.now) false c.in_ok-make_room.ensures.ok)
+          c.encode_units-outcome.ensures.part));
+      going = search rules;
+      kept = search rules;
+      same_writer = search rules;
+    }

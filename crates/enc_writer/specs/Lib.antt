@@ -1,0 +1,4 @@
+pub mod Sink
+pub mod EncodedText
+pub mod Writing
+pub mod Writer

@@ -1,0 +1,18 @@
+-- Sinks of bytes, by the bytes taken. A sink that models none still models none after a write.
+use Rattle.std.specs.Prelude.{◌≡◌, ℕ, List, ◌++◌, Option}
+use Rattle.std.specs.Io.KnownBytes.{append_known}
+
+-- These bytes more are taken.
+abbrev pub AppendsContents : Option (List ℕ) → Option (List ℕ) → List ℕ → Type 0
+AppendsContents old new bytes = new ≡ append_known old bytes
+
+-- A prefix of these bytes more is taken.
+pub record AppendsPrefix (old new : Option (List ℕ)) (bytes : List ℕ) : Type 0 where
+  pub wrote : List ℕ
+  pub unwritten : List ℕ
+  pub prefix : bytes ≡ wrote ++ unwritten
+  pub taken : AppendsContents old new wrote
+
+-- One list is a prefix of another.
+abbrev pub BeginsWithBytes : List ℕ → List ℕ → Type 0
+BeginsWithBytes all front = (others : List ℕ) × (all ≡ front ++ others)

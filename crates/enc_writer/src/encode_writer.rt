@@ -1,0 +1,385 @@
+//! The writer of text.
+
+ghost use Rattle.std.specs.Prelude.{◌≡◌, ◌↔◌, ◌+◌, ◌≤◌, length, drop, [], true, false, ◌++◌, chars};
+ghost use Rattle.std.specs.Prelude.{IfOk, OnOk, OnErr, IsErrOf, IfErr};
+ghost use Rattle.std.specs.Str.{IsCharBoundary};
+ghost use Rattle.std.specs.Char.Utf16.{utf16_lossy_chars};
+
+use crate::encoding_calls::{encode_utf8_after, encode_utf16_after};
+use crate::fault::WriteFault;
+use crate::pushing::push_both;
+use crate::sink::Sink;
+use crate::unencoded::unencoded_len;
+use enc_stream::{CoderResult, Encoder, Encoding};
+use std::fmt;
+
+/// The least room for a call of the encoder: four bytes, and ten that it keeps free for references.
+const LEAST_ROOM: usize = 14;
+
+/// Writes text to a sink of bytes in an encoding, a text at a time (Encoding Standard 6, "encode").
+///
+/// Each unmappable character becomes a decimal reference. The texts of all writes are one text: no
+/// escape sequence stands between two of them that would not stand there in one write.
+///
+/// It borrows the sink and the buffer in which it collects bytes, and takes no memory. Whatever is
+/// dropped without [`EncodeWriter::finish`] leaves the bytes held and the last escape sequence
+/// unwritten.
+#[derive(Drop)]
+pub struct EncodeWriter<'a, W: Sink> {
+    writer: &'a mut W,
+    encoder: Encoder,
+    output: &'a mut [u8],
+    // the number of bytes at the start of `output` that are held
+    filled: usize,
+    failed: bool,
+    had_unmappables: bool,
+    ghost none_barred: { encoder.barred ≡ [] },
+    ghost within: { filled ≤ length output.now },
+    ghost room: { 14 ≤ length output.now },
+    ghost going: { W.has_failed writer.now ≡ failed },
+}
+
+impl<'a, W: Sink> EncodeWriter<'a, W> {
+    ghost use Rattle.std.specs.Prelude.{ℕ, List};
+    ghost use Rattle.enc_encoder.specs.declared.character_set.CharacterSet.TheVariants.{Ascii};
+    ghost use Rattle.enc_encoder.specs.Unmappable.{any_unmappable};
+    ghost use Rattle.enc_stream.specs.Encodings.{output_rule};
+    ghost use Rattle.enc_stream.specs.Encoder.{whole_bytes, LeavesFewerSteps};
+    ghost use Rattle.enc_writer.specs.Sink.{AppendsContents, AppendsPrefix};
+    ghost use Rattle.enc_writer.specs.Writing.{AppendsText, EndsText, HasEncoded};
+    ghost use Rattle.enc_writer.specs.Writing.{PushesBytes, StopsWithin, TakesPrefix};
+    ghost use Rattle.enc_writer.specs.Writing.{ended_writer, flag_after, fresh_writer, owed_bytes};
+    ghost use Rattle.enc_writer.specs.Writer.{state_of};
+
+    /// Returns a writer to `writer`, in the output encoding of `encoding`, through the buffer
+    /// `output`.
+    ///
+    /// The output encoding is UTF-8 for UTF-16BE, UTF-16LE and replacement, and otherwise
+    /// `encoding`. Nothing is written yet. If the sink has failed, so has the writer. Takes no
+    /// memory. Condition: `output` has at least 14 bytes.
+    pub fn new(writer: &'a mut W, encoding: Encoding, output: &'a mut [u8]) -> EncodeWriter<'a, W>
+        requires room { 14 ≤ length output.old }
+        ensures fresh { state_of result ≡ fresh_writer encoding }
+        ensures owed { (text : List ℕ) → owed_bytes (state_of result) text
+            ≡ whole_bytes [] encoding text }
+        ensures flag { (text : List ℕ) → flag_after (state_of result) text
+            ≡ any_unmappable (output_rule [] encoding) text }
+        ensures failed { result.failed ≡ W.has_failed writer.old }
+        ensures writer { result.writer.now ≡ writer.old }
+        ensures same_writer { result.writer.ghost_name ≡ writer.entry.ghost_name }
+    {
+        let failed = writer.failed();
+        EncodeWriter {
+            writer,
+            encoder: encoding.new_encoder(),
+            output,
+            filled: 0,
+            failed,
+            had_unmappables: false,
+        }
+    }
+
+    /// Pushes the bytes held, and then these. After an `Err`, which is `Writer`, the sink has
+    /// failed.
+    fn push(&mut self, bytes: &[u8]) -> Result<(), WriteFault>
+        requires going { self.old.failed ≡ false }
+        ensures ok { OnOk result (PushesBytes (W.contents self.old.writer.now)
+            (W.contents self.new.writer.now) (state_of self.old) (state_of self.new) bytes.now) }
+        ensures none_held { OnOk result (state_of self.new
+            ≡ record (state_of self.old) { held = [] }) }
+        ensures kept { OnOk result (W.has_failed self.new.writer.now
+            ≡ W.has_failed self.old.writer.now) }
+        ensures going { OnOk result (self.new.failed ≡ false) }
+        ensures err { OnErr result (AppendsPrefix (W.contents self.old.writer.now)
+            (W.contents self.new.writer.now) ((state_of self.old).held ++ bytes.now)) }
+        ensures sink_failed { OnErr result (W.has_failed self.new.writer.now ≡ true) }
+        ensures failed { OnErr result (self.new.failed ≡ true) }
+        ensures fault { IfErr result (λ fault. fault ≡ WriteFault.Writer) }
+        ensures length { length self.new.output.now ≡ length self.old.output.now }
+        ensures same_writer { self.new.writer.ghost_name ≡ self.old.writer.ghost_name }
+    {
+        let Ok(()) = push_both(self.writer, &self.output[..self.filled], bytes) else {
+            self.failed = true;
+            return Err(WriteFault::Writer);
+        };
+        self.filled = 0;
+        Ok(())
+    }
+
+    /// Pushes the bytes held, and then these, if there are any of these.
+    fn push_any(&mut self, bytes: &[u8]) -> Result<(), WriteFault>
+        requires going { self.old.failed ≡ false }
+        ensures ok { OnOk result (PushesBytes (W.contents self.old.writer.now)
+            (W.contents self.new.writer.now) (state_of self.old) (state_of self.new) bytes.now) }
+        ensures kept { OnOk result (W.has_failed self.new.writer.now
+            ≡ W.has_failed self.old.writer.now) }
+        ensures going { OnOk result (self.new.failed ≡ false) }
+        ensures err { OnErr result (AppendsPrefix (W.contents self.old.writer.now)
+            (W.contents self.new.writer.now) ((state_of self.old).held ++ bytes.now)) }
+        ensures sink_failed { OnErr result (W.has_failed self.new.writer.now ≡ true) }
+        ensures failed { OnErr result (self.new.failed ≡ true) }
+        ensures fault { IfErr result (λ fault. fault ≡ WriteFault.Writer) }
+        ensures same_writer { self.new.writer.ghost_name ≡ self.old.writer.ghost_name }
+    {
+        if bytes.is_empty() {
+            return Ok(());
+        }
+        self.push(bytes)
+    }
+
+    /// Pushes the bytes held if fewer than 14 bytes are free after them.
+    fn make_room(&mut self) -> Result<(), WriteFault>
+        requires going { self.old.failed ≡ false }
+        ensures ok { OnOk result (PushesBytes (W.contents self.old.writer.now)
+            (W.contents self.new.writer.now) (state_of self.old) (state_of self.new) []) }
+        ensures room { OnOk result (self.new.filled + 14 ≤ length self.new.output.now) }
+        ensures kept { OnOk result (W.has_failed self.new.writer.now
+            ≡ W.has_failed self.old.writer.now) }
+        ensures going { OnOk result (self.new.failed ≡ false) }
+        ensures err { OnErr result (AppendsPrefix (W.contents self.old.writer.now)
+            (W.contents self.new.writer.now) (state_of self.old).held) }
+        ensures sink_failed { OnErr result (W.has_failed self.new.writer.now ≡ true) }
+        ensures failed { OnErr result (self.new.failed ≡ true) }
+        ensures fault { IfErr result (λ fault. fault ≡ WriteFault.Writer) }
+        ensures same_writer { self.new.writer.ghost_name ≡ self.old.writer.ghost_name }
+    {
+        if self.output.len() - self.filled >= LEAST_ROOM {
+            return Ok(());
+        }
+        self.push(&[])
+    }
+
+    /// Encodes a part of a text into the free part of the buffer. With `last` nothing follows the
+    /// text. Returns why it stopped, and the number of bytes read.
+    fn encode_part(&mut self, text: &str, last: bool) -> (CoderResult, usize)
+        requires room { self.old.filled + 14 ≤ length self.old.output.now }
+        ensures boundary { IsCharBoundary text.now result.1 }
+        ensures part { HasEncoded (W.contents self.old.writer.now) (W.contents self.new.writer.now)
+            (state_of self.old) (state_of self.new) (chars text.now)
+            (chars (drop result.1 text.now)) last }
+        ensures all { result.0 ≡ CoderResult.InputEmpty → chars (drop result.1 text.now) ≡ [] }
+        ensures ended { result.0 ≡ CoderResult.InputEmpty → last ≡ true
+            → self.new.encoder.set ≡ Ascii }
+        ensures progress { (result.0 ≡ CoderResult.InputEmpty → ⊥) →
+            LeavesFewerSteps self.old.encoder self.new.encoder last
+            (chars text.now) (chars (drop result.1 text.now)) }
+        ensures writer { self.new.writer ≡ self.old.writer }
+        ensures failed { self.new.failed ≡ self.old.failed }
+    {
+        let call = encode_utf8_after(&mut self.encoder, text, self.output, self.filled, last);
+        self.filled += call.written;
+        self.had_unmappables |= call.replaced;
+        (call.result, call.read)
+    }
+
+    /// Encodes a text, and pushes the bytes held whenever fewer than 14 bytes are free. With `last`
+    /// nothing follows the text.
+    fn encode(&mut self, text: &str, last: bool) -> Result<(), WriteFault>
+        requires going { self.old.failed ≡ false }
+        ensures ok { OnOk result (HasEncoded (W.contents self.old.writer.now)
+            (W.contents self.new.writer.now) (state_of self.old) (state_of self.new)
+            (chars text.now) [] last) }
+        ensures ended { OnOk result (last ≡ true → self.new.encoder.set ≡ Ascii) }
+        ensures kept { OnOk result (W.has_failed self.new.writer.now
+            ≡ W.has_failed self.old.writer.now) }
+        ensures going { OnOk result (self.new.failed ≡ false) }
+        ensures err { OnErr result (TakesPrefix (W.contents self.old.writer.now)
+            (W.contents self.new.writer.now) (state_of self.old) (chars text.now) last) }
+        ensures sink_failed { OnErr result (W.has_failed self.new.writer.now ≡ true) }
+        ensures failed { OnErr result (self.new.failed ≡ true) }
+        ensures fault { IfErr result (λ fault. fault ≡ WriteFault.Writer) }
+        ensures same_writer { self.new.writer.ghost_name ≡ self.old.writer.ghost_name }
+    {
+        let mut rest = text;
+        'calls: loop {
+            self.make_room()?;
+            let (outcome, read) = self.encode_part(rest, last);
+            let (_, unread) = rest.split_at(read);
+            rest = unread;
+            if outcome == CoderResult::InputEmpty {
+                return Ok(());
+            }
+        }
+    }
+
+    /// Writes a text, with a decimal reference for each unmappable character.
+    ///
+    /// Its bytes are collected in the buffer, which is pushed when fewer than 14 bytes of it are
+    /// free: so a short text may be no push. Long text is pushed without being encoded, after the
+    /// bytes held, if it is its own bytes: in UTF-8 a text of at least 4096 bytes, and in other
+    /// encodings that have ASCII as itself at least 4096 bytes of ASCII at its start. Takes no
+    /// memory.
+    ///
+    /// Errors: `Writer` if the sink failed in this call, and `Failed` in each later call. The sink
+    /// has taken a prefix of the bytes of all text written, and nothing more is written.
+    pub fn write_str(&mut self, text: &str) -> Result<(), WriteFault>
+        ensures ok { OnOk result (AppendsText (W.contents self.old.writer.now)
+            (W.contents self.new.writer.now) (state_of self.old) (state_of self.new)
+            (chars text.now)) }
+        ensures kept { OnOk result (W.has_failed self.new.writer.now
+            ≡ W.has_failed self.old.writer.now) }
+        ensures going { OnOk result (self.new.failed ≡ false) }
+        ensures err { OnErr result (StopsWithin (W.contents self.old.writer.now)
+            (W.contents self.new.writer.now) (state_of self.old) (chars text.now) false) }
+        ensures sink_failed { OnErr result (W.has_failed self.new.writer.now ≡ true) }
+        ensures failed { OnErr result (self.new.failed ≡ true) }
+        ensures from_then_on { IsErrOf result WriteFault.Failed ↔ self.old.failed ≡ true }
+        ensures unchanged { IsErrOf result WriteFault.Failed → self.new ≡ self.old }
+        ensures same_writer { self.new.writer.ghost_name ≡ self.old.writer.ghost_name }
+    {
+        if self.failed {
+            return Err(WriteFault::Failed);
+        }
+        let len = unencoded_len(&self.encoder, text);
+        let (front, rest) = text.split_at(len);
+        self.push_any(front.as_bytes())?;
+        self.encode(rest, false)
+    }
+
+    /// Encodes a part of a text in UTF-16 into the free part of the buffer. Returns why it stopped,
+    /// and the number of code units read.
+    fn encode_units(&mut self, text: &[u16]) -> (CoderResult, usize)
+        requires room { self.old.filled + 14 ≤ length self.old.output.now }
+        ensures read { result.1 ≤ length text.now }
+        ensures part { HasEncoded (W.contents self.old.writer.now) (W.contents self.new.writer.now)
+            (state_of self.old) (state_of self.new) (utf16_lossy_chars text.now)
+            (utf16_lossy_chars (drop result.1 text.now)) false }
+        ensures all { result.0 ≡ CoderResult.InputEmpty
+            → utf16_lossy_chars (drop result.1 text.now) ≡ [] }
+        ensures progress { (result.0 ≡ CoderResult.InputEmpty → ⊥) →
+            LeavesFewerSteps self.old.encoder self.new.encoder false
+            (utf16_lossy_chars text.now) (utf16_lossy_chars (drop result.1 text.now)) }
+        ensures writer { self.new.writer ≡ self.old.writer }
+        ensures failed { self.new.failed ≡ self.old.failed }
+    {
+        let call = encode_utf16_after(&mut self.encoder, text, self.output, self.filled);
+        self.filled += call.written;
+        self.had_unmappables |= call.replaced;
+        (call.result, call.read)
+    }
+
+    /// Writes a text in UTF-16, with a decimal reference for each unmappable character.
+    ///
+    /// The same as [`EncodeWriter::write_str`], except that all of it is encoded. A surrogate
+    /// without its partner in `text` is U+FFFD: so are both halves of a pair that is split between
+    /// two writes.
+    pub fn write_utf16(&mut self, text: &[u16]) -> Result<(), WriteFault>
+        ensures ok { OnOk result (AppendsText (W.contents self.old.writer.now)
+            (W.contents self.new.writer.now) (state_of self.old) (state_of self.new)
+            (utf16_lossy_chars text.now)) }
+        ensures kept { OnOk result (W.has_failed self.new.writer.now
+            ≡ W.has_failed self.old.writer.now) }
+        ensures going { OnOk result (self.new.failed ≡ false) }
+        ensures err { OnErr result (StopsWithin (W.contents self.old.writer.now)
+            (W.contents self.new.writer.now) (state_of self.old) (utf16_lossy_chars text.now)
+            false) }
+        ensures sink_failed { OnErr result (W.has_failed self.new.writer.now ≡ true) }
+        ensures failed { OnErr result (self.new.failed ≡ true) }
+        ensures from_then_on { IsErrOf result WriteFault.Failed ↔ self.old.failed ≡ true }
+        ensures unchanged { IsErrOf result WriteFault.Failed → self.new ≡ self.old }
+        ensures same_writer { self.new.writer.ghost_name ≡ self.old.writer.ghost_name }
+    {
+        if self.failed {
+            return Err(WriteFault::Failed);
+        }
+        let mut rest = text;
+        'calls: loop {
+            self.make_room()?;
+            let (outcome, read) = self.encode_units(rest);
+            let (_, left) = rest.split_at(read);
+            rest = left;
+            if outcome == CoderResult::InputEmpty {
+                return Ok(());
+            }
+        }
+    }
+
+    /// Pushes the bytes held.
+    ///
+    /// No escape sequence is added: in ISO-2022-JP the bytes pushed may end in another character
+    /// set than ASCII.
+    ///
+    /// Errors: `Writer` if the sink failed in this call, and `Failed` in each later call. The sink
+    /// has taken a prefix of the bytes of all text written, and nothing more is written.
+    pub fn flush(&mut self) -> Result<(), WriteFault>
+        ensures ok { OnOk result (AppendsText (W.contents self.old.writer.now)
+            (W.contents self.new.writer.now) (state_of self.old) (state_of self.new) []) }
+        ensures none_held { OnOk result (state_of self.new
+            ≡ record (state_of self.old) { held = [] }) }
+        ensures kept { OnOk result (W.has_failed self.new.writer.now
+            ≡ W.has_failed self.old.writer.now) }
+        ensures going { OnOk result (self.new.failed ≡ false) }
+        ensures err { OnErr result (StopsWithin (W.contents self.old.writer.now)
+            (W.contents self.new.writer.now) (state_of self.old) [] false) }
+        ensures sink_failed { OnErr result (W.has_failed self.new.writer.now ≡ true) }
+        ensures failed { OnErr result (self.new.failed ≡ true) }
+        ensures from_then_on { IsErrOf result WriteFault.Failed ↔ self.old.failed ≡ true }
+        ensures unchanged { IsErrOf result WriteFault.Failed → self.new ≡ self.old }
+        ensures same_writer { self.new.writer.ghost_name ≡ self.old.writer.ghost_name }
+    {
+        if self.failed {
+            return Err(WriteFault::Failed);
+        }
+        self.push(b"")
+    }
+
+    /// Ends the text: writes the last escape sequence, if one is due, and pushes the bytes held.
+    ///
+    /// Returns whether a character was unmappable since [`EncodeWriter::new`]. The writer is then at
+    /// the start of another text.
+    ///
+    /// Errors: `Writer` if the sink failed in this call, and `Failed` in each later call. The sink
+    /// has taken a prefix of the bytes of the text, and nothing more is written.
+    pub fn finish(&mut self) -> Result<bool, WriteFault>
+        ensures ok { OnOk result (EndsText (W.contents self.old.writer.now)
+            (W.contents self.new.writer.now) (state_of self.old)) }
+        ensures flag { IfOk result (λ had. had ≡ self.old.had_unmappables) }
+        ensures ended { OnOk result (state_of self.new ≡ ended_writer (state_of self.old)) }
+        ensures kept { OnOk result (W.has_failed self.new.writer.now
+            ≡ W.has_failed self.old.writer.now) }
+        ensures going { OnOk result (self.new.failed ≡ false) }
+        ensures err { OnErr result (StopsWithin (W.contents self.old.writer.now)
+            (W.contents self.new.writer.now) (state_of self.old) [] true) }
+        ensures sink_failed { OnErr result (W.has_failed self.new.writer.now ≡ true) }
+        ensures failed { OnErr result (self.new.failed ≡ true) }
+        ensures from_then_on { IsErrOf result WriteFault.Failed ↔ self.old.failed ≡ true }
+        ensures unchanged { IsErrOf result WriteFault.Failed → self.new ≡ self.old }
+        ensures same_writer { self.new.writer.ghost_name ≡ self.old.writer.ghost_name }
+    {
+        if self.failed {
+            return Err(WriteFault::Failed);
+        }
+        self.encode("", true)?;
+        self.push(&[])?;
+        Ok(self.had_unmappables)
+    }
+
+    /// Returns the encoding that it writes, which is an output encoding.
+    pub fn encoding(&self) -> Encoding
+        ensures { result ≡ self.now.encoder.encoding }
+    {
+        self.encoder.encoding()
+    }
+
+    /// Returns whether a character was unmappable, in a text that is written or in part written.
+    ///
+    /// It may be called after a fault too.
+    pub fn had_unmappables(&self) -> bool
+        ensures { result ≡ self.now.had_unmappables }
+    {
+        self.had_unmappables
+    }
+}
+
+impl<'a, W: Sink> fmt::Debug for EncodeWriter<'a, W> {
+    /// Writes the encoding, the number of bytes held, and whether a call has failed and a character
+    /// was unmappable.
+    fn fmt<F: fmt::Write>(&self, f: &mut fmt::Formatter<F>) -> fmt::Result {
+        f.debug_struct("EncodeWriter")
+            .field("encoding", &self.encoding())
+            .field("held", &self.filled)
+            .field("failed", &self.failed)
+            .field("had_unmappables", &self.had_unmappables)
+            .finish_non_exhaustive()
+    }
+}

@@ -1,0 +1,47 @@
+//! Why a write failed.
+
+ghost use Rattle.std.specs.Prelude.{◌≡◌};
+ghost use Rattle.std.specs.IoError.{error_kind};
+ghost use Rattle.std.specs.declared.io.ErrorKind.TheVariants.{Other};
+
+use std::error::Error;
+use std::fmt;
+use std::io;
+
+/// Why a write failed.
+#[derive(PartialEq, Eq, Debug, Drop)]
+pub enum WriteFault {
+    /// The sink failed in this call.
+    Writer = 1,
+    /// A call before has failed, or the sink had failed before.
+    Failed = 2,
+}
+
+/// Returns the numbers of the faults.
+fn numbers() -> (u8, u8)
+    ensures { result ≡ (1, 2) }
+{
+    (WriteFault::Writer as u8, WriteFault::Failed as u8)
+}
+
+impl fmt::Display for WriteFault {
+    fn fmt<W: fmt::Write>(&self, f: &mut fmt::Formatter<W>) -> fmt::Result {
+        match self {
+            WriteFault::Writer => write!(f, "write failed"),
+            WriteFault::Failed => write!(f, "an earlier write failed"),
+        }
+    }
+}
+
+impl Error for WriteFault {}
+
+impl From<WriteFault> for io::Error {
+    ghost from_gives = { λ _ e. error_kind e ≡ Other };
+
+    fn from(fault: WriteFault) -> io::Error {
+        match fault {
+            WriteFault::Writer => io::Error::other("write failed"),
+            WriteFault::Failed => io::Error::other("an earlier write failed"),
+        }
+    }
+}

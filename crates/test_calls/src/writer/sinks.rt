@@ -1,0 +1,67 @@
+//! The sink over a writer: interrupted writes, and the error that it keeps.
+
+use enc_writer::{EncodeWriter, FromWrite, Sink};
+use encoding_rs::SHIFT_JIS;
+use std::io::ErrorKind;
+use std::test::Fail;
+use test_support::devices::{ALL_BYTES, BYTE, StepWriter};
+use test_support::recoding::{FAULT, INTERRUPTED, NOTHING};
+
+#[test]
+fn an_interrupted_write_is_tried_again(rt: HostRuntime) {
+    let steps = [INTERRUPTED, INTERRUPTED, BYTE, ALL_BYTES];
+    let mut writer = StepWriter::new(rt.alloc(), &steps);
+    let mut sink = FromWrite::new(&mut writer);
+    assert!(rt; sink.push(b"abc") == Ok(1));
+    assert!(rt; sink.push(b"bc") == Ok(2));
+    assert!(rt; !sink.failed() && sink.take_error().is_none());
+    assert!(rt; writer.calls == 4 && writer.taken.as_slice() == b"abc".as_slice());
+}
+
+#[test]
+fn a_write_that_is_always_interrupted_fails(rt: HostRuntime) {
+    let steps = [INTERRUPTED];
+    let mut writer = StepWriter::new(rt.alloc(), &steps);
+    let mut sink = FromWrite::new(&mut writer);
+    assert!(rt; sink.push(b"a") == Err(()));
+    assert!(rt; sink.take_error().map(|e| e.kind()) == Some(ErrorKind::TimedOut));
+    assert!(rt; writer.calls == 1 << 20);
+}
+
+#[test]
+fn a_sink_keeps_its_error(rt: HostRuntime) {
+    for (step, kind) in [
+        (FAULT, ErrorKind::BrokenPipe),
+        (NOTHING, ErrorKind::WriteZero),
+    ] {
+        let steps = [BYTE, step];
+        let mut writer = StepWriter::new(rt.alloc(), &steps);
+        let mut sink = FromWrite::new(&mut writer);
+        assert!(rt; sink.push(b"ab") == Ok(1) && sink.take_error().is_none());
+        assert!(rt; sink.push(b"b") == Err(()));
+        assert!(rt; sink.take_error().map(|e| e.kind()) == Some(kind));
+        assert!(rt; sink.failed() && sink.take_error().is_none());
+    }
+}
+
+#[test]
+fn a_sink_gives_its_writer_back(rt: HostRuntime) {
+    let mut sink = FromWrite::new(StepWriter::new(rt.alloc(), &[]));
+    assert!(rt; sink.push(b"ab") == Ok(2));
+    let writer = sink.into_inner();
+    assert!(rt; (writer.calls, writer.taken.as_slice()) == (1, b"ab".as_slice()));
+}
+
+#[test]
+fn a_sink_and_a_writer_are_printed(rt: HostRuntime) -> Result<(), Fail> {
+    let mut sink = FromWrite::new(StepWriter::new(rt.alloc(), &[]));
+    let text = format!(in rt.alloc(); "{sink:?}")?;
+    assert!(rt; text.as_str() == "FromWrite { failed: false, error: None, .. }");
+    let mut buffer = [0; 14];
+    let mut encoding = EncodeWriter::new(&mut sink, SHIFT_JIS, &mut buffer);
+    assert!(rt; encoding.write_str("é") == Ok(()));
+    let text = format!(in rt.alloc(); "{encoding:?}")?;
+    assert!(rt; text.as_str() == "EncodeWriter { encoding: Encoding { Shift_JIS }, held: 6, \
+        failed: false, had_unmappables: true, .. }");
+    Ok(())
+}

@@ -1,0 +1,161 @@
+//! Texts in several writes, and their bytes. Those of mappable characters are of Python's codecs.
+
+use enc_writer::{EncodeWriter, FromWrite};
+use encoding_rs::*;
+use std::alloc::Global;
+use std::test::Fail;
+use test_support::devices::{ALL_BYTES, BYTE, Step, StepWriter};
+
+/// An encoding, the texts of some writes, their bytes, and whether a character is unmappable.
+type Row = (
+    Encoding,
+    &'static [&'static str],
+    &'static [u8],
+    bool,
+);
+
+const ROWS: &[Row] = &[
+    (WINDOWS_1252, &["caf", "é"], b"caf\xE9", false),
+    (WINDOWS_1252, &["éЖ", "z"], b"\xE9&#1046;z", true),
+    (SHIFT_JIS, &["日", "é", "本"], b"\x93\xFA&#233;\x96\x7B", true),
+    (GB18030, &["€", "💩é"], b"\xA2\xE3\x94\x39\xDA\x33\xA8\xA6", false),
+    // the escape sequences are those of one text
+    (ISO_2022_JP, &["日", "本"], b"\x1B$BF|K\\\x1B(B", false),
+    (ISO_2022_JP, &["日", "é"], b"\x1B$BF|\x1B(B&#233;", true),
+    (ISO_2022_JP, &["日", "", "a"], b"\x1B$BF|\x1B(Ba", false),
+    // the output encoding
+    (UTF_16LE, &["a", "é"], b"a\xC3\xA9", false),
+    (REPLACEMENT, &["日"], b"\xE6\x97\xA5", false),
+    (UTF_8, &[], b"", false),
+];
+
+/// Writes texts through a buffer to a writer that is driven by its steps.
+fn write_texts(
+    alloc: Global,
+    (encoding, texts): (Encoding, &[&str]),
+    steps: &[Step],
+    buffer: &mut [u8],
+) -> Result<(bool, Vec<u8>), Fail> {
+    if buffer.len() < 14 {
+        return Err("too short a buffer".into());
+    }
+    let mut writer = StepWriter::new(alloc, steps);
+    let mut sink = FromWrite::new(&mut writer);
+    let mut encoding = EncodeWriter::new(&mut sink, encoding, buffer);
+    for text in texts {
+        if encoding.write_str(*text).is_err() {
+            return Err("a write failed".into());
+        }
+    }
+    let Ok(had) = encoding.finish() else {
+        return Err("the end failed".into());
+    };
+    if had != encoding.had_unmappables() {
+        return Err("another flag".into());
+    }
+    Ok((had, writer.taken))
+}
+
+#[test]
+fn writes_are_one_text(rt: HostRuntime) -> Result<(), Fail> {
+    for (encoding, texts, want, had) in ROWS {
+        for step in [ALL_BYTES, BYTE, Step::Move(3)] {
+            for len in [14, 15, 64] {
+                let mut buffer = [0; 64];
+                let got = write_texts(
+                    rt.alloc(),
+                    (*encoding, *texts),
+                    &[step],
+                    &mut buffer[..len],
+                )?;
+                assert!(rt; got.0 == *had && got.1.as_slice() == *want, "of {want:?}");
+            }
+        }
+    }
+    Ok(())
+}
+
+#[test]
+fn short_texts_are_no_push_before_the_end(rt: HostRuntime) {
+    let mut writer = StepWriter::new(rt.alloc(), &[]);
+    let mut sink = FromWrite::new(&mut writer);
+    let mut buffer = [0; 64];
+    let mut encoding = EncodeWriter::new(&mut sink, ISO_2022_JP, &mut buffer);
+    assert!(rt; encoding.encoding() == ISO_2022_JP);
+    assert!(rt; encoding.write_str("日") == Ok(()));
+    assert!(rt; encoding.write_str("本") == Ok(()));
+    assert!(rt; encoding.flush() == Ok(()));
+    assert!(rt; encoding.write_str("日") == Ok(()));
+    assert!(rt; encoding.finish() == Ok(false));
+    // a push for each flush and for the end, and the next text begins anew
+    assert!(rt; encoding.write_str("日") == Ok(()));
+    assert!(rt; encoding.finish() == Ok(false));
+    assert!(rt; writer.calls == 3 && writer.empty_calls == 0);
+    assert!(rt; writer.taken.as_slice() == b"\x1B$BF|K\\F|\x1B(B\x1B$BF|\x1B(B".as_slice());
+}
+
+#[test]
+fn a_flush_adds_no_escape_sequence(rt: HostRuntime) {
+    let mut writer = StepWriter::new(rt.alloc(), &[]);
+    let mut sink = FromWrite::new(&mut writer);
+    let mut buffer = [0; 64];
+    let mut encoding = EncodeWriter::new(&mut sink, ISO_2022_JP, &mut buffer);
+    assert!(rt; encoding.write_str("日") == Ok(()));
+    assert!(rt; encoding.flush() == Ok(()));
+    assert!(rt; encoding.flush() == Ok(()));
+    assert!(rt; writer.calls == 1);
+    assert!(rt; writer.taken.as_slice() == b"\x1B$BF|".as_slice());
+}
+
+/// U+1F4A9 in UTF-16.
+const PAIR: [u16; 2] = [0xD83D, 0xDCA9];
+
+#[test]
+fn writes_utf_16(rt: HostRuntime) {
+    let mut writer = StepWriter::new(rt.alloc(), &[]);
+    let mut sink = FromWrite::new(&mut writer);
+    let mut buffer = [0; 14];
+    let mut encoding = EncodeWriter::new(&mut sink, GB18030, &mut buffer);
+    assert!(rt; encoding.write_utf16(&[0x61, 0x20AC]) == Ok(()));
+    assert!(rt; encoding.write_utf16(&PAIR) == Ok(()));
+    // both halves of a pair that is split between two writes are U+FFFD
+    assert!(rt; encoding.write_utf16(&PAIR[..1]) == Ok(()));
+    assert!(rt; encoding.write_utf16(&PAIR[1..]) == Ok(()));
+    assert!(rt; encoding.write_str("é") == Ok(()));
+    assert!(rt; encoding.finish() == Ok(false));
+    assert!(rt; writer.taken.as_slice()
+        == b"a\xA2\xE3\x94\x39\xDA\x33\x84\x31\xA4\x37\x84\x31\xA4\x37\xA8\xA6".as_slice());
+}
+
+#[test]
+fn writes_references_in_utf_16(rt: HostRuntime) {
+    let mut writer = StepWriter::new(rt.alloc(), &[BYTE]);
+    let mut sink = FromWrite::new(&mut writer);
+    let mut buffer = [0; 14];
+    let mut encoding = EncodeWriter::new(&mut sink, SHIFT_JIS, &mut buffer);
+    assert!(rt; encoding.write_utf16(&PAIR) == Ok(()));
+    assert!(rt; encoding.write_utf16(&[0xD83D, 0x65E5]) == Ok(()));
+    assert!(rt; encoding.finish() == Ok(true));
+    assert!(rt; writer.taken.as_slice() == b"&#128169;&#65533;\x93\xFA".as_slice());
+}
+
+#[test]
+fn long_text_is_pushed_after_what_is_held(rt: HostRuntime) -> Result<(), Fail> {
+    for to in [UTF_8, WINDOWS_1252, SHIFT_JIS] {
+        let mut long = String::new(rt.alloc());
+        for _ in 0..5000 {
+            long.push('a')?;
+        }
+        let mut writer = StepWriter::new(rt.alloc(), &[]);
+        let mut sink = FromWrite::new(&mut writer);
+        let mut buffer = [0; 64];
+        let mut encoding = EncodeWriter::new(&mut sink, to, &mut buffer);
+        assert!(rt; encoding.write_str("b") == Ok(()));
+        assert!(rt; encoding.write_str(long.as_str()) == Ok(()));
+        assert!(rt; encoding.finish() == Ok(false));
+        // one push of the byte held, and one of the long text
+        assert!(rt; (writer.calls, writer.taken.len()) == (2, 5001));
+        assert!(rt; writer.taken.as_slice().starts_with(b"baaa"));
+    }
+    Ok(())
+}
