@@ -2,3 +2,4 @@ pub mod SourceLemmas
 pub mod ReadingLemmas
 pub mod TurnLemmas
 pub mod LendingLemmas
+pub mod HeldTextLemmas

@@ -1,0 +1,132 @@
+-- Text that is held between two calls: taking it, and lines of it.
+use Rattle.std.proofs.Common.{◌≡◌, ◌≢◌, ℕ, ◌-◌, ◌<◌, ◌≤◌, inl, inr, Bool, true, false, ◌||◌, List, [], ◌++◌}
+use Rattle.std.proofs.Common.{length, take, drop, All, Option, Some, None, refl, ap, ◌∙◌, sym, subst, arith}
+use Rattle.std.proofs.Common.{append_assoc, append-nil, length-append, if◌then◌else◌, take-append-drop}
+use Rattle.std.proofs.Math.ListN.{length-drop}
+use Rattle.std.proofs.lemmas.List.{length-take}
+use Rattle.std.specs.declared.result.Result.{Result}
+use Rattle.std.specs.Prelude.{Ok, Err, IsErrOf}
+use Rattle.std.specs.Char.{encode_utf8}
+use Rattle.std.specs.Io.KnownBytes.{Consumes, Keeps}
+use Rattle.enc_units.specs.Output.{units_of_text}
+use Rattle.enc_decoder.specs.Sequence.{Sequence, sequence_text}
+use Rattle.enc_decoder.proofs.SequenceLemmas.{units-append}
+use Rattle.enc_reader.specs.declared.decode_reader.ReadFault.{ReadFault}
+use Rattle.enc_reader.specs.declared.decode_reader.ReadFault.TheVariants as fault
+use Rattle.enc_reader.specs.Source.{IsExhausted}
+use Rattle.enc_reader.specs.Reading.{ReaderState, HandsOut, FailsToRead, owed_sequences}
+use Rattle.enc_reader.specs.HeldText.{TextState, TakesText, owed_text, remaining_text}
+use Rattle.enc_reader.proofs.SourceLemmas.{at_end}
+use Rattle.enc_reader.proofs.ReadingLemmas.{reader_at, ReadsOwed-none, ReadsOwed-then}
+
+-- the length of the text of a read
+pub handed_length : (lent : Bool) (len at : ℕ) (input dst : List ℕ) → at ≤ length input
+    → len ≤ (if lent then at else length dst)
+    → length (if lent then take len (drop (at - len) input) else take len dst) ≡ len
+handed_length true len at input dst within at_hand = omega (
+  arith,
+  within,
+  at_hand,
+  length-take len (drop (at - len) input),
+  length-drop (at - len) input,
+)
+handed_length false len at input dst within at_hand = omega (arith, at_hand, length-take len dst)
+
+-- a fault of a reader is one of two
+pub by_fault : {T : Type 0} {P : Type 0} (r : Result T ReadFault) (e : ReadFault) → r ≡ Err e
+    → (IsErrOf r fault.Reader → P) → (IsErrOf r fault.Failed → P) → P
+by_fault r fault.Reader is reader failed = reader is
+by_fault r fault.Failed is reader failed = failed is
+
+-- a reader, and the text that is held for it
+abbrev pub holding : ReaderState → List ℕ → TextState
+holding reader held = record { reader = reader; held = held }
+
+pub TakesText-none : (source : Option (List ℕ)) (s : TextState) → TakesText source source s s []
+TakesText-none source s = record {
+  bytes = [];
+  text = [];
+  malformed = false;
+  reads = ReadsOwed-none source s.reader;
+  held = append-nil s.held;
+}
+
+pub TakesText-then : {t₀ t₁ t₂ : Option (List ℕ)} {a b c : TextState} {v w : List ℕ}
+    → TakesText t₀ t₁ a b v → TakesText t₁ t₂ b c w → TakesText t₀ t₂ a c (v ++ w)
+TakesText-then {t₀ = t₀} {t₁ = t₁} {t₂ = t₂} {a = a} {b = b} {c = c} {v = v} {w = w} first others =
+    record {
+      bytes = first.bytes ++ others.bytes;
+      text = first.text ++ others.text;
+      malformed = first.malformed || others.malformed;
+      reads = ReadsOwed-then (reader_at t₀ a.reader) (reader_at t₁ b.reader)
+          (reader_at t₂ c.reader) first.reads others.reads;
+      held = sym (append_assoc a.held first.text others.text)
+          ∙ ap (λ l. l ++ others.text) first.held
+          ∙ append_assoc v b.held others.text
+          ∙ ap (λ l. v ++ l) others.held
+          ∙ sym (append_assoc v w c.held);
+    }
+
+-- the first bytes that are held
+pub TakesText-held : (source : Option (List ℕ)) (s : ReaderState) (held : List ℕ) (n : ℕ)
+    → TakesText source source (holding s held) (holding s (drop n held)) (take n held)
+TakesText-held source s held n = record {
+  bytes = [];
+  text = [];
+  malformed = false;
+  reads = ReadsOwed-none source s;
+  held = append-nil held ∙ sym (take-append-drop n held);
+}
+
+-- The text of a read is held, where none was held before.
+pub TakesText-handed : {t₀ t₁ : Option (List ℕ)} {a b : ReaderState} {text : List ℕ}
+    {had_before had_after : Bool} (held : List ℕ) → held ≡ []
+    → HandsOut t₀ t₁ a b text had_before had_after
+    → TakesText t₀ t₁ (holding a held) (holding b text) []
+TakesText-handed {text = text} held none hands_out = record {
+  bytes = hands_out.bytes;
+  text = text;
+  malformed = hands_out.malformed;
+  reads = hands_out.reads;
+  held = ap (λ l. l ++ text) none;
+}
+
+-- a read that fails, where none was held before
+pub TakesText-fails : {t₀ t₁ : Option (List ℕ)} {failed_before failed_after : Bool}
+    {a b : ReaderState} (held : List ℕ) → held ≡ []
+    → FailsToRead t₀ t₁ failed_before failed_after a b
+    → TakesText t₀ t₁ (holding a held) (holding b []) []
+TakesText-fails held none fails = record {
+  bytes = fails.bytes;
+  text = [];
+  malformed = fails.malformed;
+  reads = fails.reads;
+  held = append-nil held ∙ none;
+}
+
+-- Where the source models its bytes, the text to come loses what is taken.
+
+abbrev text_of : List Sequence → List ℕ
+text_of ss = units_of_text encode_utf8 (sequence_text ss)
+
+pub takes_known : (t₀ t₁ : Option (List ℕ)) (a b : TextState) (w : List ℕ)
+    → TakesText t₀ t₁ a b w → (b.reader.ended ≡ true → IsExhausted t₁)
+    → Consumes (remaining_text t₀ a) (remaining_text t₁ b) w
+takes_known t₀ None a b w takes exhausted = rw takes.reads.given tt
+takes_known t₀ (Some z) a b w takes exhausted =
+    let owed = text_of (owed_sequences b.reader z) in
+    let whole : owed_text a (takes.bytes ++ z) ≡ w ++ owed_text b z =
+    ap (λ ss. a.held ++ text_of ss)
+    (takes.reads.residual z (λ ended. at_end (Some z) (exhausted ended)))
+    ∙ ap (λ l. a.held ++ l)
+    (units-append encode_utf8 takes.reads.done (owed_sequences b.reader z))
+    ∙ sym (append_assoc a.held (text_of takes.reads.done) owed)
+    ∙ ap (λ l. (a.held ++ l) ++ owed) (sym takes.reads.text)
+    ∙ ap (λ l. l ++ owed) takes.held
+    ∙ append_assoc w b.held owed in
+    rw takes.reads.given whole
+
+pub keeps_known : (p q : Option (List ℕ)) → Consumes p q [] → Keeps p q
+keeps_known None q consumes = tt
+keeps_known (Some x) None consumes = absurd consumes
+keeps_known (Some x) (Some y) consumes = sym consumes
