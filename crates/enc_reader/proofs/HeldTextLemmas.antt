@@ -2,12 +2,16 @@
 use Rattle.std.proofs.Common.{◌≡◌, ◌≢◌, ℕ, ◌-◌, ◌<◌, ◌≤◌, inl, inr, Bool, true, false, ◌||◌, List, [], ◌++◌}
 use Rattle.std.proofs.Common.{length, take, drop, All, Option, Some, None, refl, ap, ◌∙◌, sym, subst, arith}
 use Rattle.std.proofs.Common.{append_assoc, append-nil, length-append, if◌then◌else◌, take-append-drop}
+use Rattle.std.proofs.Common.{nat_lt, ltb-true, ltb-false, take_all, get_or}
 use Rattle.std.proofs.Math.ListN.{length-drop}
-use Rattle.std.proofs.lemmas.List.{length-take}
+use Rattle.std.proofs.lemmas.List.{length-take, nil_from_length}
 use Rattle.std.specs.declared.result.Result.{Result}
 use Rattle.std.specs.Prelude.{Ok, Err, IsErrOf}
 use Rattle.std.specs.Char.{encode_utf8}
-use Rattle.std.specs.Io.KnownBytes.{Consumes, Keeps}
+use Rattle.std.specs.Str.{IsUtf8, IsCharBoundary}
+use Rattle.std.proofs.lemmas.Str.{IsUtf8-take, IsUtf8-drop, IsCharBoundary-after_ascii, IsCharBoundary-from_take}
+use Rattle.enc_decoder.proofs.FirstSequenceLemmas.{true_or_false}
+use Rattle.std.specs.Io.KnownBytes.{Consumes, Keeps, IsAtEnd}
 use Rattle.enc_units.specs.Output.{units_of_text}
 use Rattle.enc_decoder.specs.Sequence.{Sequence, sequence_text}
 use Rattle.enc_decoder.proofs.SequenceLemmas.{units-append}
@@ -15,7 +19,9 @@ use Rattle.enc_reader.specs.declared.decode_reader.ReadFault.{ReadFault}
 use Rattle.enc_reader.specs.declared.decode_reader.ReadFault.TheVariants as fault
 use Rattle.enc_reader.specs.Source.{IsExhausted}
 use Rattle.enc_reader.specs.Reading.{ReaderState, HandsOut, FailsToRead, owed_sequences}
-use Rattle.enc_reader.specs.HeldText.{TextState, TakesText, owed_text, remaining_text}
+use Rattle.enc_reader.specs.declared.decoded_text.DecodedText.{DecodedText}
+use Rattle.enc_reader.specs.Reader.{state_of}
+use Rattle.enc_reader.specs.HeldText.{TextState, TakesText, IsTextAtEnd, owed_text, remaining_text, text_state_of}
 use Rattle.enc_reader.proofs.SourceLemmas.{at_end}
 use Rattle.enc_reader.proofs.ReadingLemmas.{reader_at, ReadsOwed-none, ReadsOwed-then}
 
@@ -31,6 +37,22 @@ handed_length true len at input dst within at_hand = omega (
   length-drop (at - len) input,
 )
 handed_length false len at input dst within at_hand = omega (arith, at_hand, length-take len dst)
+
+-- the text of which `taken` bytes are taken
+module _ (lent : Bool) (len at taken : ℕ) (input dst : List ℕ) (within : at ≤ length input)
+    (at_hand : len ≤ (if lent then at else length dst)) where
+  abbrev handed : List ℕ
+  handed = if lent then take len (drop (at - len) input) else take len dst
+
+  pub held_length : length (drop taken handed) ≡ len - taken
+  held_length = omega (
+    arith,
+    length-drop taken handed,
+    handed_length lent len at input dst within at_hand,
+  )
+
+  pub none_held : len ≤ taken → drop taken handed ≡ []
+  none_held all = nil_from_length (drop taken handed) (omega (arith, all, held_length))
 
 -- a fault of a reader is one of two
 pub by_fault : {T : Type 0} {P : Type 0} (r : Result T ReadFault) (e : ReadFault) → r ≡ Err e
@@ -76,6 +98,17 @@ TakesText-held source s held n = record {
   malformed = false;
   reads = ReadsOwed-none source s;
   held = append-nil held ∙ sym (take-append-drop n held);
+}
+
+-- nothing is held, and nothing is read
+pub TakesText-same : (source : Option (List ℕ)) (s : ReaderState) (held : List ℕ) → held ≡ []
+    → TakesText source source (holding s held) (holding s []) []
+TakesText-same source s held none = record {
+  bytes = [];
+  text = [];
+  malformed = false;
+  reads = ReadsOwed-none source s;
+  held = append-nil held ∙ none;
 }
 
 -- The text of a read is held, where none was held before.
@@ -130,3 +163,42 @@ pub keeps_known : (p q : Option (List ℕ)) → Consumes p q [] → Keeps p q
 keeps_known None q consumes = tt
 keeps_known (Some x) None consumes = absurd consumes
 keeps_known (Some x) (Some y) consumes = sym consumes
+
+-- At the end of the text no byte of it is to come.
+pub known_end : (t : Option (List ℕ)) (s : TextState) → IsTextAtEnd t s
+    → IsAtEnd (remaining_text t s)
+known_end None s at_the_end = tt
+known_end (Some z) s at_the_end =
+    ap (λ h. h ++ text_of (owed_sequences s.reader z)) at_the_end.none_held
+    ∙ ap (λ y. text_of (owed_sequences s.reader y)) at_the_end.reader.exhausted
+    ∙ ap text_of at_the_end.reader.none_owed
+
+-- the state after text is taken, by the reader and the text that is held
+pub state_moved : {T : Type 0} {S : _} (mid new : DecodedText T S) {h : List ℕ}
+    → new.reader ≡ mid.reader → (text_state_of new).held ≡ h
+    → holding (state_of mid.reader) h ≡ text_state_of new
+state_moved mid new {h = h} same_reader held =
+    ap (holding (state_of mid.reader)) (sym held)
+    ∙ ap (λ r. holding (state_of r) (text_state_of new).held) (sym same_reader)
+
+pub subst_both : {X Y : Type 0} (P : X → Y → Type 0) {x₀ x₁ : X} {y₀ y₁ : Y} → x₀ ≡ x₁ → y₀ ≡ y₁
+    → P x₀ y₀ → P x₁ y₁
+subst_both P {x₁ = x₁} {y₀ = y₀} e k holds = subst (P x₁) k (subst (λ x. P x y₀) e holds)
+
+-- Whole characters, up to and with a line feed or the end, and the characters after them.
+pub parts_utf_8 : (held : List ℕ) (len : ℕ) → IsUtf8 held → 0 < len → len ≤ length held
+    → (len < length held → get_or held (len - 1) 0 ≡ 10)
+    → IsUtf8 (take len held) × IsUtf8 (drop len held)
+parts_utf_8 held len utf_8 some within ends =
+    let front : IsUtf8 (take len held) = elim (true_or_false (nat_lt len (length held))) [
+      | inl more ↦ (
+          let feed = ends (ltb-true len (length held) more) in
+          let place : len - 1 + 1 ≡ len = omega (arith, some) in
+          IsUtf8-take held len utf_8
+          (subst (IsCharBoundary held) place
+          (IsCharBoundary-after_ascii held (len - 1) utf_8 (omega (arith, some, within))
+          (omega (arith, feed)))))
+      | inr all ↦ subst IsUtf8
+          (sym (take_all len held (ltb-false len (length held) all))) utf_8
+    ] in
+    (front, IsUtf8-drop held len utf_8 (IsCharBoundary-from_take held len utf_8 within front))

@@ -3,3 +3,4 @@ pub mod ReadingLemmas
 pub mod TurnLemmas
 pub mod LendingLemmas
 pub mod HeldTextLemmas
+pub mod LineLemmas

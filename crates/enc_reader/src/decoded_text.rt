@@ -1,13 +1,12 @@
 //! The text of a reader for the traits of `std`, and line by line.
 
-ghost use Rattle.std.specs.Prelude.{◌≡◌, ℕ, ◌+◌, ◌-◌, ◌<◌, ◌≤◌, length, take, drop, []};
-ghost use Rattle.std.specs.Prelude.{true, false, Some, IfSome, IfOk, OnOk, OnErr, IsErrOf};
+ghost use Rattle.std.specs.Prelude.{◌≡◌, ◌+◌, ◌-◌, ◌<◌, ◌≤◌, length, drop, []};
+ghost use Rattle.std.specs.Prelude.{true, false, Some, IfOk, OnOk, OnErr, IsErrOf};
 ghost use Rattle.std.specs.Prelude.{string_bytes, string_len};
-ghost use types.Logic.{sem};
 ghost use Rattle.std.specs.Str.{IsUtf8};
-ghost use Rattle.std.specs.Io.{StartsWith, ReadsAtMost, appended_bytes};
-ghost use Rattle.std.specs.Io.KnownBytes.{Consumes, ReadConsumes};
-ghost use Rattle.std.specs.Io.BufRead.{Rests, FillKeeps, DropsConsumable};
+ghost use Rattle.std.specs.Io.{appended_bytes};
+ghost use Rattle.std.specs.Io.KnownBytes.{Consumes};
+ghost use Rattle.std.specs.Io.BufRead.{DropsConsumable};
 ghost use Rattle.enc_reader.specs.Reader.{IsAtHand};
 
 use crate::decode_reader::{DecodeReader, HandedText, ReadFault};
@@ -45,7 +44,7 @@ impl<'a, R: Source> DecodedText<'a, R> {
     /// four bytes.
     pub fn new(reader: DecodeReader<'a, R>, text: &'a mut [u8]) -> DecodedText<'a, R>
         requires { 4 ≤ length text.old }
-        ensures reader { result.reader ≡ reader }
+        ensures reader { result.reader ≡ reader.entry }
         ensures none_held { (text_state_of result).held ≡ [] }
     {
         DecodedText {
@@ -121,6 +120,7 @@ impl<'a, R: Source> DecodedText<'a, R> {
             (text_state_of self.new) (string_bytes line.old) (string_bytes line.new)) }
         ensures some { IfOk result (λ is_whole. is_whole ≡ false
             → string_len line.old < string_len line.new) }
+        ensures grows { string_len line.old ≤ string_len line.new }
         ensures err { OnErr result (string_bytes line.new ≡ string_bytes line.old) }
         ensures none_lost { OnErr result (TakesText (R.remaining self.old.reader.reader.now)
             (R.remaining self.new.reader.reader.now) (text_state_of self.old)
@@ -166,6 +166,10 @@ impl<'a, R: Source> DecodedText<'a, R> {
         ensures none_lost { AppendsText (R.remaining self.old.reader.reader.now)
             (R.remaining self.new.reader.reader.now) (text_state_of self.old)
             (text_state_of self.new) (string_bytes line.old) (string_bytes line.new) }
+        ensures known { Consumes
+            (remaining_text (R.remaining self.old.reader.reader.now) (text_state_of self.old))
+            (remaining_text (R.remaining self.new.reader.reader.now) (text_state_of self.new))
+            (appended_bytes (string_bytes line.old) (string_bytes line.new)) }
         ensures utf_8 { IsUtf8 (text_state_of self.old).held
             → IsUtf8 (text_state_of self.new).held }
         ensures cut { IsErrOf result LineFault.MidCharacter
@@ -205,7 +209,6 @@ impl<'a, R: Source> Read for DecodedText<'a, R> {
 
 impl<'a, R: Source> BufRead for DecodedText<'a, R> {
     ghost use Rattle.enc_reader.specs.HeldText.{text_state_of as state_held, remaining_text as text_held};
-    ghost use Rattle.enc_reader.specs.contracts.decoded_text.DecodedText.{the_row};
 
     ghost consumable_len = { λ t. Some (length (state_held t).held) };
 
@@ -213,16 +216,7 @@ impl<'a, R: Source> BufRead for DecodedText<'a, R> {
     /// the end.
     ///
     /// A fault of the reader is an error of the kind `Other`. Nothing is lost then.
-    fn fill_buf(&mut self) -> io::Result<&[u8]>
-        ensures front { IfSome (text_held (R.remaining self.old.reader.reader.now)
-            (state_held self.old)) (λ xs. IfOk result (λ s. StartsWith xs s.now)) }
-        ensures end { IfSome (text_held (R.remaining self.old.reader.reader.now)
-            (state_held self.old)) (λ xs. IfOk result (λ s. length s.now ≡ 0 → xs ≡ [])) }
-        ensures* after_borrow { sem 𝓛 (Rests (the_row R.row R.Source) self.entry (λ new.
-            FillKeeps (text_held (R.remaining self.old.reader.reader.now) (state_held self.old))
-            (text_held (R.remaining new.reader.reader.now) (state_held new))
-            (Some (length (state_held new).held)) result)) }
-    {
+    fn fill_buf(&mut self) -> io::Result<&[u8]> {
         if let Err(fault) = self.fill() {
             return Err(error_of(&fault));
         }

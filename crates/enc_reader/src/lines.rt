@@ -1,7 +1,7 @@
 //! Lines in bytes of text.
 
-ghost use Rattle.std.specs.Prelude.{◌≡◌, ◌≢◌, ◌-◌, ◌<◌, ◌≤◌, ◌++◌, length, take, slice_index, All};
-ghost use Rattle.std.specs.Prelude.{OnOk, OnErr, IsErrOf, string_bytes};
+ghost use Rattle.std.specs.Prelude.{◌≡◌, ◌≢◌, ◌+◌, ◌-◌, ◌<◌, ◌≤◌, ◌++◌, length, take, slice_index, All};
+ghost use Rattle.std.specs.Prelude.{OnOk, OnErr, IsErrOf, string_bytes, string_len};
 ghost use Rattle.std.specs.Str.{IsUtf8};
 
 use crate::line_fault::LineFault;
@@ -26,7 +26,9 @@ pub(crate) fn line_len(bytes: &[u8]) -> usize
 /// Appends bytes that are whole characters in UTF-8 to `line`, which stays after an `Err`.
 pub(crate) fn append(line: &mut String, bytes: &[u8]) -> Result<(), LineFault>
     ensures ok { OnOk result (string_bytes line.new ≡ string_bytes line.old ++ bytes.now) }
+    ensures len { OnOk result (string_len line.new ≡ string_len line.old + length bytes.now) }
     ensures err { OnErr result (string_bytes line.new ≡ string_bytes line.old) }
+    ensures same_len { OnErr result (string_len line.new ≡ string_len line.old) }
     ensures utf_8 { OnOk result (IsUtf8 bytes.now) }
     ensures cut { IsErrOf result LineFault.MidCharacter → IsUtf8 bytes.now → ⊥ }
 {

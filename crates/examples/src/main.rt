@@ -1,13 +1,14 @@
 //! Examples of calls, each in a file of its own.
 //!
 //! `examples detection FILE=LABEL ..` finds the encodings of files. `examples first-fault LABEL`,
-//! `examples form-data LABEL` and `examples mail-part` read standard input. `examples all` runs
-//! each over the files of `data`, from which it has to be started.
+//! `examples form-data LABEL`, `examples lines LABEL` and `examples mail-part` read standard input.
+//! `examples all` runs each over the files of `data`, from which it has to be started.
 #![tactic(auto)]
 
 mod detection;
 mod first_fault;
 mod form_data;
+mod lines;
 mod mail_part;
 
 use std::io::{Error, Read};
@@ -27,6 +28,7 @@ const FILES: &[(&str, &str)] = &[
 const INPUTS: &[(&str, &str, &str)] = &[
     ("first-fault", "gb18030", "diary.txt"),
     ("form-data", "shift_jis", "form.txt"),
+    ("lines", "koi8-r", "poem.txt"),
     ("mail-part", "", "mail.txt"),
 ];
 
@@ -36,6 +38,7 @@ fn run<R: Read>(rt: &HostRuntime, name: &str, label: &str, input: &mut R) -> io:
     match name {
         "first-fault" => first_fault::run(rt.alloc(), label, input, &mut out),
         "form-data" => form_data::run(rt.alloc(), label, input, &mut out),
+        "lines" => lines::run(rt.alloc(), label, input, &mut out),
         "mail-part" => mail_part::run(rt.alloc(), input, &mut out),
         _ => Err(Error::other("no such example")),
     }
