@@ -1,8 +1,8 @@
 -- Text that is held between two calls: taking it, and lines of it.
-use Rattle.std.proofs.Common.{◌≡◌, ◌≢◌, ℕ, ◌-◌, ◌<◌, ◌≤◌, inl, inr, Bool, true, false, ◌||◌, List, [], ◌++◌}
-use Rattle.std.proofs.Common.{length, take, drop, All, Option, Some, None, refl, ap, ◌∙◌, sym, subst, arith}
+use Rattle.std.proofs.Common.{◌≡◌, ℕ, ◌+◌, ◌-◌, ◌<◌, ◌≤◌, inl, inr, Bool, true, false, ◌||◌, List, [], ◌++◌}
+use Rattle.std.proofs.Common.{length, take, drop, Option, Some, None, IfSome, refl, ap, ◌∙◌, sym, subst, arith}
 use Rattle.std.proofs.Common.{append_assoc, append-nil, length-append, if◌then◌else◌, take-append-drop}
-use Rattle.std.proofs.Common.{nat_lt, ltb-true, ltb-false, take_all, get_or}
+use Rattle.std.proofs.Common.{nat_lt, ltb-true, ltb-false, take_all, take_at, get_or}
 use Rattle.std.proofs.Math.ListN.{length-drop}
 use Rattle.std.proofs.lemmas.List.{length-take, nil_from_length}
 use Rattle.std.specs.declared.result.Result.{Result}
@@ -11,6 +11,7 @@ use Rattle.std.specs.Char.{encode_utf8}
 use Rattle.std.specs.Str.{IsUtf8, IsCharBoundary}
 use Rattle.std.proofs.lemmas.Str.{IsUtf8-take, IsUtf8-drop, IsCharBoundary-after_ascii, IsCharBoundary-from_take}
 use Rattle.enc_decoder.proofs.FirstSequenceLemmas.{true_or_false}
+use Rattle.std.specs.Io.{StartsWith}
 use Rattle.std.specs.Io.KnownBytes.{Consumes, Keeps, IsAtEnd}
 use Rattle.enc_units.specs.Output.{units_of_text}
 use Rattle.enc_decoder.specs.Sequence.{Sequence, sequence_text}
@@ -21,7 +22,8 @@ use Rattle.enc_reader.specs.Source.{IsExhausted}
 use Rattle.enc_reader.specs.Reading.{ReaderState, HandsOut, FailsToRead, owed_sequences}
 use Rattle.enc_reader.specs.declared.decoded_text.DecodedText.{DecodedText}
 use Rattle.enc_reader.specs.Reader.{state_of}
-use Rattle.enc_reader.specs.HeldText.{TextState, TakesText, IsTextAtEnd, owed_text, remaining_text, text_state_of}
+use Rattle.enc_reader.specs.HeldText.{TextState, TakesText, IsTextAtEnd, owed_text, remaining_text}
+use Rattle.enc_reader.specs.HeldText.{text_state_of}
 use Rattle.enc_reader.proofs.SourceLemmas.{at_end}
 use Rattle.enc_reader.proofs.ReadingLemmas.{reader_at, ReadsOwed-none, ReadsOwed-then}
 
@@ -172,6 +174,34 @@ known_end (Some z) s at_the_end =
     ap (λ h. h ++ text_of (owed_sequences s.reader z)) at_the_end.none_held
     ∙ ap (λ y. text_of (owed_sequences s.reader y)) at_the_end.reader.exhausted
     ∙ ap text_of at_the_end.reader.none_owed
+
+-- what holds of all bytes holds where they are known
+pub if_known : {P : List ℕ → Type 0} (known : Option (List ℕ)) → ((xs : List ℕ) → P xs)
+    → IfSome known P
+if_known None holds = tt
+if_known (Some xs) holds = holds xs
+
+-- The text that is held comes first, and is empty only at the end.
+
+pub known_front : (known source : Option (List ℕ)) (s : TextState) (shown : List ℕ)
+    → Keeps known (remaining_text source s) → shown ≡ s.held
+    → IfSome known (λ xs. StartsWith xs shown)
+known_front None source s shown keeps is_held = tt
+known_front (Some xs) None s shown keeps is_held = absurd keeps
+known_front (Some xs) (Some z) s shown keeps is_held =
+    let rest = text_of (owed_sequences s.reader z) in
+    ap (take (length shown)) (sym keeps) ∙ ap (λ l. take (length l) (s.held ++ rest)) is_held
+    ∙ take_at s.held rest (length s.held) refl ∙ sym is_held
+
+pub known_none : (known source : Option (List ℕ)) (s : TextState) (shown : List ℕ)
+    → Keeps known (remaining_text source s) → shown ≡ s.held
+    → (s.held ≡ [] → IsTextAtEnd source s)
+    → IfSome known (λ xs. length shown ≡ 0 → xs ≡ [])
+known_none None source s shown keeps is_held at_end_if = tt
+known_none (Some xs) None s shown keeps is_held at_end_if = absurd keeps
+known_none (Some xs) (Some z) s shown keeps is_held at_end_if = λ none.
+    sym keeps
+    ∙ known_end (Some z) s (at_end_if (sym is_held ∙ nil_from_length shown none))
 
 -- the state after text is taken, by the reader and the text that is held
 pub state_moved : {T : Type 0} {S : _} (mid new : DecodedText T S) {h : List ℕ}

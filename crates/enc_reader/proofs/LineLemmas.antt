@@ -79,23 +79,24 @@ ends_after v w ends_in =
     }
 
 -- a part, after others without a line feed
-pub AppendsLine-then : {t₀ t₁ t₂ : Option (List ℕ)} {a b c : TextState} {l₀ l₁ l₂ : List ℕ}
-    {is_whole : Bool} → AppendsLine t₀ t₁ a b l₀ l₁ false → AppendsLine t₁ t₂ b c l₁ l₂ is_whole
-    → AppendsLine t₀ t₂ a c l₀ l₂ is_whole
-AppendsLine-then {l₀ = l₀} so_far next =
-    let none = so_far.part refl in
-    record {
-      wrote = so_far.wrote ++ next.wrote;
-      appended = next.appended ∙ ap (λ l. l ++ next.wrote) so_far.appended
-          ∙ append_assoc l₀ so_far.wrote next.wrote;
-      takes = TakesText-then so_far.takes next.takes;
-      stops = StopsAt-append so_far.wrote next.wrote 10 none next.stops;
-      part = λ no. All-append is_no_feed so_far.wrote next.wrote none (next.part no);
-      whole = λ yes. elim (next.whole yes) [
-        | inl ends_in ↦ inl (ends_after so_far.wrote next.wrote ends_in)
-        | inr at_end ↦ inr at_end
-      ];
-    }
+module _ {t₀ t₁ t₂ : Option (List ℕ)} where
+  pub AppendsLine-then : {a b c : TextState} {l₀ l₁ l₂ : List ℕ} {is_whole : Bool}
+      → AppendsLine t₀ t₁ a b l₀ l₁ false → AppendsLine t₁ t₂ b c l₁ l₂ is_whole
+      → AppendsLine t₀ t₂ a c l₀ l₂ is_whole
+  AppendsLine-then {l₀ = l₀} so_far next =
+      let none = so_far.part refl in
+      record {
+        wrote = so_far.wrote ++ next.wrote;
+        appended = next.appended ∙ ap (λ l. l ++ next.wrote) so_far.appended
+            ∙ append_assoc l₀ so_far.wrote next.wrote;
+        takes = TakesText-then so_far.takes next.takes;
+        stops = StopsAt-append so_far.wrote next.wrote 10 none next.stops;
+        part = λ no. All-append is_no_feed so_far.wrote next.wrote none (next.part no);
+        whole = λ yes. elim (next.whole yes) [
+          | inl ends_in ↦ inl (ends_after so_far.wrote next.wrote ends_in)
+          | inr at_end ↦ inr at_end
+        ];
+      }
 
 pub AppendsText-line : {t₀ t₁ : Option (List ℕ)} {a b : TextState} {l₀ l₁ : List ℕ}
     {is_whole : Bool} → AppendsLine t₀ t₁ a b l₀ l₁ is_whole → AppendsText t₀ t₁ a b l₀ l₁

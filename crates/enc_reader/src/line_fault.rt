@@ -16,8 +16,8 @@ pub enum LineFault {
     Read(ReadFault),
     /// No memory is left for the text. It stays to be read.
     Memory,
-    /// A call of `read` or `consume` before has taken a part of a character. The rest of it stays to
-    /// be read.
+    /// A call of `read` or `consume` before has taken a part of a character. The rest stays to be
+    /// read.
     MidCharacter,
 }
 

@@ -10,33 +10,33 @@ returns-then-self-clause-takes g c = TakesText-none _ _
 
 pub returns-then-self-clause-end : goal.returns-then-self-clause-end
 returns-then-self-clause-end g c =
-    let t = c.args.self.now in
-    let within : t.reader.at ≤ length t.reader.input.now =
-    omega (arith, t.reader.decoded, t.reader.within) in
-    let long = held_length t.handed.lent t.handed.len t.reader.at t.at t.reader.input.now t.text.now
-    within t.at_hand in
+    let text = c.args.self.now in
+    let within : text.reader.at ≤ length text.reader.input.now =
+    omega (arith, text.reader.decoded, text.reader.within) in
+    let long = held_length text.handed.lent text.handed.len text.reader.at text.at
+    text.reader.input.now text.text.now within text.at_hand in
     λ none. absurd (omega (arith, long, ap length none, c.if-self.true))
 
 pub returns-in-Ok-clause-takes : goal.returns-in-Ok-clause-takes
 returns-in-Ok-clause-takes g c =
-    let t = c.args.self.now in
-    let within : t.reader.at ≤ length t.reader.input.now =
-    omega (arith, t.reader.decoded, t.reader.within) in
-    let none = none_held t.handed.lent t.handed.len t.reader.at t.at t.reader.input.now t.text.now
-    within t.at_hand (omega (arith, c.if-self.false)) in
+    let text = c.args.self.now in
+    let within : text.reader.at ≤ length text.reader.input.now =
+    omega (arith, text.reader.decoded, text.reader.within) in
+    let none = none_held text.handed.lent text.handed.len text.reader.at text.at
+    text.reader.input.now text.text.now within text.at_hand (omega (arith, c.if-self.false)) in
     TakesText-handed _ none c.in-Ok.ensures.ok
 
 pub returns-in-Err-clause-takes : goal.returns-in-Err-clause-takes
 returns-in-Err-clause-takes g c =
-    let t = c.args.self.now in
-    let within : t.reader.at ≤ length t.reader.input.now =
-    omega (arith, t.reader.decoded, t.reader.within) in
-    let none = none_held t.handed.lent t.handed.len t.reader.at t.at t.reader.input.now t.text.now
-    within t.at_hand (omega (arith, c.if-self.false)) in
+    let text = c.args.self.now in
+    let within : text.reader.at ≤ length text.reader.input.now =
+    omega (arith, text.reader.decoded, text.reader.within) in
+    let none = none_held text.handed.lent text.handed.len text.reader.at text.at
+    text.reader.input.now text.text.now within text.at_hand (omega (arith, c.if-self.false)) in
     by_fault c.read_or_lend.result c.in-Err.fault c.in-Err.is
     (λ reader. TakesText-fails _ none (c.read_or_lend.ensures.reader_fault reader))
     (λ failed. subst
-    (λ r. TakesText (g.R.Source.remaining t.reader.reader.now) (g.R.Source.remaining r.reader.now)
-    (text_state_of t) (holding (state_of r) []) [])
+    (λ r. TakesText (g.R.Source.remaining text.reader.reader.now)
+    (g.R.Source.remaining r.reader.now) (text_state_of text) (holding (state_of r) []) [])
     (sym (c.read_or_lend.ensures.unchanged failed))
     (TakesText-same _ _ _ none))

@@ -19,7 +19,7 @@ returns-clause-bytes g c =
     let filled = c.fill.new.self in
     let held = c.held-held.result.now in
     let value = c.held-held.ensures.value in
-    let h = (text_state_of filled).held in
+    let shown = (text_state_of filled).held in
     let len = c.min-len.result in
     let copied = c.copy_from_slice.new.self in
     let rest = drop len c.args.buf.now in
@@ -29,7 +29,7 @@ returns-clause-bytes g c =
     let within : len ≤ length held = omega (arith, c.min-len.ensures) in
     let copied_len : length copied ≡ len =
     ap length c.copy_from_slice.ensures.after ∙ length-take-le len held within in
-    let bytes : take len (copied ++ rest) ≡ take len h =
+    let bytes : take len (copied ++ rest) ≡ take len shown =
     take_at copied rest len copied_len ∙ c.copy_from_slice.ensures.after
     ∙ ap (take len) value in
     let same_source = ap (λ r. g.R.Source.remaining r.reader.now) (sym c.advance.ensures.reader) in
@@ -37,13 +37,13 @@ returns-clause-bytes g c =
     c.advance.ensures.held in
     (
       subst (Consumes before _) (sym bytes)
-          (subst_both (λ t s. Consumes before (remaining_text t s) (take len h)) same_source moved
-          (takes_known _ source _ (holding (state_of filled.reader) (drop len h)) (take len h)
+          (subst_both (λ t s. Consumes before (remaining_text t s) (take len shown)) same_source moved
+          (takes_known _ source _ (holding (state_of filled.reader) (drop len shown)) (take len shown)
           (TakesText-then c.fill.ensures.takes
-          (TakesText-held source (state_of filled.reader) h len))
+          (TakesText-held source (state_of filled.reader) shown len))
           filled.reader.exhausted)),
       λ zero some.
-          let none : h ≡ [] = nil_from_length h (omega (
+          let none : shown ≡ [] = nil_from_length shown (omega (
             arith,
             zero,
             some,
@@ -54,6 +54,7 @@ returns-clause-bytes g c =
             length-drop len c.args.buf.now,
           )) in
           subst_both (λ t s. IsAtEnd (remaining_text t s)) same_source moved
-          (subst (λ n. IsAtEnd (remaining_text source (holding (state_of filled.reader) (drop n h))))
+          (subst
+          (λ n. IsAtEnd (remaining_text source (holding (state_of filled.reader) (drop n shown))))
           (sym zero) (known_end source (text_state_of filled) (c.in_default.ensures.end none))),
     )
