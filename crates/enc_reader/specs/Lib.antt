@@ -2,3 +2,4 @@ pub mod Source
 pub mod Reading
 pub mod Turn
 pub mod Reader
+pub mod HeldText

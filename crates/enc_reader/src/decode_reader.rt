@@ -45,9 +45,9 @@ fn numbers() -> (u8, u8)
 #[derive(Clone, Copy, Debug)]
 pub struct HandedText {
     /// Its length in bytes.
-    len: usize,
+    pub(crate) len: usize,
     /// Whether it is in the reader's own buffer, before the undecoded bytes.
-    lent: bool,
+    pub(crate) lent: bool,
 }
 
 /// The bytes of the buffer that the source has returned and that are not decoded.

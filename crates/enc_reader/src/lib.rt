@@ -4,7 +4,12 @@
 #![tactic(auto)]
 
 mod decode_reader;
+mod decoded_text;
+mod line_fault;
+mod lines;
 mod source;
 
 pub use decode_reader::{DecodeReader, HandedText, ReadFault};
+pub use decoded_text::DecodedText;
+pub use line_fault::LineFault;
 pub use source::{FromRead, Source};

@@ -9,6 +9,7 @@ mod detection;
 mod faults;
 mod form_data;
 mod legacy_writer;
+mod lines;
 mod mail_part;
 mod meta_prescan;
 mod scanner;
@@ -30,6 +31,7 @@ const FILES: &[(&str, &str)] = &[
 const INPUTS: &[(&str, &str, &str)] = &[
     ("faults", "gb18030", "diary.txt"),
     ("form-data", "shift_jis", "form.txt"),
+    ("lines", "koi8-r", "poem.txt"),
     ("mail-part", "", "mail.txt"),
     ("meta-prescan", "", "cyrillic.html"),
     ("meta-prescan", "", "late.html"),
@@ -44,6 +46,7 @@ fn run<R: Read>(rt: &HostRuntime, name: &str, label: &str, input: &mut R) -> io:
     match name {
         "faults" => faults::run(rt.alloc(), label, input, &mut out),
         "form-data" => form_data::run(rt.alloc(), label, input, &mut out),
+        "lines" => lines::run(rt.alloc(), label, input, &mut out),
         "mail-part" => mail_part::run(rt.alloc(), input, &mut out),
         "meta-prescan" => meta_prescan::run(rt.alloc(), input, &mut out),
         "legacy-writer" => legacy_writer::run(rt.alloc(), label, input, &mut out),

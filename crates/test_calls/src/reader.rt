@@ -5,4 +5,5 @@
 //! input is that of `decode`.
 
 mod lending;
+mod lines;
 mod reads;

@@ -1,10 +1,10 @@
 //! The items of `enc_reader`: sources of bytes, and a reader of their text.
 
 use crate::surface::derives::{are_equal, debug_text};
-use enc_reader::{DecodeReader, FromRead, HandedText, ReadFault, Source};
+use enc_reader::{DecodeReader, DecodedText, FromRead, HandedText, LineFault, ReadFault, Source};
 use encoding_rs::{Encoding, UTF_8, WINDOWS_1252};
 use std::io;
-use std::io::{ErrorKind, Read};
+use std::io::{BufRead, ErrorKind, Read};
 use std::process::Abort;
 use std::test::Fail;
 
@@ -76,4 +76,39 @@ fn a_reader_reports_a_fault_once(rt: HostRuntime) {
     assert!(rt; reader.read_str(&mut [0; 4]) == Err(ReadFault::Reader));
     assert!(rt; reader.read_str(&mut [0; 4]) == Err(ReadFault::Failed));
     assert!(rt; (reader.encoding(), reader.had_errors()) == (UTF_8, false));
+}
+
+#[test]
+fn a_text_gives_lines_and_bytes(rt: HostRuntime) -> Result<(), Fail> {
+    let mut source = FromRead::new(b"a\nb".as_slice());
+    let mut input: [u8; 8] = [0; 8];
+    let reader = DecodeReader::new(&mut source, Some(WINDOWS_1252), &mut input);
+    let mut room: [u8; 4] = [0; 4];
+    let mut text: DecodedText<'_, FromRead<&[u8]>> = DecodedText::new(reader, &mut room);
+    let mut line = String::new(rt.alloc());
+    let answer: Result<usize, LineFault> = text.read_line(&mut line);
+    assert!(rt; answer == Ok(2));
+    assert!(rt; line.as_str() == "a\n");
+    assert!(rt; text.fill_buf()? == b"b".as_slice());
+    text.consume(0);
+    assert!(rt; text.read(&mut [0; 2])? == 1);
+    assert!(rt; text.reader().encoding() == WINDOWS_1252);
+    Ok(())
+}
+
+#[test]
+fn faults_of_a_line_are_printed_and_become_errors(rt: HostRuntime) -> Result<(), Fail> {
+    let rows = [
+        (LineFault::from(ReadFault::Failed), ErrorKind::Other),
+        (LineFault::Read(ReadFault::Reader), ErrorKind::Other),
+        (LineFault::Memory, ErrorKind::OutOfMemory),
+        (LineFault::MidCharacter, ErrorKind::InvalidData),
+    ];
+    for (fault, kind) in rows {
+        assert!(rt; are_equal(&fault, &fault));
+        let text = format!(in rt.alloc(); "{fault}")?;
+        assert!(rt; !text.is_empty());
+        assert!(rt; io::Error::from(fault).kind() == kind);
+    }
+    Ok(())
 }

@@ -1,0 +1,237 @@
+//! The text of a reader for the traits of `std`, and line by line.
+
+ghost use Rattle.std.specs.Prelude.{◌≡◌, ◌+◌, ◌-◌, ◌<◌, ◌≤◌, length, drop, []};
+ghost use Rattle.std.specs.Prelude.{true, false, Some, IfOk, OnOk, OnErr, IsErrOf};
+ghost use Rattle.std.specs.Prelude.{string_bytes, string_len};
+ghost use Rattle.std.specs.Str.{IsUtf8};
+ghost use Rattle.std.specs.Io.{appended_bytes};
+ghost use Rattle.std.specs.Io.KnownBytes.{Consumes};
+ghost use Rattle.std.specs.Io.BufRead.{DropsConsumable};
+ghost use Rattle.enc_reader.specs.Reader.{IsAtHand};
+
+use crate::decode_reader::{DecodeReader, HandedText, ReadFault};
+use crate::line_fault::{LineFault, error_of};
+use crate::lines::{append, line_len};
+use crate::source::Source;
+use std::io;
+use std::io::{BufRead, Read};
+
+/// The text of a [`DecodeReader`], in UTF-8, line by line and as a reader of `std`.
+///
+/// It implements `Read` and `BufRead`, so `lines`, `read_to_string` and `io::copy` work on it. It
+/// holds the text that the reader has handed out until it is taken.
+///
+/// It borrows a buffer for that text, and takes no memory.
+#[derive(Drop)]
+pub struct DecodedText<'a, R: Source> {
+    reader: DecodeReader<'a, R>,
+    text: &'a mut [u8],
+    // the text of the last read, and how many bytes of it are taken
+    handed: HandedText,
+    at: usize,
+    ghost at_hand: { IsAtHand reader text.now handed },
+    ghost within: { at ≤ handed.len },
+    ghost room: { 4 ≤ length text.now },
+}
+
+impl<'a, R: Source> DecodedText<'a, R> {
+    ghost use Rattle.enc_reader.specs.HeldText.{text_state_of, remaining_text, TakesText};
+    ghost use Rattle.enc_reader.specs.HeldText.{IsTextAtEnd, AppendsText, AppendsLine};
+
+    /// Returns the text that `reader` still hands out, through the buffer `text`.
+    ///
+    /// Nothing is read yet, and nothing is held. Takes no memory. Condition: `text` has at least
+    /// four bytes.
+    pub fn new(reader: DecodeReader<'a, R>, text: &'a mut [u8]) -> DecodedText<'a, R>
+        requires { 4 ≤ length text.old }
+        ensures reader { result.reader ≡ reader.entry }
+        ensures none_held { (text_state_of result).held ≡ [] }
+    {
+        DecodedText {
+            reader,
+            text,
+            handed: HandedText {
+                len: 0,
+                lent: false,
+            },
+            at: 0,
+        }
+    }
+
+    /// Returns the reader, which may have handed out more text than is taken yet.
+    pub fn reader(&self) -> &DecodeReader<'a, R>
+        ensures { result.now ≡ self.now.reader }
+    {
+        &self.reader
+    }
+
+    /// Returns the text that is held.
+    fn held(&self) -> &[u8]
+        ensures value { result.now ≡ (text_state_of self.now).held }
+        ensures len { length result.now ≡ self.now.handed.len - self.now.at }
+    {
+        let all = self.reader.text(self.text, self.handed);
+        &all[self.at..]
+    }
+
+    /// Takes the first bytes of the text that is held.
+    fn advance(&mut self, amount: usize)
+        requires { amount ≤ self.old.handed.len - self.old.at }
+        ensures held { (text_state_of self.new).held ≡ drop amount (text_state_of self.old).held }
+        ensures reader { self.new.reader ≡ self.old.reader }
+    {
+        self.at += amount;
+    }
+
+    /// Reads the next text if none is held. None is held after an `Err`.
+    fn fill(&mut self) -> Result<(), ReadFault>
+        ensures takes { TakesText (R.remaining self.old.reader.reader.now)
+            (R.remaining self.new.reader.reader.now) (text_state_of self.old)
+            (text_state_of self.new) [] }
+        ensures end { OnOk result ((text_state_of self.new).held ≡ []
+            → IsTextAtEnd (R.remaining self.new.reader.reader.now) (text_state_of self.new)) }
+        ensures utf_8 { IsUtf8 (text_state_of self.old).held
+            → IsUtf8 (text_state_of self.new).held }
+        ensures same_reader { self.new.reader.reader.ghost_name
+            ≡ self.old.reader.reader.ghost_name }
+    {
+        if self.at < self.handed.len {
+            return Ok(());
+        }
+        self.handed = HandedText {
+            len: 0,
+            lent: false,
+        };
+        self.at = 0;
+        match self.reader.read_or_lend(self.text) {
+            Ok(handed) => {
+                self.handed = handed;
+                Ok(())
+            }
+            Err(fault) => Err(fault),
+        }
+    }
+
+    /// Appends the next text to `line`, up to and with its first line feed. Returns whether the
+    /// line is whole: it has its line feed, or nothing follows.
+    fn append_part(&mut self, line: &mut String) -> Result<bool, LineFault>
+        ensures ok { IfOk result (AppendsLine (R.remaining self.old.reader.reader.now)
+            (R.remaining self.new.reader.reader.now) (text_state_of self.old)
+            (text_state_of self.new) (string_bytes line.old) (string_bytes line.new)) }
+        ensures some { IfOk result (λ is_whole. is_whole ≡ false
+            → string_len line.old < string_len line.new) }
+        ensures grows { string_len line.old ≤ string_len line.new }
+        ensures err { OnErr result (string_bytes line.new ≡ string_bytes line.old) }
+        ensures none_lost { OnErr result (TakesText (R.remaining self.old.reader.reader.now)
+            (R.remaining self.new.reader.reader.now) (text_state_of self.old)
+            (text_state_of self.new) []) }
+        ensures utf_8 { IsUtf8 (text_state_of self.old).held
+            → IsUtf8 (text_state_of self.new).held }
+        ensures cut { IsErrOf result LineFault.MidCharacter
+            → IsUtf8 (text_state_of self.old).held → ⊥ }
+        ensures same_reader { self.new.reader.reader.ghost_name
+            ≡ self.old.reader.reader.ghost_name }
+    {
+        if let Err(fault) = self.fill() {
+            return Err(LineFault::Read(fault));
+        }
+        let held = self.held();
+        if held.is_empty() {
+            return Ok(true);
+        }
+        let len = line_len(held);
+        let part = &held[..len];
+        let is_whole = part[len - 1] == b'\n';
+        append(line, part)?;
+        self.advance(len);
+        Ok(is_whole)
+    }
+
+    /// Appends the next line to `line`, with its line feed U+000A.
+    ///
+    /// Without a line feed it goes to the end of the text. Returns the number of bytes appended, 0
+    /// only at the end. Takes memory for `line` alone.
+    ///
+    /// After an `Err` nothing is lost: the text before the fault is appended, and the next call
+    /// goes on after it.
+    ///
+    /// - `Read`: the reader failed.
+    /// - `Memory`: the text of the fault is still to be read.
+    /// - `MidCharacter`: only if `read` or `consume` took a part of a character before.
+    pub fn read_line(&mut self, line: &mut String) -> Result<usize, LineFault>
+        ensures ok { OnOk result (AppendsLine (R.remaining self.old.reader.reader.now)
+            (R.remaining self.new.reader.reader.now) (text_state_of self.old)
+            (text_state_of self.new) (string_bytes line.old) (string_bytes line.new) true) }
+        ensures count { IfOk result (λ n. string_len line.new ≡ string_len line.old + n) }
+        ensures none_lost { AppendsText (R.remaining self.old.reader.reader.now)
+            (R.remaining self.new.reader.reader.now) (text_state_of self.old)
+            (text_state_of self.new) (string_bytes line.old) (string_bytes line.new) }
+        ensures known { Consumes
+            (remaining_text (R.remaining self.old.reader.reader.now) (text_state_of self.old))
+            (remaining_text (R.remaining self.new.reader.reader.now) (text_state_of self.new))
+            (appended_bytes (string_bytes line.old) (string_bytes line.new)) }
+        ensures utf_8 { IsUtf8 (text_state_of self.old).held
+            → IsUtf8 (text_state_of self.new).held }
+        ensures cut { IsErrOf result LineFault.MidCharacter
+            → IsUtf8 (text_state_of self.old).held → ⊥ }
+        ensures same_reader { self.new.reader.reader.ghost_name
+            ≡ self.old.reader.reader.ghost_name }
+    {
+        let start = line.len();
+        'parts: loop {
+            if self.append_part(line)? {
+                return Ok(line.len() - start);
+            }
+        }
+    }
+}
+
+impl<'a, R: Source> Read for DecodedText<'a, R> {
+    ghost use Rattle.enc_reader.specs.HeldText.{text_state_of as state_in_read, remaining_text as text_in_read};
+
+    // the text still to be taken, if the source models its bytes
+    ghost remaining = { λ t. text_in_read (R.remaining t.reader.reader.now) (state_in_read t) };
+
+    /// Takes the next bytes of the text: those that are held, or else of one read of the reader.
+    ///
+    /// A fault of the reader is an error of the kind `Other`. Nothing is lost then.
+    fn read(&mut self, buf: &mut [u8]) -> io::Result<usize> {
+        if let Err(fault) = self.fill() {
+            return Err(error_of(&fault));
+        }
+        let held = self.held();
+        let len = held.len().min(buf.len());
+        buf[..len].copy_from_slice(&held[..len]);
+        self.advance(len);
+        Ok(len)
+    }
+}
+
+impl<'a, R: Source> BufRead for DecodedText<'a, R> {
+    ghost use Rattle.enc_reader.specs.HeldText.{text_state_of as state_held, remaining_text as text_held};
+
+    ghost consumable_len = { λ t. Some (length (state_held t).held) };
+
+    /// Returns the text that is held, after one read of the reader if none is. It is empty only at
+    /// the end.
+    ///
+    /// A fault of the reader is an error of the kind `Other`. Nothing is lost then.
+    fn fill_buf(&mut self) -> io::Result<&[u8]> {
+        if let Err(fault) = self.fill() {
+            return Err(error_of(&fault));
+        }
+        Ok(self.held())
+    }
+
+    /// Takes the first bytes of the text that is held, at most all of it.
+    fn consume(&mut self, amount: usize)
+        ensures bytes { DropsConsumable (text_held (R.remaining self.old.reader.reader.now)
+            (state_held self.old)) (text_held (R.remaining self.new.reader.reader.now)
+            (state_held self.new)) (Some (length (state_held self.old).held)) amount }
+        ensures held { (state_held self.new).held ≡ drop amount (state_held self.old).held }
+        ensures reader { self.new.reader ≡ self.old.reader }
+    {
+        let len = self.held().len().min(amount);
+        self.advance(len);
+    }
+}

@@ -1,0 +1,71 @@
+//! Why a line can't be read.
+
+ghost use Rattle.std.specs.Prelude.{◌≡◌};
+ghost use Rattle.std.specs.IoError.{error_kind};
+ghost use Rattle.enc_reader.specs.declared.line_fault.LineFault.TheVariants as fault;
+
+use crate::decode_reader::ReadFault;
+use std::error::Error;
+use std::io::ErrorKind;
+use std::{fmt, io};
+
+/// Why a line can't be read to its end.
+#[derive(PartialEq, Eq, Debug, Drop)]
+pub enum LineFault {
+    /// The reader failed.
+    Read(ReadFault),
+    /// No memory is left for the text. It stays to be read.
+    Memory,
+    /// A call of `read` or `consume` before has taken a part of a character. The rest stays to be
+    /// read.
+    MidCharacter,
+}
+
+impl fmt::Display for LineFault {
+    /// Writes the reason.
+    fn fmt<W: fmt::Write>(&self, f: &mut fmt::Formatter<W>) -> fmt::Result {
+        match self {
+            LineFault::Read(fault) => write!(f, "{}", message_of(fault)),
+            LineFault::Memory => write!(f, "out of memory"),
+            LineFault::MidCharacter => write!(f, "a part of a character is taken"),
+        }
+    }
+}
+
+impl Error for LineFault {}
+
+impl From<ReadFault> for LineFault {
+    ghost from_gives = { λ read e. e ≡ fault.Read read };
+
+    fn from(fault: ReadFault) -> LineFault {
+        LineFault::Read(fault)
+    }
+}
+
+impl From<LineFault> for io::Error {
+    /// A fault of the reader is of the kind `Other`, and a part of a character of `InvalidData`.
+    fn from(fault: LineFault) -> io::Error {
+        match fault {
+            LineFault::Read(fault) => error_of(&fault),
+            LineFault::Memory => io::Error::from(ErrorKind::OutOfMemory),
+            LineFault::MidCharacter => {
+                io::Error::new(ErrorKind::InvalidData, "a part of a character is taken")
+            }
+        }
+    }
+}
+
+/// Returns what a fault of a reader is.
+fn message_of(fault: &ReadFault) -> &'static str {
+    match fault {
+        ReadFault::Reader => "the source of the text failed",
+        ReadFault::Failed => "the source of the text has failed before",
+    }
+}
+
+/// Returns a fault of a reader as an error of the kind `Other`.
+pub(crate) fn error_of(fault: &ReadFault) -> io::Error
+    ensures { error_kind result ≡ ErrorKind.Other }
+{
+    io::Error::other(message_of(fault))
+}
