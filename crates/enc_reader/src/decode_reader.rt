@@ -5,6 +5,7 @@ ghost use Rattle.std.specs.Prelude.{IsUtf8, Option, Some};
 ghost use Rattle.std.specs.Prelude.{None, IfOk, OnOk, OnErr, IsErrOf, unwrap_or, IfErr};
 ghost use Rattle.enc_units.specs.Validity.{IsWellFormedUtf8};
 ghost use Rattle.enc_stream.specs.declared.bom.BomHandling.TheVariants.{Sniff};
+ghost use Rattle.enc_stream.specs.Decoding.{fresh_decoder};
 ghost use Rattle.enc_stream.specs.declared.constants.TheConstants.{UTF_8};
 ghost use Rattle.std.specs.Char.{encode_utf8};
 ghost use Rattle.std.specs.Io.KnownBytes.{IsAtEnd};
@@ -18,7 +19,8 @@ ghost use Rattle.std.proofs.Props.{props};
 use crate::source::Source;
 use enc_stream::constants::UTF_8;
 use enc_stream::laws::ascii_compatible_decode_ascii;
-use enc_stream::{CoderResult, Decoder, Encoding};
+use enc_stream::{BomHandling, CoderResult, Decoder, Encoding};
+use std::fmt;
 
 /// The least number of bytes that are lent. Fewer are decoded together with those that
 /// follow, since a caller writes each text by itself.
@@ -172,6 +174,17 @@ fn is_cut(bytes: &[u8]) -> bool {
     }
 }
 
+/// Returns a decoder that looks for the byte order marks of `handling`. It has read nothing.
+fn new_decoder(encoding: Encoding, handling: BomHandling) -> Decoder
+    ensures { result ≡ fresh_decoder handling encoding }
+{
+    match handling {
+        BomHandling::Off => encoding.new_decoder_without_bom_handling(),
+        BomHandling::Sniff => encoding.new_decoder(),
+        BomHandling::Remove => encoding.new_decoder_with_bom_removal(),
+    }
+}
+
 /// Returns the length of the longest prefix that is well-formed UTF-8, sooner if all is ASCII.
 fn utf_8_len(bytes: &[u8]) -> usize
     ensures within { result ≤ length bytes.now }
@@ -212,10 +225,24 @@ pub struct DecodeReader<'a, R: Source> {
     ghost going: { failed ≡ false → R.has_failed reader.now ≡ false },
 }
 
+impl<'a, R: Source> fmt::Debug for DecodeReader<'a, R> {
+    /// Writes the encoding, whether the source is at its end, whether the reader has failed, and
+    /// whether it had errors: no bytes.
+    fn fmt<W: fmt::Write>(&self, f: &mut fmt::Formatter<W>) -> fmt::Result {
+        f.debug_struct("DecodeReader")
+            .field("encoding", &self.decoder.encoding())
+            .field("ended", &self.ended)
+            .field("failed", &self.failed)
+            .field("had_errors", &self.had_errors)
+            .finish_non_exhaustive()
+    }
+}
+
 impl<'a, R: Source> DecodeReader<'a, R> {
     ghost use Rattle.std.specs.Prelude.{ℕ, List};
     ghost use Rattle.enc_stream.specs.Decoding.{whole_encoding, whole_sequences};
-    ghost use Rattle.enc_reader.specs.Reading.{FailsToRead, HandsOut, IsReaderAtEnd, fresh_reader};
+    ghost use Rattle.enc_reader.specs.Reading.{FailsToRead, HandsOut, IsReaderAtEnd};
+    ghost use Rattle.enc_reader.specs.Reading.{fresh_reader, sniffing_reader};
     ghost use Rattle.enc_reader.specs.Reading.{owed_sequences, owed_encoding};
     ghost use Rattle.enc_reader.specs.Turn.{FillsBuffer, IsOwnText, IsTurn, PullsChunk};
     ghost use Rattle.enc_reader.specs.Reader.{IsAtHand, handed_text, state_of, written_len};
@@ -231,7 +258,7 @@ impl<'a, R: Source> DecodeReader<'a, R> {
         input: &'a mut [u8],
     ) -> DecodeReader<'a, R>
         requires { 0 < length input.old }
-        ensures fresh { state_of result ≡ fresh_reader (unwrap_or encoding UTF_8) }
+        ensures fresh { state_of result ≡ sniffing_reader (unwrap_or encoding UTF_8) }
         ensures owed { (z : List ℕ) → owed_sequences (state_of result) z ≡ whole_sequences Sniff
             (unwrap_or encoding UTF_8) z }
         ensures encoding { (z : List ℕ) → owed_encoding (state_of result) z ≡ whole_encoding Sniff
@@ -242,10 +269,37 @@ impl<'a, R: Source> DecodeReader<'a, R> {
         ensures same_reader { result.reader.ghost_name ≡ reader.entry.ghost_name }
     {
         let encoding = encoding.unwrap_or(UTF_8);
+        DecodeReader::with_bom_handling(reader, encoding, BomHandling::Sniff, input)
+    }
+
+    /// Returns a reader of `reader`, through the buffer `input`, that looks for the byte order
+    /// marks of `handling`.
+    ///
+    /// It decodes by `encoding`. With `Sniff` a byte order mark overrides it, with `Remove` only the
+    /// byte order mark of `encoding` is no part of the text, and with `Off` each is. Nothing is read
+    /// yet. If the source has failed, so has the reader. Takes no memory. Condition: `input` is not
+    /// empty.
+    pub fn with_bom_handling(
+        reader: &'a mut R,
+        encoding: Encoding,
+        handling: BomHandling,
+        input: &'a mut [u8],
+    ) -> DecodeReader<'a, R>
+        requires { 0 < length input.old }
+        ensures fresh { state_of result ≡ fresh_reader handling encoding }
+        ensures owed { (z : List ℕ) → owed_sequences (state_of result) z
+            ≡ whole_sequences handling encoding z }
+        ensures encoding { (z : List ℕ) → owed_encoding (state_of result) z
+            ≡ whole_encoding handling encoding z }
+        ensures failed { result.failed ≡ R.has_failed reader.old }
+        ensures no_errors { result.had_errors ≡ false }
+        ensures reader { result.reader.now ≡ reader.old }
+        ensures same_reader { result.reader.ghost_name ≡ reader.entry.ghost_name }
+    {
         let failed = reader.failed();
         DecodeReader {
             reader,
-            decoder: encoding.new_decoder(),
+            decoder: new_decoder(encoding, handling),
             input,
             filled: 0,
             at: 0,

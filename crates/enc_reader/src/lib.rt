@@ -4,6 +4,7 @@
 #![tactic(auto)]
 
 mod decode_reader;
+mod read_fault;
 mod source;
 
 pub use decode_reader::{DecodeReader, HandedText, ReadFault};

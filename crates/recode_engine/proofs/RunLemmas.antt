@@ -20,7 +20,7 @@ use Rattle.enc_stream.proofs.EndOfInputLemmas.{fresh_sequences, none_left}
 use Rattle.enc_stream.proofs.EncoderProgressLemmas.{none_due, output_rule_is}
 use Rattle.enc_reader.specs.Source.{ConsumesRemaining, IsExhausted}
 use Rattle.enc_reader.specs.Reading.{ReaderState, ReadsOwed, HandsOut, FailsToRead, IsReaderAtEnd, distance_to_end}
-use Rattle.enc_reader.specs.Reading.{fresh_reader, owed_sequences}
+use Rattle.enc_reader.specs.Reading.{sniffing_reader, owed_sequences}
 use Rattle.enc_reader.proofs.SourceLemmas.{ConsumesRemaining-then}
 use Rattle.enc_reader.proofs.ReadingLemmas.{ReaderPlace, reader_at, ReadsOwed-none, ReadsOwed-then, handed_utf_8}
 use Rattle.recode_engine.specs.Writing.{HasEncoded, StopsWithin, bytes_from_state, text_to_encode}
@@ -65,7 +65,7 @@ pub record RunState : Type 0 where
 pub record HasRun (start : RunStart) (now : RunState) : Type 0 where
   pub bytes : List ℕ
   pub wrote : List ℕ
-  pub reads : ReadsOwed start.remaining now.source.remaining (fresh_reader start.from)
+  pub reads : ReadsOwed start.remaining now.source.remaining (sniffing_reader start.from)
       now.source.state bytes wrote now.malformed
   pub is_exhausted : now.source.state.ended ≡ true → IsExhausted now.source.remaining
   pub encoded : HasEncoded (text_to_encode (fresh_encoder [] start.to) (chars wrote))
@@ -74,7 +74,7 @@ pub record HasRun (start : RunStart) (now : RunState) : Type 0 where
 
 pub HasRun-start : {start : RunStart} {remaining : Option (List ℕ)} {reader : ReaderState}
     {encoder : EncoderState} {malformed : Bool}
-    → remaining ≡ start.remaining → reader ≡ fresh_reader start.from
+    → remaining ≡ start.remaining → reader ≡ sniffing_reader start.from
     → encoder ≡ fresh_encoder [] start.to → malformed ≡ false
     → HasRun start (record {
       source = reader_at remaining reader;
@@ -88,7 +88,7 @@ HasRun-start {start} all_remaining is_fresh fresh none_malformed =
     rw (all_remaining, is_fresh, fresh, none_malformed) (record {
       bytes = [];
       wrote = [];
-      reads = ReadsOwed-none start.remaining (fresh_reader start.from);
+      reads = ReadsOwed-none start.remaining (sniffing_reader start.from);
       is_exhausted = λ e. not_ended e;
       encoded = rw chars-nil
           (HasEncoded-none (text_to_encode (fresh_encoder [] start.to) []) false start.taken);
@@ -99,7 +99,7 @@ HasRun-start {start} all_remaining is_fresh fresh none_malformed =
 owed_is : (from to : Encoding) (bytes : List ℕ)
     → recoded_bytes from to bytes
     ≡ bytes_from_state (fresh_encoder [] to)
-    (sequence_text (owed_sequences (fresh_reader from) bytes))
+    (sequence_text (owed_sequences (sniffing_reader from) bytes))
 owed_is from to bytes =
     ap (λ rule. bytes_of_text rule Ascii (with_references rule (whole_text from bytes)))
     (sym (output_rule_is [] to))
@@ -132,10 +132,10 @@ module _ {start : RunStart} {now : RunState} (next : ReaderPlace) {text : List �
   abbrev bytes : List ℕ
   bytes = so_far.bytes ++ hands_out.bytes
 
-  reads_on : ReadsOwed start.remaining next.remaining (fresh_reader start.from) next.state bytes
+  reads_on : ReadsOwed start.remaining next.remaining (sniffing_reader start.from) next.state bytes
       (so_far.wrote ++ text) malformed
   reads_on = rw hands_out.flag
-      (ReadsOwed-then (reader_at start.remaining (fresh_reader start.from)) now.source next
+      (ReadsOwed-then (reader_at start.remaining (sniffing_reader start.from)) now.source next
       so_far.reads hands_out.reads)
 
   chars_on : chars (so_far.wrote ++ text) ≡ chars so_far.wrote ++ chars text
@@ -188,7 +188,7 @@ module _ {start : RunStart} {now : RunState} (next : ReaderPlace) {text : List �
       all_done : whole_sequences Sniff start.from bytes ≡ reads_on.done
       all_done =
           fresh_sequences Sniff start.from bytes
-          ∙ ap (owed_sequences (fresh_reader start.from)) (sym (append-nil bytes))
+          ∙ ap (owed_sequences (sniffing_reader start.from)) (sym (append-nil bytes))
           ∙ reads_on.residual [] (λ _. refl)
           ∙ ap (λ ss. reads_on.done ++ ss) end.none_owed ∙ append-nil reads_on.done
 
