@@ -1,4 +1,6 @@
 pub mod SourceLemmas
 pub mod ReadingLemmas
+pub mod CountingLemmas
 pub mod TurnLemmas
+pub mod ReportingLemmas
 pub mod LendingLemmas

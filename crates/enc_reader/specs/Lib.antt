@@ -1,4 +1,6 @@
 pub mod Source
 pub mod Reading
 pub mod Turn
+pub mod Counting
+pub mod Reporting
 pub mod Reader

@@ -16,10 +16,13 @@ ghost use Rattle.enc_stream.specs.Decoding.{has_finished, AnswersDecode};
 ghost use Rattle.enc_reader.specs.Source.{ConsumesRemaining, IsExhausted};
 ghost use Rattle.std.proofs.Props.{props};
 
+mod reporting;
+
 use crate::source::Source;
 use enc_stream::constants::UTF_8;
 use enc_stream::laws::ascii_compatible_decode_ascii;
 use enc_stream::{BomHandling, CoderResult, Decoder, Encoding};
+pub use reporting::ReadStop;
 use std::fmt;
 
 /// The least number of bytes that are lent. Fewer are decoded together with those that
@@ -212,6 +215,8 @@ pub struct DecodeReader<'a, R: Source> {
     // the number of bytes of `input` that the source has returned, and how many of them are decoded
     filled: usize,
     at: usize,
+    // the number of bytes that the source has given, up to 2^64 - 1
+    given: u64,
     // whether the source is at its end
     ended: bool,
     failed: bool,
@@ -244,7 +249,10 @@ impl<'a, R: Source> DecodeReader<'a, R> {
     ghost use Rattle.enc_reader.specs.Reading.{FailsToRead, HandsOut, IsReaderAtEnd};
     ghost use Rattle.enc_reader.specs.Reading.{fresh_reader, sniffing_reader};
     ghost use Rattle.enc_reader.specs.Reading.{owed_sequences, owed_encoding};
-    ghost use Rattle.enc_reader.specs.Turn.{FillsBuffer, IsOwnText, IsTurn, PullsChunk};
+    ghost use Rattle.enc_stream.specs.Faults.{whole_faults};
+    ghost use Rattle.enc_reader.specs.Turn.{IsOwnText, IsTurn};
+    ghost use Rattle.enc_reader.specs.Counting.{HasGiven, owed_faults, CountsBytes};
+    ghost use Rattle.enc_reader.specs.Counting.{PullsCounted, FillsCounted, HandsOutCounted};
     ghost use Rattle.enc_reader.specs.Reader.{IsAtHand, handed_text, state_of, written_len};
 
     /// Returns a reader of `reader`, through the buffer `input`.
@@ -263,8 +271,11 @@ impl<'a, R: Source> DecodeReader<'a, R> {
             (unwrap_or encoding UTF_8) z }
         ensures encoding { (z : List ℕ) → owed_encoding (state_of result) z ≡ whole_encoding Sniff
             (unwrap_or encoding UTF_8) z }
+        ensures faults { (z : List ℕ) → owed_faults 0 (state_of result) z ≡ whole_faults Sniff
+            (unwrap_or encoding UTF_8) z }
         ensures failed { result.failed ≡ R.has_failed reader.old }
         ensures no_errors { result.had_errors ≡ false }
+        ensures given { HasGiven result.given (state_of result) 0 }
         ensures reader { result.reader.now ≡ reader.old }
         ensures same_reader { result.reader.ghost_name ≡ reader.entry.ghost_name }
     {
@@ -291,8 +302,11 @@ impl<'a, R: Source> DecodeReader<'a, R> {
             ≡ whole_sequences handling encoding z }
         ensures encoding { (z : List ℕ) → owed_encoding (state_of result) z
             ≡ whole_encoding handling encoding z }
+        ensures faults { (z : List ℕ) → owed_faults 0 (state_of result) z
+            ≡ whole_faults handling encoding z }
         ensures failed { result.failed ≡ R.has_failed reader.old }
         ensures no_errors { result.had_errors ≡ false }
+        ensures given { HasGiven result.given (state_of result) 0 }
         ensures reader { result.reader.now ≡ reader.old }
         ensures same_reader { result.reader.ghost_name ≡ reader.entry.ghost_name }
     {
@@ -303,6 +317,7 @@ impl<'a, R: Source> DecodeReader<'a, R> {
             input,
             filled: 0,
             at: 0,
+            given: 0,
             ended: false,
             failed,
             had_errors: false,
@@ -315,8 +330,9 @@ impl<'a, R: Source> DecodeReader<'a, R> {
         requires not_ended { self.old.ended ≡ false }
         requires room { self.old.filled - self.old.at < length self.old.input.now }
         requires going { self.old.failed ≡ false }
-        ensures ok { OnOk result (PullsChunk (R.remaining self.old.reader.now)
-            (R.remaining self.new.reader.now) (state_of self.old) (state_of self.new)) }
+        ensures ok { OnOk result (PullsCounted (R.remaining self.old.reader.now)
+            (R.remaining self.new.reader.now) (state_of self.old) (state_of self.new)
+            self.old.given self.new.given) }
         ensures kept { OnOk result (R.has_failed self.new.reader.now
             ≡ R.has_failed self.old.reader.now) }
         ensures going { OnOk result (self.new.failed ≡ self.old.failed) }
@@ -337,6 +353,7 @@ impl<'a, R: Source> DecodeReader<'a, R> {
             return Err(ReadFault::Reader);
         };
         self.filled += n;
+        self.given = self.given.saturating_add(n as u64);
         self.ended = n == 0;
         Ok(())
     }
@@ -346,6 +363,8 @@ impl<'a, R: Source> DecodeReader<'a, R> {
         requires room { 4 ≤ length dst.old }
         ensures turn { IsTurn (state_of self.old) (state_of self.new)
             (take result.written dst.new) result.replaced result.waits }
+        ensures counts { CountsBytes (state_of self.old) (state_of self.new) self.old.given
+            self.new.given [] }
         ensures written { result.written ≤ length dst.new }
         ensures rest { drop result.written dst.new ≡ drop result.written dst.old }
         ensures waits { result.waits ≡ true → result.written ≡ 0 }
@@ -389,6 +408,10 @@ impl<'a, R: Source> DecodeReader<'a, R> {
         ensures ok { IfOk result (λ n. HandsOut (R.remaining self.old.reader.now)
             (R.remaining self.new.reader.now) (state_of self.old) (state_of self.new)
             (take n dst.new) self.old.had_errors self.new.had_errors) }
+        ensures counted { IfOk result (λ n. HandsOutCounted (R.remaining self.old.reader.now)
+            (R.remaining self.new.reader.now) (state_of self.old) (state_of self.new)
+            self.old.given self.new.given (take n dst.new) self.old.had_errors
+            self.new.had_errors) }
         ensures within { IfOk result (λ n. n ≤ length dst.new) }
         ensures utf_8 { IfOk result (λ n. IsUtf8 (take n dst.new)) }
         ensures rest { IfOk result (λ n. drop n dst.new ≡ drop n dst.old) }
@@ -455,8 +478,9 @@ impl<'a, R: Source> DecodeReader<'a, R> {
     /// `Err`, which is `Reader`, the source has failed.
     fn fill(&mut self) -> Result<(), ReadFault>
         requires going { self.old.failed ≡ false }
-        ensures ok { OnOk result (FillsBuffer (R.remaining self.old.reader.now)
-            (R.remaining self.new.reader.now) (state_of self.old) (state_of self.new)) }
+        ensures ok { OnOk result (FillsCounted (R.remaining self.old.reader.now)
+            (R.remaining self.new.reader.now) (state_of self.old) (state_of self.new)
+            self.old.given self.new.given) }
         ensures kept { OnOk result (R.has_failed self.new.reader.now
             ≡ R.has_failed self.old.reader.now) }
         ensures going { OnOk result (self.new.failed ≡ false) }
@@ -510,6 +534,10 @@ impl<'a, R: Source> DecodeReader<'a, R> {
         requires { 4 ≤ length dst.old }
         ensures ok { IfOk result (λ handed. HandsOut (R.remaining self.old.reader.now)
             (R.remaining self.new.reader.now) (state_of self.old) (state_of self.new)
+            (handed_text self.new dst.new handed) self.old.had_errors self.new.had_errors) }
+        ensures counted { IfOk result (λ handed. HandsOutCounted
+            (R.remaining self.old.reader.now) (R.remaining self.new.reader.now)
+            (state_of self.old) (state_of self.new) self.old.given self.new.given
             (handed_text self.new dst.new handed) self.old.had_errors self.new.had_errors) }
         ensures at_hand { IfOk result (λ handed. IsAtHand self.new dst.new handed) }
         ensures utf_8 { IfOk result (λ handed. IsUtf8 (handed_text self.new dst.new handed)) }

@@ -7,5 +7,5 @@ mod decode_reader;
 mod read_fault;
 mod source;
 
-pub use decode_reader::{DecodeReader, HandedText, ReadFault};
+pub use decode_reader::{DecodeReader, HandedText, ReadFault, ReadStop};
 pub use source::{FromRead, Source};

@@ -6,3 +6,4 @@
 
 mod lending;
 mod reads;
+mod reporting;
