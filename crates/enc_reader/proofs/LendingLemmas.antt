@@ -1,5 +1,5 @@
 -- Text that is handed out where it was read, and a read after a chunk was pulled.
-use Rattle.std.proofs.Common.{◌≡◌, ℕ, ◌+◌, ◌-◌, ◌≤◌, inl, inr, Bool, true, false, List, [], ◌++◌}
+use Rattle.std.proofs.Common.{◌≡◌, ℕ, ◌+◌, ◌-◌, ◌^◌, ◌≤◌, min, inl, inr, Bool, true, false, List, [], ◌++◌}
 use Rattle.std.proofs.Common.{length, take, drop, Option, refl, ap, ◌∙◌, sym, subst, arith, append_assoc}
 use Rattle.std.proofs.Common.{length-append}
 use Rattle.std.proofs.Math.ListN.{length-drop}
@@ -20,9 +20,11 @@ use Rattle.enc_stream.proofs.OwnTextLemmas.{HasOwnText, has_own_text, own, own_f
 use Rattle.enc_reader.specs.Source.{IsExhausted}
 use Rattle.enc_reader.specs.Reading.{ReaderState, ReadsOwed, HandsOut, FailsToRead, owed_sequences}
 use Rattle.enc_reader.specs.Turn.{AreOwnBytes, FillsBuffer, IsOwnText}
+use Rattle.enc_reader.specs.Counting.{HasGiven, CountsBytes, FillsCounted, HandsOutCounted}
 use Rattle.enc_reader.proofs.SourceLemmas.{ConsumesRemaining-none}
 use Rattle.enc_reader.proofs.ReadingLemmas.{reader_at, ReadsOwed-none, ReadsOwed-then, before_end}
 use Rattle.enc_reader.proofs.TurnLemmas.{left_of}
+use Rattle.enc_reader.proofs.CountingLemmas.{HasGiven-then, HandsOutCounted-by}
 
 -- bytes that are their own text to a decoder are those of its encoding
 own_bytes : (d : DecoderState) {bytes : List ℕ} → AreOwnBytes d bytes
@@ -100,7 +102,7 @@ abbrev reader_with : DecoderState → Bool → List ℕ → ReaderState
 reader_with d ended unread = record { decoder = d; unread = unread; ended = ended }
 
 -- the same, by places in the buffer
-pub HandsOut-chunk : (source : Option (List ℕ)) (d : DecoderState) (filled at n : ℕ) (xs : List ℕ)
+abbrev pub HandsOut-chunk : (source : Option (List ℕ)) (d : DecoderState) (filled at n : ℕ) (xs : List ℕ)
     (ended had : Bool)
     → at ≤ filled → filled ≤ length xs
     → n ≤ filled - at → IsOwnText d (take n (take (filled - at) (drop at xs)))
@@ -145,7 +147,7 @@ FailsToRead-pull {t₀ = t₀} {a = a} same failed stays unended going =
 -- a read after a chunk was pulled
 module _ {t₀ t₁ t₂ : Option (List ℕ)} {a b c : ReaderState} (fills_buffer : FillsBuffer t₀ t₁ a b)
   where
-    pub HandsOut-filled : {wrote : List ℕ} {had_before had_after : Bool}
+    abbrev pub HandsOut-filled : {wrote : List ℕ} {had_before had_after : Bool}
         → HandsOut t₁ t₂ b c wrote had_before had_after
         → HandsOut t₀ t₂ a c wrote had_before had_after
     HandsOut-filled hands_out = record {
@@ -173,3 +175,48 @@ module _ {t₀ t₁ t₂ : Option (List ℕ)} {a b c : ReaderState} (fills_buffe
         | inr l ↦ inr (omega (arith, l, length-append fills_buffer.bytes fails.bytes))
       ];
     }
+
+-- The count does not change while text is lent, and counts on after a chunk was pulled.
+
+pub CountsBytes-lent : (d : DecoderState) (ended : Bool) (filled at n count : ℕ) (xs : List ℕ)
+    → CountsBytes (reader_with d ended (take (filled - at) (drop at xs)))
+    (reader_with d ended (take (filled - (at + n)) (drop (at + n) xs))) count count []
+CountsBytes-lent d ended filled at n count xs = record {
+  counted = λ given counted. let same : given ≡ given + 0 = omega arith in
+      counted ∙ ap (λ m. min m (2 ^ 64 - 1)) same;
+  among = omega (
+    arith,
+    length-take (filled - at) (drop at xs),
+    length-take (filled - (at + n)) (drop (at + n) xs),
+    length-drop at xs,
+    length-drop (at + n) xs,
+  );
+}
+
+counts_on : (t₀ t₁ : Option (List ℕ)) (a b c : ReaderState) (n₀ n₁ n₂ : ℕ)
+    (filled : FillsCounted t₀ t₁ a b n₀ n₁) (bytes : List ℕ)
+    → ((given : ℕ) → HasGiven n₁ b given → HasGiven n₂ c (given + length bytes)) → (given : ℕ)
+    → HasGiven n₀ a given → HasGiven n₂ c (given + length (filled.fills.bytes ++ bytes))
+counts_on t₀ t₁ a b c n₀ n₁ n₂ filled bytes counts given were =
+    let same : given + length filled.fills.bytes + length bytes
+    ≡ given + length (filled.fills.bytes ++ bytes) =
+    omega (arith, length-append filled.fills.bytes bytes) in
+    subst (HasGiven n₂ c) same
+    (counts (given + length filled.fills.bytes) (HasGiven-then filled.counts given were))
+
+pub HandsOutCounted-filled : {t₀ t₁ t₂ : Option (List ℕ)} {a b c : ReaderState} {n₀ n₁ n₂ : ℕ}
+    {wrote : List ℕ} {had_before had_after : Bool} → FillsCounted t₀ t₁ a b n₀ n₁
+    → HandsOutCounted t₁ t₂ b c n₁ n₂ wrote had_before had_after
+    → HandsOutCounted t₀ t₂ a c n₀ n₂ wrote had_before had_after
+HandsOutCounted-filled filled counted =
+    HandsOutCounted-by (HandsOut-filled filled.fills counted.hands_out)
+    (counts_on _ _ _ _ _ _ _ _ filled counted.hands_out.bytes counted.counts)
+
+pub HandsOutCounted-lent : {t₀ t₁ t₂ : Option (List ℕ)} {a b c : ReaderState} {n₀ n₁ n₂ : ℕ}
+    {wrote : List ℕ} {had_before had_after : Bool} → FillsCounted t₀ t₁ a b n₀ n₁
+    → (hands_out : HandsOut t₁ t₂ b c wrote had_before had_after)
+    → CountsBytes b c n₁ n₂ hands_out.bytes
+    → HandsOutCounted t₀ t₂ a c n₀ n₂ wrote had_before had_after
+HandsOutCounted-lent filled hands_out counts =
+    HandsOutCounted-by (HandsOut-filled filled.fills hands_out)
+    (counts_on _ _ _ _ _ _ _ _ filled hands_out.bytes (HasGiven-then counts))

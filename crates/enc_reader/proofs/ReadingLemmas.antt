@@ -85,7 +85,7 @@ before_end s f = ap (λ b. if b then 0 else 1 + (2 * length s.unread + length s.
 
 -- A chunk that is pulled after the unread bytes, by places in the buffer: `held` bytes are unread,
 -- and n more are pulled after them. All is owed that was owed.
-pub PullsChunk-after : {t₀ t₁ : Option (List ℕ)} {d : DecoderState} {ended : Bool} {xs : List ℕ}
+abbrev pub PullsChunk-after : {t₀ t₁ : Option (List ℕ)} {d : DecoderState} {ended : Bool} {xs : List ℕ}
     (held n : ℕ) (ys : List ℕ)
     → ended ≡ false → has_finished d ≡ false → take held ys ≡ xs → n ≤ length ys - held
     → ConsumesRemaining t₀ t₁ (take n (drop held ys))
@@ -139,7 +139,7 @@ pub record HasRead (start now : ReaderPlace) (wrote : List ℕ) (replaced waits 
   pub waiting : waits ≡ true → IsWaiting now.state
   pub text_or_end : waits ≡ false → wrote ≡ [] → has_finished now.state.decoder ≡ true
 
-pub HasRead-turn : {known : Option (List ℕ)} {s₀ s : ReaderState} {wrote : List ℕ}
+abbrev pub HasRead-turn : {known : Option (List ℕ)} {s₀ s : ReaderState} {wrote : List ℕ}
     {replaced waits : Bool}
     → IsTurn s₀ s wrote replaced waits
     → HasRead (reader_at known s₀) (reader_at known s) wrote replaced waits 0
@@ -153,7 +153,7 @@ HasRead-turn {known = known} turn =
     }
 
 -- a chunk more, and a turn
-pub HasRead-more : {start now next : ReaderPlace} {pulled : ReaderState} {wrote : List ℕ}
+abbrev pub HasRead-more : {start now next : ReaderPlace} {pulled : ReaderState} {wrote : List ℕ}
     {r₀ r₁ waits : Bool} {pulls : ℕ} → HasRead start now [] r₀ true pulls
     → PullsChunk now.remaining next.remaining now.state pulled
     → IsTurn pulled next.state wrote r₁ waits

@@ -2,7 +2,8 @@
 use Rattle.std.proofs.Common.{◌≡◌, ℕ, List, [], ◌++◌, Option, Some, None, refl, ap, ◌∙◌, sym, append_assoc}
 use Rattle.std.specs.declared.result.Result.{Result}
 use Rattle.std.specs.Prelude.{Ok, Err, OnErr}
-use Rattle.std.specs.Io.KnownBytes.{prepend_known, IsAtEnd}
+use Rattle.std.specs.Io.KnownBytes.{prepend_known, IsAtEnd, Keeps, ReadConsumes}
+use Rattle.std.proofs.KnownBytes.{Keeps-trans}
 use Rattle.enc_reader.specs.Source.{ConsumesRemaining, IsExhausted}
 
 prepend_known-nil : (known : Option (List ℕ)) → prepend_known [] known ≡ known
@@ -34,3 +35,13 @@ at_end (Some xs) e = cc
 pub on_err : {T E : Type 0} (r : Result T E) (P : Type 0) → P → OnErr r P
 on_err (Ok x) P h = tt
 on_err (Err e) P h = h
+
+-- a read after others that have given nothing
+pub ReadConsumes-kept : {E : Type 0} (k₀ k₁ k₂ : Option (List ℕ)) (r : Result ℕ E) (buf : List ℕ)
+    → Keeps k₀ k₁ → ReadConsumes k₁ k₂ r buf → ReadConsumes k₀ k₂ r buf
+ReadConsumes-kept None k₁ k₂ (Ok n) buf kept reads = (tt, reads.1)
+ReadConsumes-kept (Some xs) None k₂ (Ok n) buf kept reads = absurd kept
+ReadConsumes-kept (Some xs) (Some ys) None (Ok n) buf kept reads = absurd reads.0
+ReadConsumes-kept (Some xs) (Some ys) (Some zs) (Ok n) buf kept reads =
+    (sym kept ∙ reads.0, reads.1)
+ReadConsumes-kept k₀ k₁ k₂ (Err e) buf kept reads = Keeps-trans k₀ k₁ k₂ kept reads

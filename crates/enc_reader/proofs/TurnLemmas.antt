@@ -1,6 +1,6 @@
 -- What a turn of the decoder hands out.
-use Rattle.std.proofs.Common.{◌≡◌, ℕ, ◌+◌, ◌-◌, ◌*◌, ◌<◌, ◌≤◌, min, inl, inr, Bool, true, false, List, []}
-use Rattle.std.proofs.Common.{length, take, drop, Option, refl, ap, ◌∙◌, sym, subst, arith}
+use Rattle.std.proofs.Common.{◌≡◌, ℕ, ◌+◌, ◌-◌, ◌*◌, ◌^◌, ◌<◌, ◌≤◌, min, inl, inr, Bool, true, false, List, []}
+use Rattle.std.proofs.Common.{length, take, drop, Option, None, refl, ap, ◌∙◌, sym, subst, arith}
 use Rattle.std.proofs.Common.{◌&&◌, not, nat_eq, drop-drop}
 use Rattle.std.proofs.Math.ListN.{length-drop}
 use Rattle.std.proofs.Math.Seq.{drop-length}
@@ -9,21 +9,25 @@ use Rattle.std.proofs.lemmas.Bool.{false≢true, eqb-false}
 use Rattle.enc_decoder.proofs.FirstSequenceLemmas.{true_or_false}
 use Rattle.std.specs.Char.{encode_utf8}
 use Rattle.enc_units.specs.Output.{AreScalars, units_of_text}
-use Rattle.enc_decoder.specs.Sequence.{sequence_text, any_malformed}
-use Rattle.enc_decoder.specs.Call.{Replacement}
+use Rattle.enc_decoder.specs.Sequence.{Sequence, sequence_text, any_malformed}
+use Rattle.enc_decoder.specs.Call.{DecodeErrorMode, Replacement}
 use Rattle.enc_decoder.specs.CallRecord.{Call}
 use Rattle.enc_units.specs.declared.coder_result.CoderResult.{CoderResult}
-use Rattle.enc_units.specs.declared.coder_result.CoderResult.TheVariants.{InputEmpty, OutputFull}
+use Rattle.enc_units.specs.declared.coder_result.CoderResult.TheVariants as result
+use Rattle.enc_units.specs.declared.decoder_result.DecoderResult.{DecoderResult}
+use Rattle.enc_units.specs.declared.decoder_result.DecoderResult.TheVariants.{InputEmpty, OutputFull, Malformed}
 use Rattle.enc_units.specs.Results.{decoder_result_of}
 use Rattle.enc_stream.specs.Decoding.{DecoderState, has_finished, DecodesChunk, replacing_call}
 use Rattle.enc_stream.proofs.WholeEncodingLemmas.{still_ahead}
 use Rattle.enc_stream.proofs.DecoderProgressLemmas.{nearer, ends_read}
-use Rattle.enc_stream.proofs.DecoderCallLemmas.{only_put}
+use Rattle.enc_stream.proofs.DecoderCallLemmas.{bytes_done, only_put}
 use Rattle.enc_stream.proofs.EndOfInputLemmas.{finishes}
 use Rattle.enc_stream.proofs.OutputFullLemmas.{four_bytes, some_written}
 use Rattle.enc_reader.specs.Reading.{ReaderState, ReadsOwed}
 use Rattle.enc_reader.specs.Reading.{distance_to_end}
 use Rattle.enc_reader.specs.Turn.{IsWaiting, IsTurn}
+use Rattle.enc_reader.specs.Counting.{CountsBytes}
+use Rattle.enc_reader.specs.Reporting.{lens_of_result}
 use Rattle.enc_reader.proofs.ReadingLemmas.{ended_at, before_end}
 use Rattle.enc_reader.proofs.SourceLemmas.{ConsumesRemaining-none}
 
@@ -35,85 +39,147 @@ pub record CanDecode (s : ReaderState) (room : ℕ) : Type 0 where
   pub roomy : 4 ≤ room
 
 -- a call of the decoder with the unread bytes
-module _ (before : ReaderState) {new : DecoderState} {room : ℕ} (result : CoderResult) {read : ℕ}
-    {wrote : List ℕ} {replaced : Bool}
+abbrev pub unread_call : ReaderState → DecodeErrorMode → ℕ → DecoderResult → ℕ → List ℕ → Bool → Call
+unread_call s mode room result read wrote replaced = record {
+  src = s.unread;
+  last = s.ended;
+  mode = mode;
+  room = room;
+  result = result;
+  read = read;
+  wrote = wrote;
+  replaced = replaced;
+}
+
+-- These sequences are done, and their text is handed out.
+pub record HandsOutSequences (done : List Sequence) (handed : List ℕ)
+    (malformed : Bool) : Type 0 where
+  pub scalars : AreScalars (sequence_text done)
+  pub text : handed ≡ units_of_text encode_utf8 (sequence_text done)
+  pub flag : malformed ≡ any_malformed done
+
+module _ (before : ReaderState) {new : DecoderState} {mode : DecodeErrorMode} {room : ℕ}
+    {result : DecoderResult} {read : ℕ} {wrote : List ℕ} {replaced : Bool}
     (decodes : DecodesChunk encode_utf8 before.decoder new
-    (replacing_call before.unread before.ended room result read wrote replaced))
+    (unread_call before mode room result read wrote replaced))
     (can_decode : CanDecode before room) where
-  abbrev after : ReaderState
+  abbrev pub after : ReaderState
   after = record { decoder = new; unread = drop read before.unread; ended = before.ended }
 
-  abbrev call : CoderResult → Call
-  call r = record {
-    src = before.unread;
-    last = before.ended;
-    mode = Replacement;
-    room = room;
-    result = decoder_result_of r;
-    read = read;
-    wrote = wrote;
-    replaced = replaced;
-  }
+  abbrev call : Call
+  call = unread_call before mode room result read wrote replaced
 
-  comes_nearer : distance_to_end after + min 1 (length wrote) ≤ distance_to_end before + 2 * 0
-  comes_nearer = elim (true_or_false (has_finished new)) [
+  pub comes_nearer : (handed : List ℕ)
+      → distance_to_end after + min 1 (length handed) ≤ distance_to_end before + 2 * 0
+  comes_nearer handed = elim (true_or_false (has_finished new)) [
     | inl f ↦ omega (arith, ended_at after f, before_end before can_decode.going)
-    | inr unfinished ↦ elim (nearer four_bytes (call result) can_decode.roomy decodes
-        can_decode.some) [
-          | inl finished ↦ absurd (false≢true (sym unfinished ∙ finished))
-          | inr less ↦ omega (
-            arith,
-            before_end after unfinished,
-            before_end before can_decode.going,
-            length-drop read before.unread,
-          )
-        ]
+    | inr unfinished ↦ elim (nearer four_bytes call can_decode.roomy decodes can_decode.some) [
+      | inl finished ↦ absurd (false≢true (sym unfinished ∙ finished))
+      | inr less ↦ omega (
+        arith,
+        before_end after unfinished,
+        before_end before can_decode.going,
+        length-drop read before.unread,
+      )
+    ]
   ]
 
-  reads_owed : (known : Option (List ℕ)) → ReadsOwed known known before after [] wrote replaced
-  reads_owed known =
-      let all_put = only_put (call result) decodes refl in
-      record {
-        given = ConsumesRemaining-none known;
-        none_after = λ f. (refl, f);
-        done = decodes.call.done;
-        residual = decodes.call.residual;
-        encoding = λ z none. still_ahead (call result) decodes z none;
-        scalars = subst (λ ss. AreScalars (sequence_text ss)) all_put decodes.call.scalars;
-        text = decodes.call.text
-            ∙ ap (λ ss. units_of_text encode_utf8 (sequence_text ss)) all_put;
-        flag = decodes.call.flag ∙ ap any_malformed all_put;
-        nearer = comes_nearer;
-      }
+  abbrev pub reads_owed : {handed : List ℕ} {malformed : Bool}
+      → HandsOutSequences decodes.call.done handed malformed → (known : Option (List ℕ))
+      → ReadsOwed known known before after [] handed malformed
+  reads_owed {handed = handed} hands_out known = record {
+    given = ConsumesRemaining-none known;
+    none_after = λ f. (refl, f);
+    done = decodes.call.done;
+    residual = decodes.call.residual;
+    encoding = λ z none. still_ahead call decodes z none;
+    scalars = hands_out.scalars;
+    text = hands_out.text;
+    flag = hands_out.flag;
+    nearer = comes_nearer handed;
+  }
 
-  -- Without text and without the end it has read all unread bytes.
-  waits_for_more : wrote ≡ [] → has_finished new ≡ false → IsWaiting after
-  waits_for_more none going = by_result result decodes
+  -- Without text, a malformed sequence and the end it has read all unread bytes.
+  waits_for_more : wrote ≡ [] → lens_of_result result ≡ None → has_finished new ≡ false
+      → IsWaiting after
+  waits_for_more none unreported going = by_result result decodes unreported
     where
-      by_result : (r : CoderResult)
+      by_result : (r : DecoderResult)
           → DecodesChunk encode_utf8 before.decoder new
-          (replacing_call before.unread before.ended room r read wrote replaced)
-          → IsWaiting after
-      by_result InputEmpty at_empty = record {
+          (unread_call before mode room r read wrote replaced)
+          → lens_of_result r ≡ None → IsWaiting after
+      by_result InputEmpty at_empty said = record {
         unread = ap (λ n. drop n before.unread) at_empty.call.stops.all_read
             ∙ drop-length before.unread;
         not_ended = sym (finishes at_empty) ∙ going;
         going = going;
       }
-      by_result OutputFull at_full =
-          let some = some_written four_bytes (call OutputFull) can_decode.roomy at_full in
+      by_result OutputFull at_full said =
+          let some = some_written four_bytes call can_decode.roomy at_full in
           absurd (omega (arith, some, ap length none))
+      by_result (Malformed l a) at_malformed said = absurd (let no : ⊥ = cc in no)
+
+  pub is_turn : (waits : Bool) {handed unread : List ℕ} {malformed : Bool}
+      → drop read before.unread ≡ unread
+      → HandsOutSequences decodes.call.done handed malformed
+      → (waits ≡ true
+      → (wrote ≡ []) × (lens_of_result result ≡ None) × (has_finished new ≡ false))
+      → (waits ≡ false → handed ≡ [] → has_finished new ≡ true)
+      → IsTurn before (record { decoder = new; unread = unread; ended = before.ended }) handed
+      malformed waits
+  is_turn waits rest_is hands_out without_text text_or_end = rw (← rest_is) (record {
+    reads = reads_owed hands_out;
+    waiting = λ w. let is = without_text w in waits_for_more is.0 is.1 is.2;
+    text_or_end = text_or_end;
+  })
+
+  -- Bytes unread and pending are among those unread and pending before.
+  pub still_among : length after.unread + length new.pending
+      ≤ length before.unread + length before.decoder.pending
+  still_among = omega (
+    arith,
+    bytes_done call decodes,
+    decodes.call.within,
+    length-drop read before.unread,
+  )
+
+  pub CountsBytes-call : {n : ℕ} {unread : List ℕ} → drop read before.unread ≡ unread
+      → CountsBytes before (record { decoder = new; unread = unread; ended = before.ended }) n n []
+  CountsBytes-call rest_is = rw (← rest_is) (record {
+    counted = λ given counted. let same : given ≡ given + 0 = omega arith in
+        counted ∙ ap (λ m. min m (2 ^ 64 - 1)) same;
+    among = omega (arith, still_among);
+  })
+
+-- a call with replacement, which reports nothing
+unreported : (result : CoderResult) → lens_of_result (decoder_result_of result) ≡ None
+unreported result.InputEmpty = refl
+unreported result.OutputFull = refl
+
+module _ (before : ReaderState) {new : DecoderState} {room : ℕ} (result : CoderResult) {read : ℕ}
+    {wrote : List ℕ} {replaced : Bool}
+    (decodes : DecodesChunk encode_utf8 before.decoder new
+    (replacing_call before.unread before.ended room result read wrote replaced))
+    (can_decode : CanDecode before room) where
+  hands_out : HandsOutSequences decodes.call.done wrote replaced
+  hands_out =
+      let all_put = only_put (unread_call before Replacement room (decoder_result_of result) read
+      wrote replaced) decodes refl in
+      record {
+        scalars = subst (λ ss. AreScalars (sequence_text ss)) all_put decodes.call.scalars;
+        text = decodes.call.text
+            ∙ ap (λ ss. units_of_text encode_utf8 (sequence_text ss)) all_put;
+        flag = decodes.call.flag ∙ ap any_malformed all_put;
+      }
 
   pub IsTurn-call : (waits : Bool) {unread : List ℕ} → drop read before.unread ≡ unread
       → (waits ≡ true → (wrote ≡ []) × (has_finished new ≡ false))
       → (waits ≡ false → wrote ≡ [] → has_finished new ≡ true)
       → IsTurn before (record { decoder = new; unread = unread; ended = before.ended }) wrote
       replaced waits
-  IsTurn-call waits rest_is without_text text_or_end = rw (← rest_is) (record {
-    reads = reads_owed;
-    waiting = λ w. waits_for_more (without_text w).0 (without_text w).1;
-    text_or_end = text_or_end;
-  })
+  IsTurn-call waits rest_is without_text text_or_end =
+      is_turn before decodes can_decode waits rest_is hands_out
+      (λ w. ((without_text w).0, unreported result, (without_text w).1)) text_or_end
 
 -- The chunk in the buffer: how much of it is left after a call, and that some is left where it is
 -- not all decoded.

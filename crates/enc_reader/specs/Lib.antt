@@ -1,5 +1,7 @@
 pub mod Source
 pub mod Reading
 pub mod Turn
+pub mod Counting
+pub mod Reporting
 pub mod Reader
 pub mod HeldText

@@ -5,6 +5,7 @@ use Rattle.std.specs.Char.{encode_utf8}
 use Rattle.std.specs.Io.KnownBytes.{IsAtEnd}
 use Rattle.enc_units.specs.Output.{AreScalars, units_of_text}
 use Rattle.enc_decoder.specs.Sequence.{Sequence, sequence_text, any_malformed}
+use Rattle.enc_stream.specs.declared.bom.BomHandling.{BomHandling}
 use Rattle.enc_stream.specs.declared.bom.BomHandling.TheVariants.{Sniff}
 use Rattle.enc_stream.specs.declared.encoding.Encoding.{Encoding}
 use Rattle.enc_stream.specs.LifeCycle.{phase_of, mark_in, encoding_of_mark_or}
@@ -19,8 +20,13 @@ pub record ReaderState : Type 0 where
   pub ended : Bool
 
 -- a reader that has read nothing
-abbrev pub fresh_reader : Encoding → ReaderState
-fresh_reader e = record { decoder = fresh_decoder Sniff e; unread = []; ended = false }
+abbrev pub fresh_reader : BomHandling → Encoding → ReaderState
+fresh_reader handling e =
+    record { decoder = fresh_decoder handling e; unread = []; ended = false }
+
+-- a reader that looks for all three byte order marks, and has read nothing
+abbrev pub sniffing_reader : Encoding → ReaderState
+sniffing_reader e = fresh_reader Sniff e
 
 -- The sequences that a reader owes: those still to come if the source still gives exactly the bytes
 -- z. Their text is still to be handed out.

@@ -5,6 +5,7 @@ ghost use Rattle.std.specs.Prelude.{IsUtf8, Option, Some};
 ghost use Rattle.std.specs.Prelude.{None, IfOk, OnOk, OnErr, IsErrOf, unwrap_or, IfErr};
 ghost use Rattle.enc_units.specs.Validity.{IsWellFormedUtf8};
 ghost use Rattle.enc_stream.specs.declared.bom.BomHandling.TheVariants.{Sniff};
+ghost use Rattle.enc_stream.specs.Decoding.{fresh_decoder};
 ghost use Rattle.enc_stream.specs.declared.constants.TheConstants.{UTF_8};
 ghost use Rattle.std.specs.Char.{encode_utf8};
 ghost use Rattle.std.specs.Io.KnownBytes.{IsAtEnd};
@@ -15,10 +16,14 @@ ghost use Rattle.enc_stream.specs.Decoding.{has_finished, AnswersDecode};
 ghost use Rattle.enc_reader.specs.Source.{ConsumesRemaining, IsExhausted};
 ghost use Rattle.std.proofs.Props.{props};
 
+mod reporting;
+
 use crate::source::Source;
 use enc_stream::constants::UTF_8;
 use enc_stream::laws::ascii_compatible_decode_ascii;
-use enc_stream::{CoderResult, Decoder, Encoding};
+use enc_stream::{BomHandling, CoderResult, Decoder, Encoding};
+pub use reporting::ReadStop;
+use std::fmt;
 
 /// The least number of bytes that are lent. Fewer are decoded together with those that
 /// follow, since a caller writes each text by itself.
@@ -172,6 +177,17 @@ fn is_cut(bytes: &[u8]) -> bool {
     }
 }
 
+/// Returns a decoder that looks for the byte order marks of `handling`. It has read nothing.
+fn new_decoder(encoding: Encoding, handling: BomHandling) -> Decoder
+    ensures { result ≡ fresh_decoder handling encoding }
+{
+    match handling {
+        BomHandling::Off => encoding.new_decoder_without_bom_handling(),
+        BomHandling::Sniff => encoding.new_decoder(),
+        BomHandling::Remove => encoding.new_decoder_with_bom_removal(),
+    }
+}
+
 /// Returns the length of the longest prefix that is well-formed UTF-8, sooner if all is ASCII.
 fn utf_8_len(bytes: &[u8]) -> usize
     ensures within { result ≤ length bytes.now }
@@ -199,6 +215,8 @@ pub struct DecodeReader<'a, R: Source> {
     // the number of bytes of `input` that the source has returned, and how many of them are decoded
     filled: usize,
     at: usize,
+    // the number of bytes that the source has given, up to 2^64 - 1
+    given: u64,
     // whether the source is at its end
     ended: bool,
     failed: bool,
@@ -212,12 +230,29 @@ pub struct DecodeReader<'a, R: Source> {
     ghost going: { failed ≡ false → R.has_failed reader.now ≡ false },
 }
 
+impl<'a, R: Source> fmt::Debug for DecodeReader<'a, R> {
+    /// Writes the encoding, whether the source is at its end, whether the reader has failed, and
+    /// whether it had errors: no bytes.
+    fn fmt<W: fmt::Write>(&self, f: &mut fmt::Formatter<W>) -> fmt::Result {
+        f.debug_struct("DecodeReader")
+            .field("encoding", &self.decoder.encoding())
+            .field("ended", &self.ended)
+            .field("failed", &self.failed)
+            .field("had_errors", &self.had_errors)
+            .finish_non_exhaustive()
+    }
+}
+
 impl<'a, R: Source> DecodeReader<'a, R> {
     ghost use Rattle.std.specs.Prelude.{ℕ, List};
     ghost use Rattle.enc_stream.specs.Decoding.{whole_encoding, whole_sequences};
-    ghost use Rattle.enc_reader.specs.Reading.{FailsToRead, HandsOut, IsReaderAtEnd, fresh_reader};
+    ghost use Rattle.enc_reader.specs.Reading.{FailsToRead, HandsOut, IsReaderAtEnd};
+    ghost use Rattle.enc_reader.specs.Reading.{fresh_reader, sniffing_reader};
     ghost use Rattle.enc_reader.specs.Reading.{owed_sequences, owed_encoding};
-    ghost use Rattle.enc_reader.specs.Turn.{FillsBuffer, IsOwnText, IsTurn, PullsChunk};
+    ghost use Rattle.enc_stream.specs.Faults.{whole_faults};
+    ghost use Rattle.enc_reader.specs.Turn.{IsOwnText, IsTurn};
+    ghost use Rattle.enc_reader.specs.Counting.{HasGiven, owed_faults, CountsBytes};
+    ghost use Rattle.enc_reader.specs.Counting.{PullsCounted, FillsCounted, HandsOutCounted};
     ghost use Rattle.enc_reader.specs.Reader.{IsAtHand, handed_text, state_of, written_len};
 
     /// Returns a reader of `reader`, through the buffer `input`.
@@ -231,24 +266,58 @@ impl<'a, R: Source> DecodeReader<'a, R> {
         input: &'a mut [u8],
     ) -> DecodeReader<'a, R>
         requires { 0 < length input.old }
-        ensures fresh { state_of result ≡ fresh_reader (unwrap_or encoding UTF_8) }
+        ensures fresh { state_of result ≡ sniffing_reader (unwrap_or encoding UTF_8) }
         ensures owed { (z : List ℕ) → owed_sequences (state_of result) z ≡ whole_sequences Sniff
             (unwrap_or encoding UTF_8) z }
         ensures encoding { (z : List ℕ) → owed_encoding (state_of result) z ≡ whole_encoding Sniff
             (unwrap_or encoding UTF_8) z }
+        ensures faults { (z : List ℕ) → owed_faults 0 (state_of result) z ≡ whole_faults Sniff
+            (unwrap_or encoding UTF_8) z }
         ensures failed { result.failed ≡ R.has_failed reader.old }
         ensures no_errors { result.had_errors ≡ false }
+        ensures given { HasGiven result.given (state_of result) 0 }
         ensures reader { result.reader.now ≡ reader.old }
         ensures same_reader { result.reader.ghost_name ≡ reader.entry.ghost_name }
     {
         let encoding = encoding.unwrap_or(UTF_8);
+        DecodeReader::with_bom_handling(reader, encoding, BomHandling::Sniff, input)
+    }
+
+    /// Returns a reader of `reader`, through the buffer `input`, that looks for the byte order
+    /// marks of `handling`.
+    ///
+    /// It decodes by `encoding`. With `Sniff` a byte order mark overrides it, with `Remove` only the
+    /// byte order mark of `encoding` is no part of the text, and with `Off` each is. Nothing is read
+    /// yet. If the source has failed, so has the reader. Takes no memory. Condition: `input` is not
+    /// empty.
+    pub fn with_bom_handling(
+        reader: &'a mut R,
+        encoding: Encoding,
+        handling: BomHandling,
+        input: &'a mut [u8],
+    ) -> DecodeReader<'a, R>
+        requires { 0 < length input.old }
+        ensures fresh { state_of result ≡ fresh_reader handling encoding }
+        ensures owed { (z : List ℕ) → owed_sequences (state_of result) z
+            ≡ whole_sequences handling encoding z }
+        ensures encoding { (z : List ℕ) → owed_encoding (state_of result) z
+            ≡ whole_encoding handling encoding z }
+        ensures faults { (z : List ℕ) → owed_faults 0 (state_of result) z
+            ≡ whole_faults handling encoding z }
+        ensures failed { result.failed ≡ R.has_failed reader.old }
+        ensures no_errors { result.had_errors ≡ false }
+        ensures given { HasGiven result.given (state_of result) 0 }
+        ensures reader { result.reader.now ≡ reader.old }
+        ensures same_reader { result.reader.ghost_name ≡ reader.entry.ghost_name }
+    {
         let failed = reader.failed();
         DecodeReader {
             reader,
-            decoder: encoding.new_decoder(),
+            decoder: new_decoder(encoding, handling),
             input,
             filled: 0,
             at: 0,
+            given: 0,
             ended: false,
             failed,
             had_errors: false,
@@ -261,8 +330,9 @@ impl<'a, R: Source> DecodeReader<'a, R> {
         requires not_ended { self.old.ended ≡ false }
         requires room { self.old.filled - self.old.at < length self.old.input.now }
         requires going { self.old.failed ≡ false }
-        ensures ok { OnOk result (PullsChunk (R.remaining self.old.reader.now)
-            (R.remaining self.new.reader.now) (state_of self.old) (state_of self.new)) }
+        ensures ok { OnOk result (PullsCounted (R.remaining self.old.reader.now)
+            (R.remaining self.new.reader.now) (state_of self.old) (state_of self.new)
+            self.old.given self.new.given) }
         ensures kept { OnOk result (R.has_failed self.new.reader.now
             ≡ R.has_failed self.old.reader.now) }
         ensures going { OnOk result (self.new.failed ≡ self.old.failed) }
@@ -283,6 +353,7 @@ impl<'a, R: Source> DecodeReader<'a, R> {
             return Err(ReadFault::Reader);
         };
         self.filled += n;
+        self.given = self.given.saturating_add(n as u64);
         self.ended = n == 0;
         Ok(())
     }
@@ -292,6 +363,8 @@ impl<'a, R: Source> DecodeReader<'a, R> {
         requires room { 4 ≤ length dst.old }
         ensures turn { IsTurn (state_of self.old) (state_of self.new)
             (take result.written dst.new) result.replaced result.waits }
+        ensures counts { CountsBytes (state_of self.old) (state_of self.new) self.old.given
+            self.new.given [] }
         ensures written { result.written ≤ length dst.new }
         ensures rest { drop result.written dst.new ≡ drop result.written dst.old }
         ensures waits { result.waits ≡ true → result.written ≡ 0 }
@@ -345,6 +418,10 @@ impl<'a, R: Source> DecodeReader<'a, R> {
         ensures ok { IfOk result (λ n. HandsOut (R.remaining self.old.reader.now)
             (R.remaining self.new.reader.now) (state_of self.old) (state_of self.new)
             (take n dst.new) self.old.had_errors self.new.had_errors) }
+        ensures counted { IfOk result (λ n. HandsOutCounted (R.remaining self.old.reader.now)
+            (R.remaining self.new.reader.now) (state_of self.old) (state_of self.new)
+            self.old.given self.new.given (take n dst.new) self.old.had_errors
+            self.new.had_errors) }
         ensures within { IfOk result (λ n. n ≤ length dst.new) }
         ensures utf_8 { IfOk result (λ n. IsUtf8 (take n dst.new)) }
         ensures rest { IfOk result (λ n. drop n dst.new ≡ drop n dst.old) }
@@ -411,8 +488,9 @@ impl<'a, R: Source> DecodeReader<'a, R> {
     /// `Err`, which is `Reader`, the source has failed.
     fn fill(&mut self) -> Result<(), ReadFault>
         requires going { self.old.failed ≡ false }
-        ensures ok { OnOk result (FillsBuffer (R.remaining self.old.reader.now)
-            (R.remaining self.new.reader.now) (state_of self.old) (state_of self.new)) }
+        ensures ok { OnOk result (FillsCounted (R.remaining self.old.reader.now)
+            (R.remaining self.new.reader.now) (state_of self.old) (state_of self.new)
+            self.old.given self.new.given) }
         ensures kept { OnOk result (R.has_failed self.new.reader.now
             ≡ R.has_failed self.old.reader.now) }
         ensures going { OnOk result (self.new.failed ≡ false) }
@@ -465,6 +543,10 @@ impl<'a, R: Source> DecodeReader<'a, R> {
         requires { 4 ≤ length dst.old }
         ensures ok { IfOk result (λ handed. HandsOut (R.remaining self.old.reader.now)
             (R.remaining self.new.reader.now) (state_of self.old) (state_of self.new)
+            (handed_text self.new dst.new handed) self.old.had_errors self.new.had_errors) }
+        ensures counted { IfOk result (λ handed. HandsOutCounted
+            (R.remaining self.old.reader.now) (R.remaining self.new.reader.now)
+            (state_of self.old) (state_of self.new) self.old.given self.new.given
             (handed_text self.new dst.new handed) self.old.had_errors self.new.had_errors) }
         ensures at_hand { IfOk result (λ handed. IsAtHand self.new dst.new handed) }
         ensures utf_8 { IfOk result (λ handed. IsUtf8 (handed_text self.new dst.new handed)) }

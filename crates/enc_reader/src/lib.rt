@@ -7,9 +7,10 @@ mod decode_reader;
 mod decoded_text;
 mod line_fault;
 mod lines;
+mod read_fault;
 mod source;
 
-pub use decode_reader::{DecodeReader, HandedText, ReadFault};
+pub use decode_reader::{DecodeReader, HandedText, ReadFault, ReadStop};
 pub use decoded_text::DecodedText;
 pub use line_fault::LineFault;
 pub use source::{FromRead, Source};

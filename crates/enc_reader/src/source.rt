@@ -1,11 +1,17 @@
 //! Sources of bytes.
 
-ghost use Rattle.std.specs.Prelude.{◌≡◌, ℕ, List, ◌≤◌, ◌<◌, length, take, Option, Bool};
-ghost use Rattle.std.specs.Prelude.{true, false, None, IfOk, OnOk, OnErr};
+ghost use Rattle.std.specs.Prelude.{◌≡◌, ◌≢◌, ℕ, ◌≤◌, ◌<◌, length, List, take, Option, Bool};
+ghost use Rattle.std.specs.Prelude.{true, false, None, IfOk, OnOk, OnErr, IfErr, IsSomeAnd};
+ghost use Rattle.std.specs.IoError.{error_kind};
 ghost use Rattle.std.specs.Io.KnownBytes.{IsAtEnd, ReadConsumes};
 ghost use Rattle.enc_reader.specs.Source.{ConsumesRemaining};
 
-use std::io::Read;
+use std::fmt;
+use std::io;
+use std::io::{ErrorKind, Read};
+
+/// The number of reads that a pull makes at most.
+const MOST_READS: u32 = u32::MAX;
 
 /// A source of bytes, a buffer at a time.
 pub trait Source {
@@ -34,11 +40,38 @@ pub trait Source {
         ensures { result ≡ has_failed self.now };
 }
 
+/// Reads once, and again after each error of the kind `Interrupted`, up to [`MOST_READS`] times.
+///
+/// If all of these are interrupted, the error is of the kind `TimedOut`.
+fn read_uninterrupted<R: Read>(reader: &mut R, buf: &mut [u8]) -> io::Result<usize>
+    ensures bound { IfOk result (λ n. n ≤ length buf.new) }
+    ensures read { ReadConsumes (R.remaining reader.old) (R.remaining reader.new) result buf.new }
+    ensures retried { IfErr result (λ error. error_kind error ≢ ErrorKind.Interrupted) }
+{
+    for _ in 0..MOST_READS {
+        match reader.read(buf) {
+            Ok(n) => return Ok(n),
+            Err(error) => {
+                if error.kind() != ErrorKind::Interrupted {
+                    return Err(error);
+                }
+            }
+        }
+    }
+    let message = "every read was interrupted";
+    Err(io::Error::new(ErrorKind::TimedOut, message))
+}
+
 /// A source over any reader. It models no bytes, since a reader may not know them.
+///
+/// It keeps the error of the reader for which it has failed.
 #[derive(Drop)]
 pub struct FromRead<R: Read> {
     inner: R,
     failed: bool,
+    // the error for which it has failed, until it is taken
+    error: Option<io::Error>,
+    ghost kept: { failed ≡ false → error ≡ None },
 }
 
 impl<R: Read> FromRead<R> {
@@ -50,7 +83,39 @@ impl<R: Read> FromRead<R> {
         FromRead {
             inner,
             failed: false,
+            error: None,
         }
+    }
+
+    /// Takes the error of the reader for which the source has failed.
+    ///
+    /// `None` if it has not failed, or if the error was taken before. The source stays failed, and
+    /// the reader as it is. Takes no memory.
+    pub fn take_error(&mut self) -> Option<io::Error>
+        ensures error { result ≡ self.old.error }
+        ensures none { self.old.failed ≡ false → result ≡ None }
+        ensures taken { self.new.error ≡ None }
+        ensures failed { self.new.failed ≡ self.old.failed }
+        ensures inner { self.new.inner ≡ self.old.inner }
+    {
+        self.error.take()
+    }
+
+    /// Returns the reader, after a failure too. An error that was not taken is lost.
+    pub fn into_inner(self) -> R
+        ensures { result ≡ self.inner }
+    {
+        self.inner
+    }
+}
+
+impl<R: Read> fmt::Debug for FromRead<R> {
+    /// Writes whether it has failed, and the error that it keeps.
+    fn fmt<W: fmt::Write>(&self, f: &mut fmt::Formatter<W>) -> fmt::Result {
+        f.debug_struct("FromRead")
+            .field("failed", &self.failed)
+            .field("error", &self.error)
+            .finish_non_exhaustive()
     }
 }
 
@@ -59,7 +124,10 @@ impl<R: Read> Source for FromRead<R> {
 
     ghost has_failed = { λ source. source.failed };
 
-    /// Calls `read` of the reader once. Any error is a failure.
+    /// Reads from the reader, again after each error of the kind `Interrupted`.
+    ///
+    /// Any other error is a failure, and is kept. After 2^32 - 1 interrupted reads the pull fails
+    /// with an error of the kind `TimedOut`.
     fn pull(&mut self, buf: &mut [u8]) -> Result<usize, ()>
         requires going { self.old.failed ≡ false }
         ensures bound { IfOk result (λ n. n ≤ length buf.new) }
@@ -67,11 +135,14 @@ impl<R: Read> Source for FromRead<R> {
             buf.new }
         ensures ok { OnOk result (self.new.failed ≡ self.old.failed) }
         ensures err { OnErr result (self.new.failed ≡ true) }
+        ensures error { OnErr result (IsSomeAnd self.new.error
+            (λ error. error_kind error ≢ ErrorKind.Interrupted)) }
     {
-        match self.inner.read(buf) {
+        match read_uninterrupted(&mut self.inner, buf) {
             Ok(n) => Ok(n),
-            Err(_) => {
+            Err(error) => {
                 self.failed = true;
+                self.error = Some(error);
                 Err(())
             }
         }

@@ -13,6 +13,7 @@ pub mod OutputFullLemmas
 pub mod AppendedOutputLemmas
 pub mod DecoderProgressLemmas
 pub mod WholeInputLemmas
+pub mod FaultLemmas
 pub mod WholeEncodingLemmas
 pub mod EncodingLemmas
 pub mod PropertyLemmas

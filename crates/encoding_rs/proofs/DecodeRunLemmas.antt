@@ -22,7 +22,7 @@ use Rattle.enc_stream.specs.Decoding.{has_finished, remaining_sequences, decoder
 use Rattle.enc_stream.specs.Decoding.{whole_sequences, whole_encoding, whole_utf_8, whole_malformed}
 use Rattle.encoding_rs.specs.Run.{units_of_call, is_malformed_result, replacement_text, fault_of_result}
 use Rattle.encoding_rs.specs.Run.{DecodeRunState, DecodeRunAdvances, IsDecodeRun, decode_run_start}
-use Rattle.encoding_rs.specs.Run.{faults_from, whole_start, whole_faults, DecodeRunPart, sequences_of_parts}
+use Rattle.encoding_rs.specs.Run.{DecodeRunPart, sequences_of_parts}
 use Rattle.encoding_rs.specs.Run.{reported_faults_from, all_report_malformed, HasRunDecoding}
 use Rattle.enc_decoder.proofs.InnerInputLemmas.{sequence_at_end}
 use Rattle.enc_decoder.proofs.SequenceLemmas.{sequence_bytes-append, sequence_bytes-one, sequence_text-append}
@@ -34,7 +34,9 @@ use Rattle.enc_stream.proofs.DecoderCallLemmas.{pending_so_far}
 use Rattle.enc_stream.proofs.DecoderProgressLemmas.{ends_read}
 use Rattle.enc_stream.proofs.WholeEncodingLemmas.{within_after, within_bytes, encoding_ahead, still_ahead, fresh_ahead}
 use Rattle.encoding_rs.proofs.DecodeCallLemmas.{determined_by}
-use Rattle.encoding_rs.proofs.FaultPlaceLemmas.{no_faults, last_fault, all_reported}
+use Rattle.enc_stream.specs.Faults.{faults_from, whole_start, whole_faults}
+use Rattle.enc_stream.proofs.FaultLemmas.{no_faults, last_fault}
+use Rattle.encoding_rs.proofs.FaultPlaceLemmas.{all_reported}
 use Rattle.encoding_rs.proofs.RunLemmas.{IsRun}
 
 -- the sequences still to come in a run

@@ -10,11 +10,10 @@ use Rattle.encoding_rs.specs.declared.run.DecodeCall.{DecodeCall}
 use Rattle.enc_units.specs.declared.decoder_result.DecoderResult.{DecoderResult}
 use Rattle.enc_units.specs.declared.decoder_result.DecoderResult.TheVariants.{InputEmpty, OutputFull, Malformed}
 use Rattle.enc_units.specs.Output.{AreScalars, units_of_text}
-use Rattle.enc_decoder.specs.Sequence.{Sequence, sequence_bytes, sequence_text, is_malformed, any_malformed}
+use Rattle.enc_decoder.specs.Sequence.{Sequence, sequence_bytes, sequence_text, any_malformed}
 use Rattle.enc_decoder.specs.Replacing.{decode_error_mode}
-use Rattle.enc_stream.specs.Bom.{marks_looked_for, find_mark}
-use Rattle.enc_stream.specs.LifeCycle.{mark_bytes}
 use Rattle.enc_stream.specs.Decoding.{DecoderState, fresh_decoder, has_finished, whole_sequences, DecodesChunk}
+use Rattle.enc_stream.specs.Faults.{faults_from, whole_start}
 
 -- the code units that a call decodes to
 abbrev pub units_of_call : Bool → ℕ → List ℕ
@@ -107,23 +106,6 @@ IsDecodeRun bytes [] old new = old ≡ new
 IsDecodeRun bytes (call ∷ calls) old new = (mid : DecodeRunState)
     × DecodeRunAdvances bytes call old mid
     × IsDecodeRun bytes calls mid new
-
--- the offset and length of each malformed sequence, if the first sequence has the offset `at`
-abbrev pub faults_from : ℕ → List Sequence → List (ℕ × ℕ)
-faults_from at [] = []
-faults_from at (s ∷ ss) =
-    if is_malformed s.kind then (at, length s.bytes) ∷ faults_from (at + length s.bytes) ss
-    else faults_from (at + length s.bytes) ss
-
--- the offset of the first sequence of a whole input: the length of the byte order mark, if one is
--- found
-abbrev pub whole_start : BomHandling → Encoding → List ℕ → ℕ
-whole_start handling e bytes = length (mark_bytes (find_mark (marks_looked_for handling e) bytes))
-
--- the offset and length of each malformed sequence of a whole input
-abbrev pub whole_faults : BomHandling → Encoding → List ℕ → List (ℕ × ℕ)
-whole_faults handling e bytes =
-    faults_from (whole_start handling e bytes) (whole_sequences handling e bytes)
 
 -- the sequences that one call has done, and whether it is with replacement
 pub record DecodeRunPart : Type 0 where

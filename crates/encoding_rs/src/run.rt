@@ -9,10 +9,11 @@ ghost use Rattle.std.specs.String.{string_bytes};
 ghost use Rattle.enc_units.specs.Results.{decoder_result_of};
 ghost use Rattle.enc_stream.specs.Decoding.{DecoderState, fresh_decoder, has_finished};
 ghost use Rattle.enc_stream.specs.Decoding.{whole_encoding, whole_utf_8, whole_malformed};
+ghost use Rattle.enc_stream.specs.Faults.{whole_faults};
 ghost use Rattle.encoding_rs.specs.DecodeEnd.{CanDecodeMore};
 ghost use Rattle.encoding_rs.specs.Run.{units_of_call, AnswersDecodeCall, MakesDecodeCall};
 ghost use Rattle.encoding_rs.specs.Run.{is_malformed_result, fault_of_result, IsDecodeRun};
-ghost use Rattle.encoding_rs.specs.Run.{HasRunDecoding, decode_run_start, whole_faults};
+ghost use Rattle.encoding_rs.specs.Run.{HasRunDecoding, decode_run_start};
 ghost use Rattle.encoding_rs.specs.Run.{all_report_malformed};
 
 mod error;

@@ -20,7 +20,7 @@ use Rattle.enc_stream.proofs.EndOfInputLemmas.{fresh_sequences, none_left}
 use Rattle.enc_stream.proofs.EncoderProgressLemmas.{output_rule_is}
 use Rattle.enc_reader.specs.Source.{ConsumesRemaining, IsExhausted}
 use Rattle.enc_reader.specs.Reading.{ReaderState, ReadsOwed, HandsOut, FailsToRead, IsReaderAtEnd, distance_to_end}
-use Rattle.enc_reader.specs.Reading.{fresh_reader, owed_sequences}
+use Rattle.enc_reader.specs.Reading.{sniffing_reader, owed_sequences}
 use Rattle.enc_reader.proofs.SourceLemmas.{ConsumesRemaining-then}
 use Rattle.enc_reader.proofs.ReadingLemmas.{ReaderPlace, reader_at, ReadsOwed-none, ReadsOwed-then, handed_utf_8}
 use Rattle.enc_writer.specs.Sink.{AppendsContents}
@@ -68,7 +68,7 @@ pub record RunState : Type 0 where
 pub record HasRun (start : RunStart) (now : RunState) : Type 0 where
   pub bytes : List ℕ
   pub wrote : List ℕ
-  pub reads : ReadsOwed start.remaining now.source.remaining (fresh_reader start.from)
+  pub reads : ReadsOwed start.remaining now.source.remaining (sniffing_reader start.from)
       now.source.state bytes wrote now.malformed
   pub is_exhausted : now.source.state.ended ≡ true → IsExhausted now.source.remaining
   pub written : HasWritten start.taken now.taken (fresh_writer start.to) now.writer (chars wrote)
@@ -76,7 +76,7 @@ pub record HasRun (start : RunStart) (now : RunState) : Type 0 where
 
 pub HasRun-start : {start : RunStart} {remaining : Option (List ℕ)} {reader : ReaderState}
     {taken : Option (List ℕ)} {writer : WriterState} {malformed : Bool}
-    → remaining ≡ start.remaining → reader ≡ fresh_reader start.from → taken ≡ start.taken
+    → remaining ≡ start.remaining → reader ≡ sniffing_reader start.from → taken ≡ start.taken
     → writer ≡ fresh_writer start.to → malformed ≡ false
     → HasRun start (record {
       source = reader_at remaining reader;
@@ -89,7 +89,7 @@ HasRun-start {start} all_remaining is_fresh none_taken fresh none_malformed =
     rw (all_remaining, is_fresh, none_taken, fresh, none_malformed) (record {
       bytes = [];
       wrote = [];
-      reads = ReadsOwed-none start.remaining (fresh_reader start.from);
+      reads = ReadsOwed-none start.remaining (sniffing_reader start.from);
       is_exhausted = λ e. not_ended e;
       written = rw chars-nil (HasWritten-none start.taken (fresh_writer start.to));
       enough = omega arith;
@@ -98,7 +98,7 @@ HasRun-start {start} all_remaining is_fresh none_taken fresh none_malformed =
 -- The bytes of a whole input are those that a fresh writer owes for its text.
 owed_is : (from to : Encoding) (bytes : List ℕ)
     → recoded_bytes from to bytes
-    ≡ owed_bytes (fresh_writer to) (sequence_text (owed_sequences (fresh_reader from) bytes))
+    ≡ owed_bytes (fresh_writer to) (sequence_text (owed_sequences (sniffing_reader from) bytes))
 owed_is from to bytes =
     ap (λ (rule : EncoderRule). bytes_of_text rule Ascii (with_references rule (whole_text from bytes)))
     (sym (output_rule_is [] to))
@@ -121,7 +121,7 @@ whole_given old (Some rest) bytes given fails =
 -- Some reads have handed out `text`, of which the sink has taken a prefix of the bytes.
 RunsToFault-by_prefix : (start : RunStart) (next : ReaderPlace) {taken : Option (List ℕ)}
     {bytes wrote text : List ℕ} {malformed last : Bool}
-    → ReadsOwed start.remaining next.remaining (fresh_reader start.from) next.state bytes wrote
+    → ReadsOwed start.remaining next.remaining (sniffing_reader start.from) next.state bytes wrote
     malformed → (next.state.ended ≡ true → IsExhausted next.remaining) → text ≡ chars wrote
     → (last ≡ true → has_finished next.state.decoder ≡ true)
     → TakesPrefix start.taken taken (fresh_writer start.to) text last
@@ -152,10 +152,10 @@ module _ {start : RunStart} {now : RunState} (next : ReaderPlace) {text : List �
     (so_far : HasRun start now)
     (hands_out : HandsOut now.source.remaining next.remaining now.source.state next.state text
     now.malformed malformed) where
-  reads_on : ReadsOwed start.remaining next.remaining (fresh_reader start.from) next.state
+  reads_on : ReadsOwed start.remaining next.remaining (sniffing_reader start.from) next.state
       (so_far.bytes ++ hands_out.bytes) (so_far.wrote ++ text) malformed
   reads_on = rw hands_out.flag
-      (ReadsOwed-then (reader_at start.remaining (fresh_reader start.from)) now.source next
+      (ReadsOwed-then (reader_at start.remaining (sniffing_reader start.from)) now.source next
       so_far.reads hands_out.reads)
 
   chars_on : chars (so_far.wrote ++ text) ≡ chars so_far.wrote ++ chars text
@@ -223,7 +223,7 @@ module _ {start : RunStart} {now : RunState} (next : ReaderPlace) {text : List �
     all_done : whole_sequences Sniff start.from (so_far.bytes ++ hands_out.bytes) ≡ reads_on.done
     all_done =
         fresh_sequences Sniff start.from (so_far.bytes ++ hands_out.bytes)
-        ∙ ap (owed_sequences (fresh_reader start.from))
+        ∙ ap (owed_sequences (sniffing_reader start.from))
         (sym (append-nil (so_far.bytes ++ hands_out.bytes)))
         ∙ reads_on.residual [] (λ _. refl)
         ∙ ap (λ ss. reads_on.done ++ ss) end.none_owed ∙ append-nil reads_on.done

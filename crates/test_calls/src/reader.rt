@@ -7,3 +7,4 @@
 mod lending;
 mod lines;
 mod reads;
+mod reporting;

@@ -2,7 +2,7 @@
 
 use crate::cases::{Case, expect, expect_bytes};
 use crate::devices::{BYTE, Step, StepReader};
-use enc_reader::{DecodeReader, FromRead, ReadFault, Source};
+use enc_reader::{DecodeReader, FromRead, ReadFault, ReadStop, Source};
 use encoding_rs::Encoding;
 use std::alloc::Global;
 use std::test::Fail;
@@ -102,6 +102,67 @@ pub fn compare_with_whole(alloc: Global, encoding: Encoding, bytes: &[u8]) -> Re
                 "whether a reader had errors",
                 &case,
             )?;
+        }
+    }
+    Ok(())
+}
+
+/// Reads to the end without replacement, with U+FFFD put in for each malformed sequence. Returns the
+/// text, and the offset and length of each.
+fn read_reports<R: Source>(
+    alloc: Global,
+    reader: &mut DecodeReader<'_, R>,
+    part: &mut [u8],
+) -> Result<(Vec<u8>, Vec<(u64, u8)>), Fail> {
+    if part.len() < 4 {
+        return Err("buffer too short".into());
+    }
+    let mut text = Vec::new(alloc);
+    let mut faults = Vec::new(alloc);
+    for _ in 0..u64::MAX {
+        match reader.read_str_without_replacement(part)? {
+            ReadStop::Text(0) => break,
+            ReadStop::Text(n) => text.extend_from_slice(&part[..n])?,
+            ReadStop::Malformed {
+                written,
+                offset,
+                len,
+            } => {
+                text.extend_from_slice(&part[..written])?;
+                text.extend_from_slice("\u{FFFD}".as_bytes())?;
+                faults.push((offset, len))?;
+            }
+        }
+    }
+    Ok((text, faults))
+}
+
+/// Reads an input without replacement, a byte at a time, and in parts, through short buffers. The
+/// text is that of `decode`, and the malformed sequences have these offsets and lengths.
+pub fn compare_reports(
+    alloc: Global,
+    encoding: Encoding,
+    bytes: &[u8],
+    want: &[(u64, u8)],
+) -> Result<(), Fail> {
+    let (text, decoded_by, had_errors) = encoding.decode(alloc, bytes)?;
+    for step in [BYTE, Step::Move(3), Step::Move(usize::MAX)] {
+        for (room, len) in [(4, 1), (5, 3), (64, 64)] {
+            let case = Case {
+                name: encoding.name(),
+                input: bytes,
+                room,
+            };
+            let mut input = [0; 64];
+            let mut part = [0; 64];
+            let steps = [step];
+            let mut source = FromRead::new(StepReader::new(bytes, &steps));
+            let mut reader = DecodeReader::new(&mut source, Some(encoding), &mut input[..len]);
+            let (read, faults) = read_reports(alloc, &mut reader, &mut part[..room])?;
+            let is_by = reader.encoding() == decoded_by && reader.had_errors() == had_errors;
+            expect(is_by, "encoding or errors of a reader", &case)?;
+            expect(faults.as_slice() == want, "malformed sequences", &case)?;
+            expect_bytes(&read, text.as_bytes(), "text that is read", &case)?;
         }
     }
     Ok(())

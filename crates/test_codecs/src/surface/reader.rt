@@ -1,8 +1,13 @@
 //! The items of `enc_reader`: sources of bytes, and a reader of their text.
 
-use crate::surface::derives::{are_equal, debug_text};
-use enc_reader::{DecodeReader, DecodedText, FromRead, HandedText, LineFault, ReadFault, Source};
+use crate::surface::derives::{are_equal, copies, debug_text};
+use enc_reader::{
+    DecodeReader, DecodedText, FromRead, HandedText, LineFault, ReadFault, ReadStop, Source,
+};
+use encoding_rs::run::BomHandling;
 use encoding_rs::{Encoding, UTF_8, WINDOWS_1252};
+use std::alloc::Global;
+use std::error::Error;
 use std::io;
 use std::io::{BufRead, ErrorKind, Read};
 use std::process::Abort;
@@ -16,6 +21,85 @@ fn faults_of_a_reader_are_compared_and_printed(rt: HostRuntime) -> Result<(), Fa
     let text = debug_text(rt.alloc(), &ReadFault::Failed)?;
     assert!(rt; text.as_str() == "Failed");
     Ok(())
+}
+
+/// The text of an error by `Display`.
+fn error_text<E: Error>(alloc: Global, error: &E) -> Result<String, Fail> {
+    Ok(format!(in alloc; "{error}")?)
+}
+
+#[test]
+fn faults_of_a_reader_are_errors(rt: HostRuntime) -> Result<(), Fail> {
+    let text = error_text(rt.alloc(), &ReadFault::Reader)?;
+    assert!(rt; text.as_str() == "the source of the text failed");
+    let text = error_text(rt.alloc(), &ReadFault::Failed)?;
+    assert!(rt; text.as_str() == "the reader of the text has failed before");
+    let error: io::Error = io::Error::from(ReadFault::Failed);
+    assert!(rt; error.kind() == ErrorKind::Other);
+    let text = error_text(rt.alloc(), &error)?;
+    assert!(rt; text.as_str() == "the reader of the text has failed before");
+    Ok(())
+}
+
+#[test]
+fn stops_of_a_reader_are_copied_compared_and_printed(rt: HostRuntime) -> Result<(), Fail> {
+    let stop = ReadStop::Malformed {
+        written: 1,
+        offset: 2,
+        len: 3,
+    };
+    let (a, b) = copies(stop)?;
+    assert!(rt; are_equal(&a, &b) && !are_equal(&a, &ReadStop::Text(1)));
+    let text = debug_text(rt.alloc(), &stop)?;
+    assert!(rt; text.as_str() == "Malformed { written: 1, offset: 2, len: 3 }");
+    Ok(())
+}
+
+#[test]
+fn a_source_and_a_reader_are_printed(rt: HostRuntime) -> Result<(), Fail> {
+    let mut source = FromRead::new(b"a".as_slice());
+    let text = debug_text(rt.alloc(), &source)?;
+    assert!(rt; text.as_str() == "FromRead { failed: false, error: None, .. }");
+    let mut input = [0; 8];
+    let reader = DecodeReader::new(&mut source, None, &mut input);
+    let text = debug_text(rt.alloc(), &reader)?;
+    let fields = "ended: false, failed: false, had_errors: false, .. }";
+    assert!(rt; text.as_str().starts_with("DecodeReader { encoding: "));
+    assert!(rt; text.as_str().ends_with(fields));
+    Ok(())
+}
+
+#[test]
+fn a_source_hands_out_its_error_and_its_reader(rt: HostRuntime) -> Result<(), Fail> {
+    let mut source: FromRead<Broken> = FromRead::new(Broken);
+    let none: Option<io::Error> = source.take_error();
+    assert!(rt; none.is_none());
+    assert!(rt; source.pull(&mut [0; 2]) == Err(()));
+    let Some(error) = source.take_error() else {
+        return Err("no error".into());
+    };
+    assert!(rt; error.kind() == ErrorKind::BrokenPipe && source.take_error().is_none());
+    let mut inner: Broken = source.into_inner();
+    assert!(rt; inner.read(&mut [0; 2]).is_err());
+    Ok(())
+}
+
+#[test]
+fn a_reader_reports_what_is_malformed(rt: HostRuntime) {
+    let mut source = FromRead::new(b"\xEF\xBB\xBFa\xFF".as_slice());
+    let mut input: [u8; 8] = [0; 8];
+    let mut reader =
+        DecodeReader::with_bom_handling(&mut source, UTF_8, BomHandling::Off, &mut input);
+    let mut dst: [u8; 8] = [0; 8];
+    let stop: Result<ReadStop, ReadFault> = reader.read_str_without_replacement(&mut dst);
+    let want = ReadStop::Malformed {
+        written: 4,
+        offset: 4,
+        len: 1,
+    };
+    assert!(rt; stop == Ok(want));
+    assert!(rt; dst.as_slice() == "\u{FEFF}a\0\0\0\0".as_bytes());
+    assert!(rt; reader.read_str_without_replacement(&mut dst) == Ok(ReadStop::Text(0)));
 }
 
 /// A reader whose every read fails.

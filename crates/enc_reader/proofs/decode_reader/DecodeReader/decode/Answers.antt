@@ -2,7 +2,7 @@ use Rattle.std.proofs.Common.{rules, ◌≡◌, ◌≤◌, length, take, [], fal
 use Rattle.std.proofs.lemmas.Bool.{false≢true, not-true, not-false}
 use Rattle.enc_stream.specs.Decoding.{has_finished}
 use Rattle.enc_reader.specs.Reader.{state_of}
-use Rattle.enc_reader.proofs.TurnLemmas.{IsTurn-call, chunk_can_decode, left_of, some_text, all_read}
+use Rattle.enc_reader.proofs.TurnLemmas.{IsTurn-call, CountsBytes-call, chunk_can_decode, left_of, some_text, all_read}
 use Rattle.enc_reader.proofs.TurnLemmas.{only_at_end}
 use Rattle.enc_reader.proofs.decode_reader.DecodeReader.decode.Goals as goal
 
@@ -51,3 +51,23 @@ invariant_of-self-clause-decoded g c =
 pub invariant_of-self-clause-seen : goal.invariant_of-self-clause-seen
 invariant_of-self-clause-seen g c =
     λ f. only_at_end _ c.decode_unread-call.ensures.call.decodes f
+
+pub returns-then-call-gt0-clause-counts : goal.returns-then-call-gt0-clause-counts
+returns-then-call-gt0-clause-counts g c =
+    let reader = c.args.self.now in
+    let decodes = c.decode_unread-call.ensures.call.decodes in
+    rw c.decode_unread-call.ensures.kept
+    (CountsBytes-call (state_of reader) decodes
+    (chunk_can_decode reader.filled reader.at reader.input.now (search rules) reader.decoded
+    reader.within c.if-self.false c.requires.room)
+    (left_of reader.filled reader.at _ reader.input.now reader.decoded decodes.call.within))
+
+pub returns-clause-counts : goal.returns-clause-counts
+returns-clause-counts g c =
+    let reader = c.args.self.now in
+    let decodes = c.decode_unread-call.ensures.call.decodes in
+    rw c.decode_unread-call.ensures.kept
+    (CountsBytes-call (state_of reader) decodes
+    (chunk_can_decode reader.filled reader.at reader.input.now (search rules) reader.decoded
+    reader.within c.if-self.false c.requires.room)
+    (left_of reader.filled reader.at _ reader.input.now reader.decoded decodes.call.within))

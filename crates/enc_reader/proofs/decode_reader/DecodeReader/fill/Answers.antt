@@ -1,6 +1,8 @@
 use Rattle.std.proofs.Common.{rules, ◌≡◌, [], false}
 use Rattle.enc_reader.proofs.ReadingLemmas.{ReadsOwed-none}
+use Rattle.enc_reader.specs.Reader.{state_of}
 use Rattle.enc_reader.proofs.SourceLemmas.{on_err}
+use Rattle.enc_reader.proofs.CountingLemmas.{CountsBytes-none}
 use Rattle.enc_reader.proofs.LendingLemmas.{FailsToRead-pull}
 use Rattle.enc_reader.proofs.decode_reader.DecodeReader.fill.Goals as goal
 
@@ -14,4 +16,17 @@ returns-in_err-pull-clause-err g c =
     (reader.going c.requires.going))
 
 pub returns-else-not-self-clause-ok : goal.returns-else-not-self-clause-ok
-returns-else-not-self-clause-ok g c = record { bytes = []; reads = ReadsOwed-none _ _ }
+returns-else-not-self-clause-ok g c =
+    let reader = c.args.self.now in
+    record {
+      fills = record { bytes = []; reads = ReadsOwed-none _ _ };
+      counts = CountsBytes-none (state_of reader) reader.given;
+    }
+
+pub returns-in_ok-pull-clause-ok : goal.returns-in_ok-pull-clause-ok
+returns-in_ok-pull-clause-ok g c =
+    let pull = c.in_ok-pull.ensures.ok in
+    record {
+      fills = record { bytes = pull.pulls.bytes; reads = pull.pulls.reads };
+      counts = pull.counts;
+    }

@@ -1,13 +1,14 @@
 use Rattle.std.proofs.Common.{arith, ◌-◌, ◌∙◌, sym}
 use Rattle.std.proofs.lemmas.Bool.{false≢true, false_from_ne_true}
-use Rattle.enc_reader.proofs.ReadingLemmas.{PullsChunk-after}
+use Rattle.enc_reader.proofs.CountingLemmas.{PullsCounted-after}
 use Rattle.enc_reader.proofs.decode_reader.DecodeReader.pull.Goals as goal
 
 pub returns-clause-ok : goal.returns-clause-ok
 returns-clause-ok g c =
     let reader = c.args.self.now in
-    PullsChunk-after (reader.filled - reader.at) c.in-Ok.n c.pull_after.new.input
+    PullsCounted-after (reader.filled - reader.at) c.in-Ok.n c.pull_after.new.input
     c.requires.not_ended
     (false_from_ne_true _ (λ f. false≢true (sym c.requires.not_ended ∙ reader.seen f)))
     (c.pull_after.ensures.held ∙ c.move_to_start.ensures.moved)
     (omega (arith, c.in-Ok.ensures.bound, c.pull_after.ensures.length)) c.in-Ok.ensures.bytes
+    c.saturating_add-self.ensures

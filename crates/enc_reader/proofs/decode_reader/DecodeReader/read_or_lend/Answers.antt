@@ -1,5 +1,6 @@
 use Rattle.std.proofs.Common.{arith, rules, ◌<◌}
 use Rattle.enc_reader.proofs.ReadingLemmas.{handed_utf_8}
+use Rattle.enc_reader.proofs.LendingLemmas.{HandsOutCounted-filled, HandsOutCounted-lent, CountsBytes-lent}
 use Rattle.enc_reader.proofs.LendingLemmas.{HandsOut-filled, HandsOut-chunk, FailsToRead-filled}
 use Rattle.enc_reader.proofs.decode_reader.DecodeReader.read_or_lend.Goals as goal
 
@@ -8,7 +9,7 @@ returns-then-len-ge-LEAST_LENT-clause-ok g c =
     let after_fill = c.fill.new.self in
     let some : 0 < c.text_ahead-len.result = omega arith in
     rw c.fill.ensures.had_errors
-    (HandsOut-filled c.in_ok-fill.ensures.ok
+    (HandsOut-filled c.in_ok-fill.ensures.ok.fills
     (HandsOut-chunk _ _ after_fill.filled after_fill.at c.text_ahead-len.result
     after_fill.input.now _ _
     after_fill.decoded after_fill.within c.text_ahead-len.ensures.within
@@ -26,10 +27,29 @@ returns-then-len-ge-LEAST_LENT-clause-utf_8 g c =
 
 pub returns-in_err-len-clause-reader_fault : goal.returns-in_err-len-clause-reader_fault
 returns-in_err-len-clause-reader_fault g c =
-    λ e. FailsToRead-filled c.in_ok-fill.ensures.ok c.in_ok-fill.ensures.kept
+    λ e. FailsToRead-filled c.in_ok-fill.ensures.ok.fills c.in_ok-fill.ensures.kept
     (c.in_err-len.ensures.reader_fault (search rules))
 
 pub returns-clause-ok : goal.returns-clause-ok
 returns-clause-ok g c =
     rw (← c.fill.ensures.had_errors)
-    (HandsOut-filled c.in_ok-fill.ensures.ok c.in_ok-len.ensures.ok)
+    (HandsOut-filled c.in_ok-fill.ensures.ok.fills c.in_ok-len.ensures.ok)
+
+pub returns-then-len-ge-LEAST_LENT-clause-counted :
+    goal.returns-then-len-ge-LEAST_LENT-clause-counted
+returns-then-len-ge-LEAST_LENT-clause-counted g c =
+    let after_fill = c.fill.new.self in
+    let some : 0 < c.text_ahead-len.result = omega arith in
+    rw c.fill.ensures.had_errors
+    (HandsOutCounted-lent c.in_ok-fill.ensures.ok
+    (HandsOut-chunk _ _ after_fill.filled after_fill.at c.text_ahead-len.result
+    after_fill.input.now _ _
+    after_fill.decoded after_fill.within c.text_ahead-len.ensures.within
+    (c.text_ahead-len.ensures.own some) after_fill.exhausted)
+    (CountsBytes-lent _ _ after_fill.filled after_fill.at c.text_ahead-len.result
+    after_fill.given after_fill.input.now))
+
+pub returns-clause-counted : goal.returns-clause-counted
+returns-clause-counted g c =
+    rw (← c.fill.ensures.had_errors)
+    (HandsOutCounted-filled c.in_ok-fill.ensures.ok c.in_ok-len.ensures.counted)

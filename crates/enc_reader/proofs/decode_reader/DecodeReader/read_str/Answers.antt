@@ -1,11 +1,14 @@
-use Rattle.std.proofs.Common.{rules, ◌≡◌, take, [], ap}
+use Rattle.std.proofs.Common.{rules, ◌≡◌, ◌||◌, take, [], ap}
 use Rattle.enc_reader.proofs.ReadingLemmas.{HasRead-turn, HasRead-more}
+use Rattle.enc_reader.proofs.CountingLemmas.{HasCounted-turn, HasCounted-more, HandsOutCounted-read}
 use Rattle.enc_reader.proofs.decode_reader.DecodeReader.read_str.Goals as goal
 
 pub pulls-init : goal.pulls-init
 pulls-init g c =
     record {
       read = rw c.decode-turn.ensures.reader (HasRead-turn c.decode-turn.ensures.turn);
+      counted = rw c.decode-turn.ensures.reader (HasCounted-turn c.decode-turn.ensures.turn
+          c.decode-turn.ensures.counts);
       within = search rules;
       rest = search rules;
       none = search rules;
@@ -22,9 +25,13 @@ pulls-preserved g c =
     let none : take c.pulls.turn.written c.pulls.dst ≡ [] =
     ap (λ n. take n c.pulls.dst) (invariant.none c.pulls-test.true) in
     let waited = rw (none, c.pulls-test.true) at invariant.read in
+    let waited_counted = rw (none, c.pulls-test.true) at invariant.counted in
     record {
       read = rw c.decode-turn-in-pulls.ensures.reader
-          (HasRead-more waited c.in_ok-pull.ensures.ok c.decode-turn-in-pulls.ensures.turn);
+          (HasRead-more waited c.in_ok-pull.ensures.ok.pulls c.decode-turn-in-pulls.ensures.turn);
+      counted = rw c.decode-turn-in-pulls.ensures.reader
+          (HasCounted-more waited_counted c.in_ok-pull.ensures.ok
+          c.decode-turn-in-pulls.ensures.turn c.decode-turn-in-pulls.ensures.counts);
       within = search rules;
       rest = search rules;
       none = search rules;
@@ -34,3 +41,9 @@ pulls-preserved g c =
       kept = search rules;
       same_reader = search rules;
     }
+
+pub returns-clause-counted : goal.returns-clause-counted
+returns-clause-counted g c =
+    let counted = rw c.pulls-test.false at c.pulls.invariant.counted in
+    HandsOutCounted-read counted (ap (λ b. b || c.pulls.replaced) c.pulls.invariant.had_errors)
+    c.pulls.self.exhausted

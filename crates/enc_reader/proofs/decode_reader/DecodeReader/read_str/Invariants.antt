@@ -1,6 +1,7 @@
 use Rattle.std.proofs.Common.{◌≡◌, ◌-◌, ◌^◌, ◌≤◌, length, take, drop, true, false}
 use Rattle.enc_reader.specs.Reader.{state_of}
 use Rattle.enc_reader.proofs.ReadingLemmas.{HasRead, reader_at}
+use Rattle.enc_reader.proofs.CountingLemmas.{HasCounted}
 use Rattle.enc_reader.proofs.decode_reader.DecodeReader.read_str.Given as goal
 
 abbrev pub invariant-pulls : goal.invariant-pulls
@@ -8,6 +9,10 @@ invariant-pulls g l = record {
   read : HasRead (reader_at (g.R.Source.remaining l.fn.self.reader.now) (state_of l.fn.self))
       (reader_at (g.R.Source.remaining l.self.reader.now) (state_of l.self))
       (take l.turn.written l.dst) l.replaced l.turn.waits l.pulls;
+  counted : HasCounted
+      (reader_at (g.R.Source.remaining l.fn.self.reader.now) (state_of l.fn.self))
+      (reader_at (g.R.Source.remaining l.self.reader.now) (state_of l.self)) l.fn.self.given
+      l.self.given (take l.turn.written l.dst) l.replaced l.turn.waits l.pulls;
   within : l.turn.written ≤ length l.dst;
   rest : drop l.turn.written l.dst ≡ drop l.turn.written l.fn.dst;
   none : l.turn.waits ≡ true → l.turn.written ≡ 0;

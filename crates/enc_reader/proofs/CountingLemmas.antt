@@ -1,0 +1,232 @@
+-- The count of the bytes given, and the malformed sequences passed, over several steps.
+use Rattle.std.proofs.Common.{◌≡◌, ℕ, ◌+◌, ◌-◌, ◌^◌, ◌<◌, ◌≤◌, min, Bool, true, false, List, [], ◌++◌, length, take, drop}
+use Rattle.std.proofs.Common.{Option, refl, ap, ◌∙◌, sym, arith, append_assoc, append-nil, length-append, nat_eq, ◌||◌}
+use Rattle.std.proofs.Math.ListN.{length-drop}
+use Rattle.std.proofs.lemmas.List.{length-take}
+use Rattle.enc_decoder.specs.Sequence.{sequence_bytes}
+use Rattle.enc_decoder.proofs.SegmentationLemmas.{all_bytes}
+use Rattle.enc_decoder.proofs.SequenceLemmas.{sequence_bytes-append}
+use Rattle.enc_stream.specs.declared.encoding.Encoding.{Encoding}
+use Rattle.enc_stream.specs.declared.bom.BomHandling.{BomHandling}
+use Rattle.enc_stream.specs.Encodings.{rule_of}
+use Rattle.enc_stream.specs.Bom.{find_mark, marks_looked_for, sequences_by_mark}
+use Rattle.enc_stream.specs.LifeCycle.{Phase, InFront, Within, Ended, phase_of, mark_bytes, sequences_in}
+use Rattle.enc_stream.specs.Decoding.{DecoderState, has_finished, whole_sequences}
+use Rattle.enc_stream.specs.Faults.{faults_from, whole_faults, whole_start}
+use Rattle.enc_stream.proofs.FoundMarkLemmas.{found_is}
+use Rattle.enc_stream.proofs.WholeInputLemmas.{joined, joined_by}
+use Rattle.enc_stream.proofs.EndOfInputLemmas.{fresh_sequences}
+use Rattle.enc_stream.proofs.FaultLemmas.{no_faults, faults-append}
+use Rattle.enc_reader.specs.Source.{ConsumesRemaining, IsExhausted}
+use Rattle.enc_reader.specs.Reading.{ReaderState, ReadsOwed, HandsOut, fresh_reader, owed_sequences}
+use Rattle.enc_reader.specs.Turn.{PullsChunk, IsTurn}
+use Rattle.enc_reader.specs.Counting.{HasGiven, owed_faults, PassesFaults, CountsBytes, PullsCounted}
+use Rattle.enc_reader.specs.Counting.{HandsOutCounted}
+use Rattle.enc_reader.proofs.ReadingLemmas.{ReaderPlace, reader_at, HasRead, HasRead-turn, HasRead-more}
+use Rattle.enc_reader.proofs.ReadingLemmas.{PullsChunk-after}
+
+-- The sequences owed are made of bytes pending, unread and still to come.
+
+in_phase : (p : Phase) (e : Encoding) (set : ℕ) (bytes : List ℕ)
+    → length (sequence_bytes (sequences_in p e set bytes)) ≤ length bytes
+in_phase (InFront looked_for) e set bytes =
+    let found = find_mark looked_for bytes in
+    omega (
+      arith,
+      ap length (joined_by found e bytes (found_is looked_for bytes)),
+      length-append (mark_bytes found) (sequence_bytes (sequences_by_mark found e bytes)),
+    )
+in_phase Within e set bytes = omega (arith, ap length (all_bytes (rule_of e) set bytes))
+in_phase Ended e set bytes = omega arith
+
+owed_bytes : (s : ReaderState) (z : List ℕ) → length (sequence_bytes (owed_sequences s z))
+    ≤ length s.unread + length s.decoder.pending + length z
+owed_bytes s z = omega (
+  arith,
+  in_phase (phase_of s.decoder.life) s.decoder.encoding s.decoder.set
+      (s.decoder.pending ++ (s.unread ++ z)),
+  length-append s.decoder.pending (s.unread ++ z),
+  length-append s.unread z,
+)
+
+-- The faults passed are those of the sequences done.
+module _ {k₀ k₁ : Option (List ℕ)} {old new : ReaderState} {bytes wrote : List ℕ}
+    {malformed : Bool} (reads_owed : ReadsOwed k₀ k₁ old new bytes wrote malformed) (given : ℕ)
+    (among : length old.unread + length old.decoder.pending ≤ given) (z : List ℕ)
+    (ends : new.ended ≡ true → z ≡ []) where
+  abbrev pub first_offset : ℕ
+  first_offset =
+      given + length (bytes ++ z) - length (sequence_bytes (owed_sequences old (bytes ++ z)))
+
+  pub offset_after : first_offset + length (sequence_bytes reads_owed.done)
+      ≡ given + length bytes + length z - length (sequence_bytes (owed_sequences new z))
+  offset_after = omega (
+    arith,
+    among,
+    owed_bytes old (bytes ++ z),
+    length-append bytes z,
+    ap (λ ss. length (sequence_bytes ss)) (reads_owed.residual z ends),
+    ap length (sequence_bytes-append reads_owed.done (owed_sequences new z)),
+    length-append (sequence_bytes reads_owed.done) (sequence_bytes (owed_sequences new z)),
+  )
+
+  pub passes_done : owed_faults given old (bytes ++ z)
+      ≡ faults_from first_offset reads_owed.done ++ owed_faults (given + length bytes) new z
+  passes_done =
+      ap (faults_from first_offset) (reads_owed.residual z ends)
+      ∙ faults-append first_offset reads_owed.done (owed_sequences new z)
+      ∙ ap (λ n. faults_from first_offset reads_owed.done ++ faults_from n (owed_sequences new z))
+      offset_after
+
+-- where none of the sequences done is malformed
+pub passes_none : {k₀ k₁ : Option (List ℕ)} {old new : ReaderState} {bytes wrote : List ℕ}
+    → ReadsOwed k₀ k₁ old new bytes wrote false → (given : ℕ)
+    → length old.unread + length old.decoder.pending ≤ given → PassesFaults given old new bytes []
+passes_none {old = old} {new = new} {bytes = bytes} reads_owed given among z ends =
+    passes_done reads_owed given among z ends
+    ∙ ap (λ faults. faults ++ owed_faults (given + length bytes) new z)
+    (no_faults (first_offset reads_owed given among z ends) reads_owed.done
+    (sym reads_owed.flag))
+
+-- two steps, of which the second gives no bytes
+pub PassesFaults-turn : (given : ℕ) (a b c : ReaderState) (x : List ℕ) (faults : List (ℕ × ℕ))
+    → (b.ended ≡ true → c.ended ≡ true) → PassesFaults given a b x []
+    → PassesFaults (given + length x) b c [] faults → PassesFaults given a c x faults
+PassesFaults-turn given a b c x faults stays_ended first turn z ends =
+    let same : given + length x + 0 ≡ given + length x = omega arith in
+    first z (λ e. ends (stays_ended e)) ∙ turn z ends ∙ ap (λ n. faults ++ owed_faults n c z) same
+
+-- the count
+
+pub CountsBytes-none : (s : ReaderState) (n : ℕ) → CountsBytes s s n n []
+CountsBytes-none s n = record {
+  counted = λ given counted. let same : given ≡ given + 0 = omega arith in
+      counted ∙ ap (λ m. min m (2 ^ 64 - 1)) same;
+  among = omega arith;
+}
+
+pub CountsBytes-then : {a b c : ReaderState} {n₀ n₁ n₂ : ℕ} (x y : List ℕ)
+    → CountsBytes a b n₀ n₁ x → CountsBytes b c n₁ n₂ y → CountsBytes a c n₀ n₂ (x ++ y)
+CountsBytes-then x y first then_more = record {
+  counted = λ given counted.
+      let same : given + length x + length y ≡ given + length (x ++ y) =
+      omega (arith, length-append x y) in
+      then_more.counted (given + length x) (first.counted given counted)
+      ∙ ap (λ m. min m (2 ^ 64 - 1)) same;
+  among = omega (arith, first.among, then_more.among, length-append x y);
+}
+
+pub HasGiven-then : {old new : ReaderState} {n₀ n₁ : ℕ} {bytes : List ℕ}
+    → CountsBytes old new n₀ n₁ bytes → (given : ℕ) → HasGiven n₀ old given
+    → HasGiven n₁ new (given + length bytes)
+HasGiven-then counts given has = record {
+  counted = counts.counted given has.counted;
+  among = omega (arith, counts.among, has.among);
+}
+
+pub HandsOutCounted-by : {k₀ k₁ : Option (List ℕ)} {old new : ReaderState} {n₀ n₁ : ℕ}
+    {wrote : List ℕ} {had_before had_after : Bool}
+    (hands_out : HandsOut k₀ k₁ old new wrote had_before had_after)
+    → ((given : ℕ) → HasGiven n₀ old given → HasGiven n₁ new (given + length hands_out.bytes))
+    → HandsOutCounted k₀ k₁ old new n₀ n₁ wrote had_before had_after
+HandsOutCounted-by hands_out counts = record {
+  hands_out = hands_out;
+  counts = counts;
+  replaced = λ given has z ends. (
+    faults_from (first_offset hands_out.reads given has.among z ends) hands_out.reads.done,
+    passes_done hands_out.reads given has.among z ends,
+  );
+}
+
+-- a reader that has read nothing
+
+pub HasGiven-fresh : (handling : BomHandling) (e : Encoding) → HasGiven 0 (fresh_reader handling e) 0
+HasGiven-fresh handling e = record { counted = refl; among = omega arith }
+
+pub fresh_faults : (handling : BomHandling) (e : Encoding) (z : List ℕ)
+    → owed_faults 0 (fresh_reader handling e) z ≡ whole_faults handling e z
+fresh_faults handling e z =
+    let mark = mark_bytes (find_mark (marks_looked_for handling e) z) in
+    let start : 0 + length z - length (sequence_bytes (owed_sequences (fresh_reader handling e) z))
+    ≡ whole_start handling e z = omega (
+      arith,
+      ap length (joined handling e z),
+      length-append mark (sequence_bytes (whole_sequences handling e z)),
+      ap (λ ss. length (sequence_bytes ss)) (fresh_sequences handling e z),
+    ) in
+    ap (λ n. faults_from n (owed_sequences (fresh_reader handling e) z)) start
+    ∙ ap (faults_from (whole_start handling e z)) (sym (fresh_sequences handling e z))
+
+-- a chunk that is pulled, by places in the buffer
+pub PullsCounted-after : {t₀ t₁ : Option (List ℕ)} {d : DecoderState} {ended : Bool} {xs : List ℕ}
+    {n₀ n₁ : ℕ} (held n : ℕ) (ys : List ℕ)
+    → ended ≡ false → has_finished d ≡ false → take held ys ≡ xs → n ≤ length ys - held
+    → ConsumesRemaining t₀ t₁ (take n (drop held ys)) → n₁ ≡ min (n₀ + n) (2 ^ 64 - 1)
+    → PullsCounted t₀ t₁ (record { decoder = d; unread = xs; ended = ended })
+    (record { decoder = d; unread = take (held + n - 0) (drop 0 ys); ended = nat_eq n 0 }) n₀ n₁
+PullsCounted-after {xs = xs} held n ys not_ended going held_are bound given counted =
+    let pulled : length (take n (drop held ys)) ≡ n = omega (
+      arith,
+      length-take n (drop held ys),
+      length-drop held ys,
+    ) in
+    record {
+      pulls = PullsChunk-after held n ys not_ended going held_are bound given;
+      counts = record {
+        counted = λ m were. omega (arith, were, counted, pulled);
+        among = omega (
+          arith,
+          pulled,
+          ap length held_are,
+          length-take held ys,
+          length-take (held + n - 0) (drop 0 ys),
+        );
+      };
+    }
+
+-- A read up to now, and the bytes counted.
+pub record HasCounted (start now : ReaderPlace) (n₀ n₁ : ℕ) (wrote : List ℕ) (replaced waits : Bool)
+    (pulls : ℕ) : Type 0 where
+  pub read : HasRead start now wrote replaced waits pulls
+  pub counts : CountsBytes start.state now.state n₀ n₁ read.bytes
+
+abbrev pub HasCounted-turn : {known : Option (List ℕ)} {s₀ s : ReaderState} {n₀ n₁ : ℕ} {wrote : List ℕ}
+    {replaced waits : Bool}
+    → IsTurn s₀ s wrote replaced waits → CountsBytes s₀ s n₀ n₁ []
+    → HasCounted (reader_at known s₀) (reader_at known s) n₀ n₁ wrote replaced waits 0
+HasCounted-turn turn counts = record { read = HasRead-turn turn; counts = counts }
+
+abbrev pub HasCounted-more : {start now next : ReaderPlace} {pulled : ReaderState} {n₀ n₁ n₂ n₃ : ℕ}
+    {wrote : List ℕ} {r₀ r₁ waits : Bool} {pulls : ℕ} → HasCounted start now n₀ n₁ [] r₀ true pulls
+    → PullsCounted now.remaining next.remaining now.state pulled n₁ n₂
+    → IsTurn pulled next.state wrote r₁ waits → CountsBytes pulled next.state n₂ n₃ []
+    → HasCounted start next n₀ n₃ wrote (r₀ || r₁) waits (pulls + 1)
+HasCounted-more so_far pull turn counts = record {
+  read = HasRead-more so_far.read pull.pulls turn;
+  counts = rw (← append-nil pull.pulls.bytes)
+      (CountsBytes-then so_far.read.bytes (pull.pulls.bytes ++ []) so_far.counts
+      (CountsBytes-then pull.pulls.bytes [] pull.counts counts));
+}
+
+-- a read that has come to text or to the end
+abbrev pub HandsOut-read : {start now : ReaderPlace} {n₀ n₁ : ℕ} {wrote : List ℕ}
+    {replaced had_before had_after : Bool} {pulls : ℕ}
+    → HasCounted start now n₀ n₁ wrote replaced false pulls → had_after ≡ (had_before || replaced)
+    → (now.state.ended ≡ true → IsExhausted now.remaining)
+    → HandsOut start.remaining now.remaining start.state now.state wrote had_before had_after
+HandsOut-read {replaced = replaced} counted flag exhausted = record {
+  bytes = counted.read.bytes;
+  malformed = replaced;
+  reads = counted.read.reads;
+  flag = flag;
+  exhausted = exhausted;
+}
+
+pub HandsOutCounted-read : {start now : ReaderPlace} {n₀ n₁ : ℕ} {wrote : List ℕ}
+    {replaced had_before had_after : Bool} {pulls : ℕ}
+    → HasCounted start now n₀ n₁ wrote replaced false pulls → had_after ≡ (had_before || replaced)
+    → (now.state.ended ≡ true → IsExhausted now.remaining)
+    → HandsOutCounted start.remaining now.remaining start.state now.state n₀ n₁ wrote had_before
+    had_after
+HandsOutCounted-read counted flag exhausted =
+    HandsOutCounted-by (HandsOut-read counted flag exhausted) (HasGiven-then counted.counts)

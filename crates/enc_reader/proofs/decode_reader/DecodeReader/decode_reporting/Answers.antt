@@ -1,0 +1,59 @@
+use Rattle.std.proofs.Common.{rules, ◌≡◌, ◌≤◌, length, take, true, false, ap, sym, ◌∙◌}
+use Rattle.enc_stream.specs.Decoding.{has_finished}
+use Rattle.enc_reader.specs.Reader.{state_of}
+use Rattle.enc_reader.proofs.TurnLemmas.{CountsBytes-call, chunk_can_decode, left_of, all_read}
+use Rattle.enc_stream.proofs.DecoderProgressLemmas.{ends_read}
+use Rattle.enc_reader.proofs.ReportingLemmas.{IsTurn-reporting, TurnPassesFaults-call, nothing_handed}
+use Rattle.enc_reader.proofs.decode_reader.DecodeReader.decode_reporting.Goals as goal
+
+pub returns-clause-turn : goal.returns-clause-turn
+returns-clause-turn g c =
+    let reader = c.args.self.now in
+    let call = c.report_unread-call in
+    let decodes = call.ensures.call.decodes in
+    let lens = c.reported_lens-malformed.ensures in
+    let within : call.result.written ≤ length call.new.dst = search rules in
+    rw (lens, call.ensures.kept)
+    (IsTurn-reporting (state_of reader) decodes
+    (chunk_can_decode reader.filled reader.at reader.input.now (search rules) reader.decoded
+    reader.within c.if-self.false c.requires.room)
+    c.waits_on-waits.result
+    (left_of reader.filled reader.at _ reader.input.now reader.decoded decodes.call.within)
+    (λ t. let waits = c.waits_on-waits.ensures.waits t in
+    let going : has_finished call.new.decoder ≡ false = search rules in
+    (ap (λ n. take n call.new.dst) waits.0, sym lens ∙ waits.1, going))
+    (λ f e. let none = nothing_handed _ _ _ within e in
+    let ended = c.waits_on-waits.ensures.goes_on f none.0 (lens ∙ none.1) in
+    let finished : has_finished call.new.decoder ≡ true = search rules in finished))
+
+pub returns-clause-faults : goal.returns-clause-faults
+returns-clause-faults g c =
+    let reader = c.args.self.now in
+    let call = c.report_unread-call in
+    let decodes = call.ensures.call.decodes in
+    rw (c.reported_lens-malformed.ensures, call.ensures.kept)
+    (TurnPassesFaults-call (state_of reader) decodes
+    (chunk_can_decode reader.filled reader.at reader.input.now (search rules) reader.decoded
+    reader.within c.if-self.false c.requires.room)
+    (left_of reader.filled reader.at _ reader.input.now reader.decoded decodes.call.within))
+
+pub returns-clause-counts : goal.returns-clause-counts
+returns-clause-counts g c =
+    let reader = c.args.self.now in
+    let call = c.report_unread-call in
+    let decodes = call.ensures.call.decodes in
+    rw call.ensures.kept
+    (CountsBytes-call (state_of reader) decodes
+    (chunk_can_decode reader.filled reader.at reader.input.now (search rules) reader.decoded
+    reader.within c.if-self.false c.requires.room)
+    (left_of reader.filled reader.at _ reader.input.now reader.decoded decodes.call.within))
+
+pub invariant_of-self-clause-decoded : goal.invariant_of-self-clause-decoded
+invariant_of-self-clause-decoded g c =
+    let reader = c.args.self.now in
+    all_read reader.filled reader.at _ reader.input.now reader.decoded
+    c.report_unread-call.ensures.call.decodes.call.within
+
+pub invariant_of-self-clause-seen : goal.invariant_of-self-clause-seen
+invariant_of-self-clause-seen g c =
+    λ f. (ends_read _ c.report_unread-call.ensures.call.decodes f).0

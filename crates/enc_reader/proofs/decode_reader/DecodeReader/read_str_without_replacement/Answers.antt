@@ -1,0 +1,72 @@
+use Rattle.std.proofs.Common.{rules, ◌≡◌, ◌-◌, length, take, drop, [], ◌∷◌, None, refl, ap, sym, ◌∙◌, arith}
+use Rattle.std.proofs.Math.ListN.{length-drop}
+use Rattle.std.proofs.lemmas.List.{length-take}
+use Rattle.enc_decoder.proofs.SequenceLemmas.{or_false, or_true}
+use Rattle.enc_reader.proofs.ReportingLemmas.{HasReported-turn, HasReported-more, ReportsFaults-read}
+use Rattle.enc_reader.proofs.decode_reader.DecodeReader.read_str_without_replacement.Goals as goal
+
+pub pulls-init : goal.pulls-init
+pulls-init g c =
+    let turn = c.decode_reporting-turn in
+    record {
+      reported = rw turn.ensures.reader
+          (HasReported-turn turn.ensures.turn turn.ensures.faults turn.ensures.counts);
+      within = search rules;
+      text = search rules;
+      rest = search rules;
+      none = search rules;
+      unreported = search rules;
+      room = search rules;
+      going = search rules;
+      had_errors = search rules;
+      kept = search rules;
+      same_reader = search rules;
+    }
+
+pub pulls-preserved : goal.pulls-preserved
+pulls-preserved g c =
+    let turn = c.decode_reporting-turn-in-pulls in
+    let invariant = c.pulls.invariant in
+    let none : take c.pulls.turn.written c.pulls.dst ≡ [] =
+    ap (λ n. take n c.pulls.dst) (invariant.none c.pulls-test.true) in
+    let waited = rw (none, invariant.unreported c.pulls-test.true, c.pulls-test.true)
+    at invariant.reported in
+    record {
+      reported = rw turn.ensures.reader
+          (HasReported-more waited c.in_ok-pull.ensures.ok turn.ensures.turn turn.ensures.faults
+          turn.ensures.counts);
+      within = search rules;
+      text = search rules;
+      rest = search rules;
+      none = search rules;
+      unreported = search rules;
+      room = search rules;
+      going = search rules;
+      had_errors = search rules;
+      kept = search rules;
+      same_reader = search rules;
+    }
+
+pub returns-in_default-clause-ok : goal.returns-in_default-clause-ok
+returns-in_default-clause-ok g c =
+    let invariant = c.pulls.invariant in
+    let none : c.pulls.turn.malformed ≡ None = search rules in
+    let reported = rw (none, c.pulls-test.false) at invariant.reported in
+    ReportsFaults-read reported
+    (invariant.had_errors ∙ sym (or_false c.args.self.now.had_errors)) c.pulls.self.exhausted refl
+
+pub returns-clause-ok : goal.returns-clause-ok
+returns-clause-ok g c =
+    let reader = c.pulls.self in
+    let lens = c.in-Some.lens in
+    let reported = rw (c.in-Some.is, c.pulls-test.false) at c.pulls.invariant.reported in
+    let unread : length (take (reader.filled - reader.at) (drop reader.at reader.input.now))
+    ≡ reader.filled - reader.at = omega (
+      arith,
+      reader.within,
+      length-take (reader.filled - reader.at) (drop reader.at reader.input.now),
+      length-drop reader.at reader.input.now,
+    ) in
+    ReportsFaults-read reported (sym (or_true c.args.self.now.had_errors)) reader.exhausted
+    (ap (λ n. (reader.given - n - lens.after - lens.len, lens.len) ∷ []) unread
+    ∙ ap (λ n. (n, lens.len) ∷ []) (sym c.offset_of.ensures))

@@ -1,0 +1,10 @@
+use Rattle.enc_reader.proofs.CountingLemmas.{HasGiven-fresh, fresh_faults}
+use Rattle.enc_reader.proofs.decode_reader.DecodeReader.with_bom_handling.Goals as goal
+
+pub returns-clause-given : goal.returns-clause-given
+returns-clause-given g c =
+    rw c.new_decoder.ensures (HasGiven-fresh c.args.handling c.args.encoding)
+
+pub returns-clause-faults : goal.returns-clause-faults
+returns-clause-faults g c =
+    λ z. rw c.new_decoder.ensures (fresh_faults c.args.handling c.args.encoding z)

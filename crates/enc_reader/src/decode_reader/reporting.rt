@@ -1,0 +1,255 @@
+//! Reads without replacement, which report malformed sequences.
+
+ghost use Rattle.std.specs.Prelude.{◌≡◌, ◌-◌, ◌<◌, ◌≤◌, ◌↔◌, ◌++◌, length, take, drop, true};
+ghost use Rattle.std.specs.Prelude.{[], false, None, IsUtf8, IfOk, OnOk, OnErr, IsErrOf};
+ghost use Rattle.std.specs.Char.{encode_utf8};
+ghost use Rattle.enc_decoder.specs.Call.{Fatal};
+ghost use Rattle.enc_stream.specs.Decoding.{has_finished, AnswersDecode};
+ghost use Rattle.enc_reader.specs.Reporting.{lens_of_result, replacement_of_lens};
+ghost use Rattle.enc_reader.specs.Reporting.{reports_malformed};
+
+use super::{DecodeReader, ReadFault, UnreadPart};
+use crate::source::Source;
+use enc_stream::{Decoder, DecoderResult};
+
+/// Why a read without replacement stopped.
+#[derive(Clone, Copy, PartialEq, Eq, Debug)]
+pub enum ReadStop {
+    /// Text of that many bytes is written, 0 only at the end.
+    Text(usize),
+    /// A malformed sequence follows the text.
+    Malformed {
+        /// The number of bytes of text written, which may be 0.
+        written: usize,
+        /// The offset of the sequence's first byte in the whole input, in bytes.
+        offset: u64,
+        /// The length of the sequence in bytes.
+        len: u8,
+    },
+}
+
+/// The lengths that the decoder reports of a malformed sequence.
+#[derive(Clone, Copy)]
+struct MalformedLens {
+    /// The length of the sequence in bytes.
+    len: u8,
+    /// The number of bytes read after it.
+    after: u8,
+}
+
+/// The outcome of a call of the decoder without replacement.
+#[derive(Clone, Copy)]
+struct ReportingOutcome {
+    result: DecoderResult,
+    /// The number of bytes read.
+    read: usize,
+    /// The number of bytes of text written.
+    written: usize,
+}
+
+/// The outcome of a turn of the decoder without replacement.
+#[derive(Clone, Copy)]
+struct ReportingTurn {
+    /// The number of bytes of text written.
+    written: usize,
+    /// The malformed sequence that follows the text.
+    malformed: Option<MalformedLens>,
+    /// Whether more bytes must be read: there is neither text nor a malformed sequence nor the end.
+    waits: bool,
+}
+
+/// Decodes the unread part of `input` up to a malformed sequence. (The buffer is passed on as it is
+/// borrowed, so that its bytes are known to stay.)
+fn report_unread(
+    decoder: &mut Decoder,
+    input: &mut [u8],
+    unread: UnreadPart,
+    dst: &mut [u8],
+    last: bool,
+) -> ReportingOutcome
+    requires going { has_finished decoder.old ≡ false }
+    requires before { unread.at ≤ unread.filled }
+    requires within { unread.filled ≤ length input.old }
+    ensures call { AnswersDecode encode_utf8 4 decoder.old decoder.new (record {
+      src = take (unread.filled - unread.at) (drop unread.at input.old);
+      last = last;
+      mode = Fatal false;
+      room = length dst.old;
+      result = result.result;
+      read = result.read;
+      wrote = take result.written dst.new;
+      replaced = false;
+    }) }
+    ensures written { result.written ≤ length dst.old }
+    ensures text { IsUtf8 (take result.written dst.new) }
+    ensures rest { drop result.written dst.new ≡ drop result.written dst.old }
+    ensures kept { input.new ≡ input.old }
+{
+    let src = &input[unread.at..unread.filled];
+    let (result, read, written) = decoder.decode_to_utf8_without_replacement(src, dst, last);
+    ReportingOutcome {
+        result,
+        read,
+        written,
+    }
+}
+
+/// Returns the lengths that a call has reported, if it has reported a malformed sequence.
+fn reported_lens(stop: DecoderResult) -> Option<MalformedLens>
+    ensures { result ≡ lens_of_result stop }
+{
+    match stop {
+        DecoderResult::InputEmpty => None,
+        DecoderResult::OutputFull => None,
+        DecoderResult::Malformed(len, after) => Some(MalformedLens { len, after }),
+    }
+}
+
+/// Returns whether a call has done nothing and has not come to the end.
+fn waits_on(written: usize, malformed: Option<MalformedLens>, finished: bool) -> bool
+    ensures waits { result ≡ true → (written ≡ 0) × (malformed ≡ None) × (finished ≡ false) }
+    ensures goes_on { result ≡ false → written ≡ 0 → malformed ≡ None → finished ≡ true }
+{
+    if written > 0 || finished {
+        return false;
+    }
+    malformed.is_none()
+}
+
+impl<'a, R: Source> DecodeReader<'a, R> {
+    ghost use Rattle.enc_reader.specs.Reading.{FailsToRead, IsReaderAtEnd};
+    ghost use Rattle.enc_reader.specs.Turn.{IsTurn};
+    ghost use Rattle.enc_reader.specs.Counting.{CountsBytes};
+    ghost use Rattle.enc_reader.specs.Reporting.{ReportsFaults, TurnPassesFaults, written_of};
+    ghost use Rattle.enc_reader.specs.Reporting.{faults_of, replacement_of};
+    ghost use Rattle.enc_reader.specs.Reader.{state_of};
+
+    /// Decodes the unread bytes, or the end, as far as there is room, up to a malformed sequence.
+    fn decode_reporting(&mut self, dst: &mut [u8]) -> ReportingTurn
+        requires room { 4 ≤ length dst.old }
+        ensures turn { IsTurn (state_of self.old) (state_of self.new)
+            (take result.written dst.new ++ replacement_of_lens result.malformed)
+            (reports_malformed result.malformed) result.waits }
+        ensures faults { TurnPassesFaults (state_of self.old) (state_of self.new)
+            result.malformed }
+        ensures counts { CountsBytes (state_of self.old) (state_of self.new) self.old.given
+            self.new.given [] }
+        ensures written { result.written ≤ length dst.new }
+        ensures text { IsUtf8 (take result.written dst.new) }
+        ensures rest { drop result.written dst.new ≡ drop result.written dst.old }
+        ensures waits { result.waits ≡ true → result.written ≡ 0 }
+        ensures unreported { result.waits ≡ true → result.malformed ≡ None }
+        ensures reader { self.new.reader ≡ self.old.reader }
+        ensures failed { self.new.failed ≡ self.old.failed }
+        ensures had_errors { self.new.had_errors ≡ self.old.had_errors }
+    {
+        if self.decoder.is_finished() {
+            return ReportingTurn {
+                written: 0,
+                malformed: None,
+                waits: false,
+            };
+        }
+        if (self.at == self.filled) & !self.ended {
+            return ReportingTurn {
+                written: 0,
+                malformed: None,
+                waits: true,
+            };
+        }
+        let unread = UnreadPart {
+            at: self.at,
+            filled: self.filled,
+        };
+        let call = report_unread(&mut self.decoder, self.input, unread, dst, self.ended);
+        self.at += call.read;
+        let malformed = reported_lens(call.result);
+        let waits = waits_on(call.written, malformed, self.decoder.is_finished());
+        ReportingTurn {
+            written: call.written,
+            malformed,
+            waits,
+        }
+    }
+
+    /// Returns the offset of a malformed sequence that the decoder has reported, in the whole
+    /// input: its bytes are those before the last ones decoded.
+    fn offset_of(&self, lens: MalformedLens) -> u64
+        ensures { result ≡ self.now.given - (self.now.filled - self.now.at) - lens.after
+            - lens.len }
+    {
+        self.given
+            .saturating_sub((self.filled - self.at) as u64)
+            .saturating_sub(lens.after as u64)
+            .saturating_sub(lens.len as u64)
+    }
+
+    /// Writes the next text to `dst`, in UTF-8, up to a malformed sequence, which it reports.
+    ///
+    /// - `Text(n)`: n bytes are written, as many whole characters as fit. It is `Text(0)` only at
+    ///   the end, and then in each later read.
+    /// - `Malformed`: text is written, which may be empty, and a malformed sequence follows it. The
+    ///   next read goes on after the sequence. It is reported whether or not U+FFFD would fit. A
+    ///   caller who puts U+FFFD in its place gets the text of [`DecodeReader::read_str`]. Its offset
+    ///   counts all bytes that the source has given to this reader, a byte order mark included. It
+    ///   is exact while the source has given fewer than 2^64 bytes.
+    ///
+    /// Every malformed sequence of the input is reported in order, except those that other reads
+    /// replace, which may come between. [`DecodeReader::had_errors`] is true after a report too.
+    /// The source is read only while this read has nothing to return, so the text may be shorter
+    /// than the room. The bytes of `dst` after the text are unchanged. Takes no memory. Condition:
+    /// `dst` has at least four bytes.
+    ///
+    /// Errors write nothing: `Reader` if the source failed in this read, and `Failed` in each later
+    /// read.
+    pub fn read_str_without_replacement(&mut self, dst: &mut [u8]) -> Result<ReadStop, ReadFault>
+        requires { 4 ≤ length dst.old }
+        ensures ok { IfOk result (λ stop. ReportsFaults (R.remaining self.old.reader.now)
+            (R.remaining self.new.reader.now) (state_of self.old) (state_of self.new)
+            self.old.given self.new.given (take (written_of stop) dst.new ++ replacement_of stop)
+            (faults_of stop) self.old.had_errors self.new.had_errors) }
+        ensures within { IfOk result (λ stop. written_of stop ≤ length dst.new) }
+        ensures utf_8 { IfOk result (λ stop. IsUtf8 (take (written_of stop) dst.new)) }
+        ensures rest { IfOk result (λ stop. drop (written_of stop) dst.new
+            ≡ drop (written_of stop) dst.old) }
+        ensures end { IfOk result (λ stop. stop ≡ ReadStop.Text 0
+            → IsReaderAtEnd (R.remaining self.new.reader.now) (state_of self.new)) }
+        ensures kept { OnOk result (R.has_failed self.new.reader.now
+            ≡ R.has_failed self.old.reader.now) }
+        ensures unwritten { OnErr result (dst.new ≡ dst.old) }
+        ensures no_error { OnErr result (self.new.had_errors ≡ self.old.had_errors) }
+        ensures reader_fault { IsErrOf result ReadFault.Reader
+            → FailsToRead (R.remaining self.old.reader.now) (R.remaining self.new.reader.now)
+            (R.has_failed self.old.reader.now) (R.has_failed self.new.reader.now)
+            (state_of self.old) (state_of self.new) }
+        ensures from_then_on { IsErrOf result ReadFault.Failed ↔ self.old.failed ≡ true }
+        ensures unchanged { IsErrOf result ReadFault.Failed → self.new ≡ self.old }
+        ensures going { OnOk result (self.new.failed ≡ false) }
+        ensures failed { OnErr result (self.new.failed ≡ true) }
+        ensures same_reader { self.new.reader.ghost_name ≡ self.old.reader.ghost_name }
+    {
+        if self.failed {
+            return Err(ReadFault::Failed);
+        }
+        let mut turn = self.decode_reporting(dst);
+        let mut pulls = 0;
+        'pulls: while turn.waits {
+            if pulls == u64::MAX {
+                self.failed = true;
+                return Err(ReadFault::Reader);
+            }
+            pulls += 1;
+            self.pull()?;
+            turn = self.decode_reporting(dst);
+        }
+        let Some(lens) = turn.malformed else {
+            return Ok(ReadStop::Text(turn.written));
+        };
+        self.had_errors = true;
+        Ok(ReadStop::Malformed {
+            written: turn.written,
+            offset: self.offset_of(lens),
+            len: lens.len,
+        })
+    }
+}

@@ -1,0 +1,36 @@
+//! The texts of the faults of a reader.
+
+ghost use Rattle.std.specs.Prelude.{◌≡◌};
+ghost use Rattle.std.specs.IoError.{error_kind};
+ghost use Rattle.std.specs.declared.io.ErrorKind.TheVariants.{Other};
+
+use crate::decode_reader::ReadFault;
+use std::error::Error;
+use std::fmt;
+use std::io;
+
+/// Returns what a fault says.
+fn fault_text(fault: &ReadFault) -> &'static str {
+    match fault {
+        ReadFault::Reader => "the source of the text failed",
+        ReadFault::Failed => "the reader of the text has failed before",
+    }
+}
+
+impl fmt::Display for ReadFault {
+    /// Writes one phrase.
+    fn fmt<W: fmt::Write>(&self, f: &mut fmt::Formatter<W>) -> fmt::Result {
+        f.pad(fault_text(self))
+    }
+}
+
+impl Error for ReadFault {}
+
+impl From<ReadFault> for io::Error {
+    ghost from_gives = { λ _ error. error_kind error ≡ Other };
+
+    /// Returns an error of the kind `Other` with the text of the fault.
+    fn from(fault: ReadFault) -> io::Error {
+        io::Error::other(fault_text(&fault))
+    }
+}
