@@ -5,3 +5,4 @@ pub mod Counting
 pub mod Reporting
 pub mod Reader
 pub mod HeldText
+pub mod Errors

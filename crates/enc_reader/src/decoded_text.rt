@@ -10,7 +10,7 @@ ghost use Rattle.std.specs.Io.BufRead.{DropsConsumable};
 ghost use Rattle.enc_reader.specs.Reader.{IsAtHand};
 
 use crate::decode_reader::{DecodeReader, HandedText, ReadFault};
-use crate::line_fault::{LineFault, error_of};
+use crate::line_fault::LineFault;
 use crate::lines::{append, line_len};
 use crate::source::Source;
 use std::io;
@@ -197,7 +197,7 @@ impl<'a, R: Source> Read for DecodedText<'a, R> {
     /// A fault of the reader is an error of the kind `Other`. Nothing is lost then.
     fn read(&mut self, buf: &mut [u8]) -> io::Result<usize> {
         if let Err(fault) = self.fill() {
-            return Err(error_of(&fault));
+            return Err(io::Error::from(fault));
         }
         let held = self.held();
         let len = held.len().min(buf.len());
@@ -218,7 +218,7 @@ impl<'a, R: Source> BufRead for DecodedText<'a, R> {
     /// A fault of the reader is an error of the kind `Other`. Nothing is lost then.
     fn fill_buf(&mut self) -> io::Result<&[u8]> {
         if let Err(fault) = self.fill() {
-            return Err(error_of(&fault));
+            return Err(io::Error::from(fault));
         }
         Ok(self.held())
     }

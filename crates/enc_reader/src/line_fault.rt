@@ -25,7 +25,7 @@ impl fmt::Display for LineFault {
     /// Writes the reason.
     fn fmt<W: fmt::Write>(&self, f: &mut fmt::Formatter<W>) -> fmt::Result {
         match self {
-            LineFault::Read(fault) => write!(f, "{}", message_of(fault)),
+            LineFault::Read(fault) => fault.fmt(f),
             LineFault::Memory => write!(f, "out of memory"),
             LineFault::MidCharacter => write!(f, "a part of a character is taken"),
         }
@@ -43,29 +43,18 @@ impl From<ReadFault> for LineFault {
 }
 
 impl From<LineFault> for io::Error {
+    ghost use Rattle.enc_reader.specs.Errors.{line_error_kind};
+
+    ghost from_gives = { λ line error. error_kind error ≡ line_error_kind line };
+
     /// A fault of the reader is of the kind `Other`, and a part of a character of `InvalidData`.
     fn from(fault: LineFault) -> io::Error {
         match fault {
-            LineFault::Read(fault) => error_of(&fault),
+            LineFault::Read(fault) => io::Error::from(fault),
             LineFault::Memory => io::Error::from(ErrorKind::OutOfMemory),
             LineFault::MidCharacter => {
                 io::Error::new(ErrorKind::InvalidData, "a part of a character is taken")
             }
         }
     }
-}
-
-/// Returns what a fault of a reader is.
-fn message_of(fault: &ReadFault) -> &'static str {
-    match fault {
-        ReadFault::Reader => "the source of the text failed",
-        ReadFault::Failed => "the source of the text has failed before",
-    }
-}
-
-/// Returns a fault of a reader as an error of the kind `Other`.
-pub(crate) fn error_of(fault: &ReadFault) -> io::Error
-    ensures { error_kind result ≡ ErrorKind.Other }
-{
-    io::Error::other(message_of(fault))
 }
