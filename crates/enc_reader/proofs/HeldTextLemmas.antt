@@ -1,12 +1,12 @@
 -- Text that is held between two calls: taking it, and lines of it.
 use Rattle.std.proofs.Common.{◌≡◌, ℕ, ◌+◌, ◌-◌, ◌<◌, ◌≤◌, inl, inr, Bool, true, false, ◌||◌, List, [], ◌++◌}
 use Rattle.std.proofs.Common.{length, take, drop, Option, Some, None, IfSome, refl, ap, ◌∙◌, sym, subst, arith}
-use Rattle.std.proofs.Common.{append_assoc, append-nil, length-append, if◌then◌else◌, take-append-drop}
+use Rattle.std.proofs.Common.{append_assoc, append-nil, if◌then◌else◌, take-append-drop}
 use Rattle.std.proofs.Common.{nat_lt, ltb-true, ltb-false, take_all, take_at, get_or}
 use Rattle.std.proofs.Math.ListN.{length-drop}
 use Rattle.std.proofs.lemmas.List.{length-take, nil_from_length}
 use Rattle.std.specs.declared.result.Result.{Result}
-use Rattle.std.specs.Prelude.{Ok, Err, IsErrOf}
+use Rattle.std.specs.Prelude.{Err, IsErrOf}
 use Rattle.std.specs.Char.{encode_utf8}
 use Rattle.std.specs.Str.{IsUtf8, IsCharBoundary}
 use Rattle.std.proofs.lemmas.Str.{IsUtf8-take, IsUtf8-drop, IsCharBoundary-after_ascii, IsCharBoundary-from_take}

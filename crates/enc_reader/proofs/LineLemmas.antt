@@ -9,9 +9,10 @@ use Rattle.std.proofs.Transfers.{StopsAt-of_All, StopsAt-take, StopsAt-append, d
 use Rattle.std.specs.Io.{appended_bytes}
 use Rattle.std.specs.Io.KnownBytes.{Consumes}
 use Rattle.enc_reader.specs.Source.{IsExhausted}
-use Rattle.enc_reader.specs.Reading.{ReaderState}
+use Rattle.enc_reader.specs.Reading.{ReaderState, FailsToRead}
 use Rattle.enc_reader.specs.HeldText.{TextState, TakesText, IsTextAtEnd, EndsWithByte, AppendsText, AppendsLine}
-use Rattle.enc_reader.specs.HeldText.{remaining_text}
+use Rattle.enc_reader.specs.HeldText.{SourceFails, remaining_text}
+use Rattle.enc_reader.proofs.SourceLemmas.{ConsumesRemaining-then}
 use Rattle.enc_reader.proofs.HeldTextLemmas.{holding, TakesText-none, TakesText-then, TakesText-held, takes_known}
 
 abbrev is_no_feed : ℕ → Type 0
@@ -127,3 +128,20 @@ AppendsText-known {t₀ = t₀} {t₁ = t₁} {a = a} {b = b} {l₀ = l₀} {l�
     subst (Consumes (remaining_text t₀ a) (remaining_text t₁ b))
     (sym (drop-appended l₀ l₁ appends.wrote appends.appended))
     (takes_known t₀ t₁ a b appends.wrote appends.takes exhausted)
+
+-- a source that fails after parts without a line feed
+module _ {t₀ t₁ t₂ : Option (List ℕ)} {failed_before failed_between failed_after : Bool} where
+  pub SourceFails-after : {a b : TextState} {c : ReaderState} {l₀ l₁ : List ℕ}
+      → AppendsLine t₀ t₁ a b l₀ l₁ false → failed_between ≡ failed_before
+      → FailsToRead t₁ t₂ failed_between failed_after b.reader c
+      → SourceFails t₀ t₂ failed_before failed_after
+  SourceFails-after so_far kept fails = record {
+    bytes = so_far.takes.bytes ++ fails.bytes;
+    given = ConsumesRemaining-then t₀ t₁ t₂ so_far.takes.bytes fails.bytes
+        so_far.takes.reads.given fails.reads.given;
+    not_before = sym kept ∙ fails.not_before;
+    why = elim fails.why [
+      | inl failed ↦ inl failed
+      | inr long ↦ inr (omega (arith, long, length-append so_far.takes.bytes fails.bytes))
+    ];
+  }

@@ -1,11 +1,12 @@
 -- Text that is taken byte by byte or line by line, from a reader whose text is held in between.
-use Rattle.std.specs.Prelude.{◌≡◌, ◌≢◌, ℕ, ◌-◌, ◌<◌, ◌⊎◌, Bool, true, false, List, [], ◌++◌, length, drop, slice_index}
-use Rattle.std.specs.Prelude.{All, Option, option_map}
+use Rattle.std.specs.Prelude.{◌≡◌, ◌≢◌, ℕ, ◌-◌, ◌^◌, ◌<◌, ◌≤◌, ◌⊎◌, Bool, true, false, List, [], ◌++◌}
+use Rattle.std.specs.Prelude.{length, drop, slice_index, All, Option, option_map}
 use Rattle.std.specs.Char.{encode_utf8}
 use Rattle.std.specs.Io.{StopsAt}
 use Rattle.enc_units.specs.Output.{units_of_text}
 use Rattle.enc_decoder.specs.Sequence.{sequence_text}
 use Rattle.enc_reader.specs.declared.decoded_text.DecodedText.{DecodedText}
+use Rattle.enc_reader.specs.Source.{ConsumesRemaining}
 use Rattle.enc_reader.specs.Reading.{ReaderState, ReadsOwed, IsReaderAtEnd, owed_sequences}
 use Rattle.enc_reader.specs.Reader.{state_of, handed_text}
 
@@ -66,3 +67,11 @@ pub record AppendsLine (remaining_before remaining_after : Option (List ℕ)) (o
   pub stops : StopsAt wrote 10
   pub part : is_whole ≡ false → All (λ b. b ≢ 10) wrote
   pub whole : is_whole ≡ true → EndsWithByte 10 wrote ⊎ IsTextAtEnd remaining_after new
+
+-- The source, which had not failed before, failed meanwhile, or gave at least 2^64 - 1 bytes.
+pub record SourceFails (remaining_before remaining_after : Option (List ℕ))
+    (failed_before failed_after : Bool) : Type 0 where
+  pub bytes : List ℕ
+  pub given : ConsumesRemaining remaining_before remaining_after bytes
+  pub not_before : failed_before ≡ false
+  pub why : (failed_after ≡ true) ⊎ (2 ^ 64 - 1 ≤ length bytes)

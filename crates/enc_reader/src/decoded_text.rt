@@ -36,7 +36,9 @@ pub struct DecodedText<'a, R: Source> {
 
 impl<'a, R: Source> DecodedText<'a, R> {
     ghost use Rattle.enc_reader.specs.HeldText.{text_state_of, remaining_text, TakesText};
-    ghost use Rattle.enc_reader.specs.HeldText.{IsTextAtEnd, AppendsText, AppendsLine};
+    ghost use Rattle.enc_reader.specs.Reader.{state_of};
+    ghost use Rattle.enc_reader.specs.Reading.{FailsToRead};
+    ghost use Rattle.enc_reader.specs.HeldText.{IsTextAtEnd, AppendsText, AppendsLine, SourceFails};
 
     /// Returns the text that `reader` still hands out, through the buffer `text`.
     ///
@@ -92,6 +94,16 @@ impl<'a, R: Source> DecodedText<'a, R> {
             → IsTextAtEnd (R.remaining self.new.reader.reader.now) (text_state_of self.new)) }
         ensures utf_8 { IsUtf8 (text_state_of self.old).held
             → IsUtf8 (text_state_of self.new).held }
+        ensures reader_fault { IsErrOf result ReadFault.Reader
+            → FailsToRead (R.remaining self.old.reader.reader.now)
+            (R.remaining self.new.reader.reader.now) (R.has_failed self.old.reader.reader.now)
+            (R.has_failed self.new.reader.reader.now) (state_of self.old.reader)
+            (state_of self.new.reader) }
+        ensures failed_before { IsErrOf result ReadFault.Failed
+            → self.old.reader.failed ≡ true }
+        ensures kept { OnOk result (R.has_failed self.new.reader.reader.now
+            ≡ R.has_failed self.old.reader.reader.now) }
+        ensures going { OnOk result (self.new.reader.failed ≡ self.old.reader.failed) }
         ensures same_reader { self.new.reader.reader.ghost_name
             ≡ self.old.reader.reader.ghost_name }
     {
@@ -129,6 +141,16 @@ impl<'a, R: Source> DecodedText<'a, R> {
             → IsUtf8 (text_state_of self.new).held }
         ensures cut { IsErrOf result LineFault.MidCharacter
             → IsUtf8 (text_state_of self.old).held → ⊥ }
+        ensures reader_fault { IsErrOf result (LineFault.Read ReadFault.Reader)
+            → FailsToRead (R.remaining self.old.reader.reader.now)
+            (R.remaining self.new.reader.reader.now) (R.has_failed self.old.reader.reader.now)
+            (R.has_failed self.new.reader.reader.now) (state_of self.old.reader)
+            (state_of self.new.reader) }
+        ensures failed_before { IsErrOf result (LineFault.Read ReadFault.Failed)
+            → self.old.reader.failed ≡ true }
+        ensures kept { OnOk result (R.has_failed self.new.reader.reader.now
+            ≡ R.has_failed self.old.reader.reader.now) }
+        ensures going { OnOk result (self.new.reader.failed ≡ self.old.reader.failed) }
         ensures same_reader { self.new.reader.reader.ghost_name
             ≡ self.old.reader.reader.ghost_name }
     {
@@ -155,7 +177,8 @@ impl<'a, R: Source> DecodedText<'a, R> {
     /// After an `Err` nothing is lost: the text before the fault is appended, and the next call
     /// goes on after it.
     ///
-    /// - `Read`: the reader failed.
+    /// - `Read`: the reader failed, as [`DecodeReader::read_str`] does: `Reader` in this call, and
+    ///   `Failed` in each later one.
     /// - `Memory`: the text of the fault is still to be read.
     /// - `MidCharacter`: only if `read` or `consume` took a part of a character before.
     pub fn read_line(&mut self, line: &mut String) -> Result<usize, LineFault>
@@ -174,6 +197,15 @@ impl<'a, R: Source> DecodedText<'a, R> {
             → IsUtf8 (text_state_of self.new).held }
         ensures cut { IsErrOf result LineFault.MidCharacter
             → IsUtf8 (text_state_of self.old).held → ⊥ }
+        ensures reader_fault { IsErrOf result (LineFault.Read ReadFault.Reader)
+            → SourceFails (R.remaining self.old.reader.reader.now)
+            (R.remaining self.new.reader.reader.now) (R.has_failed self.old.reader.reader.now)
+            (R.has_failed self.new.reader.reader.now) }
+        ensures failed_before { IsErrOf result (LineFault.Read ReadFault.Failed)
+            → self.old.reader.failed ≡ true }
+        ensures kept { OnOk result (R.has_failed self.new.reader.reader.now
+            ≡ R.has_failed self.old.reader.reader.now) }
+        ensures going { OnOk result (self.new.reader.failed ≡ self.old.reader.failed) }
         ensures same_reader { self.new.reader.reader.ghost_name
             ≡ self.old.reader.reader.ghost_name }
     {

@@ -3,6 +3,7 @@
 ghost use Rattle.std.specs.Prelude.{◌≡◌, ◌≢◌, ◌+◌, ◌-◌, ◌<◌, ◌≤◌, ◌++◌, length, take, slice_index, All};
 ghost use Rattle.std.specs.Prelude.{OnOk, OnErr, IsErrOf, string_bytes, string_len};
 ghost use Rattle.std.specs.Str.{IsUtf8};
+ghost use Rattle.enc_reader.specs.declared.decode_reader.ReadFault.{ReadFault};
 
 use crate::line_fault::LineFault;
 
@@ -30,6 +31,7 @@ pub(crate) fn append(line: &mut String, bytes: &[u8]) -> Result<(), LineFault>
     ensures err { OnErr result (string_bytes line.new ≡ string_bytes line.old) }
     ensures same_len { OnErr result (string_len line.new ≡ string_len line.old) }
     ensures utf_8 { OnOk result (IsUtf8 bytes.now) }
+    ensures no_read { (fault : ReadFault) → IsErrOf result (LineFault.Read fault) → ⊥ }
     ensures cut { IsErrOf result LineFault.MidCharacter → IsUtf8 bytes.now → ⊥ }
 {
     let Ok(text) = str::from_utf8(bytes) else {

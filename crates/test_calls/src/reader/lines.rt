@@ -88,9 +88,17 @@ fn reads_lines_of_utf_16(rt: HostRuntime) -> Result<(), Fail> {
 #[test]
 fn reads_lines_of_legacy_encodings(rt: HostRuntime) -> Result<(), Fail> {
     let rows: [(Encoding, &[u8], &[&str]); 6] = [
-        (UTF_8, b"\xEF\xBB\xBFa\n\xE2\x82\n\xC3\xA9", &["a\n", "\u{FFFD}\n", "é"]),
+        (
+            UTF_8,
+            b"\xEF\xBB\xBFa\n\xE2\x82\n\xC3\xA9",
+            &["a\n", "\u{FFFD}\n", "é"],
+        ),
         (WINDOWS_1252, b"caf\xE9\n\x80", &["café\n", "€"]),
-        (SHIFT_JIS, b"\x93\xFA\n\x96\x7B\r\n\x81\n", &["日\n", "本\r\n", "\u{FFFD}\n"]),
+        (
+            SHIFT_JIS,
+            b"\x93\xFA\n\x96\x7B\r\n\x81\n",
+            &["日\n", "本\r\n", "\u{FFFD}\n"],
+        ),
         (BIG5, b"\x88\x62\n\x88\xA5", &["Ê\u{304}\n", "ê\u{30C}"]),
         (GB18030, b"\x81\n\x81\x30\n", &["\u{FFFD}\n", "\u{FFFD}0\n"]),
         (ISO_2022_JP, b"\x1B$BF|\x1B(B\n\x1B(J\\\n", &["日\n", "¥\n"]),

@@ -3,7 +3,8 @@ use Rattle.std.proofs.Common.{ap, sym, subst, ◌∙◌}
 use Rattle.std.proofs.Common.{nat_eq, get_or, get_or-take, string_bytes, length-take-le}
 use Rattle.std.proofs.lemmas.Bool.{eqb-false}
 use Rattle.std.specs.Str.{IsUtf8}
-use Rattle.enc_reader.specs.Reader.{state_of}
+use Rattle.std.specs.Prelude.{Err}
+use Rattle.enc_reader.specs.declared.decode_reader.ReadFault.TheVariants as fault
 use Rattle.enc_reader.specs.HeldText.{text_state_of, AppendsLine}
 use Rattle.enc_reader.proofs.HeldTextLemmas.{state_moved, subst_both, parts_utf_8}
 use Rattle.enc_reader.proofs.LineLemmas.{AppendsLine-held}
@@ -68,3 +69,21 @@ returns-clause-utf_8 g c =
     subst IsUtf8
     (ap (drop c.line_len-len.result) value ∙ sym c.advance.ensures.held)
     (parts_utf_8 held c.line_len-len.result whole some line.within line.ends).1
+
+pub returns-in-Err-clause-reader_fault : goal.returns-in-Err-clause-reader_fault
+returns-in-Err-clause-reader_fault g c = λ is_reader.
+    let same : c.in-Err.fault ≡ fault.Reader = cc in
+    c.fill.ensures.reader_fault (c.in-Err.is ∙ ap Err same)
+
+pub returns-in-Err-clause-failed_before : goal.returns-in-Err-clause-failed_before
+returns-in-Err-clause-failed_before g c = λ is_failed.
+    let same : c.in-Err.fault ≡ fault.Failed = cc in
+    c.fill.ensures.failed_before (c.in-Err.is ∙ ap Err same)
+
+pub returns-in_err-append-clause-reader_fault : goal.returns-in_err-append-clause-reader_fault
+returns-in_err-append-clause-reader_fault g c = λ is_reader.
+    absurd (c.append.ensures.no_read fault.Reader (search rules))
+
+pub returns-in_err-append-clause-failed_before : goal.returns-in_err-append-clause-failed_before
+returns-in_err-append-clause-failed_before g c = λ is_failed.
+    absurd (c.append.ensures.no_read fault.Failed (search rules))

@@ -1,4 +1,7 @@
-use Rattle.std.proofs.Common.{◌≡◌, ◌≤◌, [], length, ap, arith, subst, sym}
+use Rattle.std.proofs.Common.{◌≡◌, ◌≤◌, inl, inr, [], length, ap, arith, subst, sym, ◌∙◌}
+use Rattle.enc_decoder.proofs.FirstSequenceLemmas.{true_or_false}
+use Rattle.std.specs.Prelude.{Err}
+use Rattle.enc_reader.specs.declared.decode_reader.ReadFault.TheVariants as fault
 use Rattle.enc_reader.specs.Reader.{state_of}
 use Rattle.enc_reader.specs.HeldText.{text_state_of, TakesText}
 use Rattle.enc_reader.proofs.HeldTextLemmas.{held_length, none_held, by_fault, holding, TakesText-none}
@@ -40,3 +43,22 @@ returns-in-Err-clause-takes g c =
     (g.R.Source.remaining r.reader.now) (text_state_of text) (holding (state_of r) []) [])
     (sym (c.read_or_lend.ensures.unchanged failed))
     (TakesText-same _ _ _ none))
+
+pub returns-in-Err-clause-reader_fault : goal.returns-in-Err-clause-reader_fault
+returns-in-Err-clause-reader_fault g c = λ is_reader.
+    let same : c.in-Err.fault ≡ fault.Reader = cc in
+    c.read_or_lend.ensures.reader_fault (c.in-Err.is ∙ ap Err same)
+
+pub returns-in-Err-clause-failed_before : goal.returns-in-Err-clause-failed_before
+returns-in-Err-clause-failed_before g c = λ is_failed.
+    let same : c.in-Err.fault ≡ fault.Failed = cc in
+    c.read_or_lend.ensures.from_then_on.0 (c.in-Err.is ∙ ap Err same)
+
+pub returns-in-Ok-clause-going : goal.returns-in-Ok-clause-going
+returns-in-Ok-clause-going g c = elim (true_or_false c.args.self.now.reader.failed) [
+  | inl failed ↦ (
+      let is_err = c.read_or_lend.ensures.from_then_on.1 failed in
+      let is_ok = c.in-Ok.is in
+      absurd (cc))
+  | inr going ↦ c.in-Ok.ensures.going ∙ sym going
+]

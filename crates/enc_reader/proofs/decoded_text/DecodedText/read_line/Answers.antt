@@ -1,8 +1,8 @@
-use Rattle.std.proofs.Common.{rules, ◌≡◌, true, false, string_bytes, subst}
+use Rattle.std.proofs.Common.{rules, ◌≡◌, true, false, string_bytes, subst, sym, ◌∙◌}
 use Rattle.std.specs.Prelude.{Ok, IfOk}
 use Rattle.enc_reader.specs.HeldText.{text_state_of, AppendsLine}
 use Rattle.enc_reader.proofs.LineLemmas.{AppendsLine-none, AppendsLine-then, AppendsText-line, AppendsText-fails}
-use Rattle.enc_reader.proofs.LineLemmas.{AppendsText-known}
+use Rattle.enc_reader.proofs.LineLemmas.{AppendsText-known, SourceFails-after}
 use Rattle.enc_reader.proofs.decoded_text.DecodedText.read_line.Goals as goal
 
 pub parts-init : goal.parts-init
@@ -11,6 +11,8 @@ parts-init g c = record {
   start = search rules;
   grown = search rules;
   utf_8 = λ utf_8. utf_8;
+  kept = search rules;
+  going = search rules;
   same_reader = search rules;
 }
 
@@ -27,6 +29,8 @@ parts-preserved g c =
       start = search rules;
       grown = search rules;
       utf_8 = λ utf_8. c.append_part.ensures.utf_8 (c.parts.invariant.utf_8 utf_8);
+      kept = search rules;
+      going = search rules;
       same_reader = search rules;
     }
 
@@ -84,3 +88,12 @@ returns-then-branch-clause-known g c =
 pub returns-then-branch-clause-utf_8 : goal.returns-then-branch-clause-utf_8
 returns-then-branch-clause-utf_8 g c =
     λ utf_8. c.append_part.ensures.utf_8 (c.parts.invariant.utf_8 utf_8)
+
+pub returns-in_err-append_part-clause-reader_fault : goal.returns-in_err-append_part-clause-reader_fault
+returns-in_err-append_part-clause-reader_fault g c = λ is_reader.
+    SourceFails-after c.parts.invariant.so_far c.parts.invariant.kept
+    (c.append_part.ensures.reader_fault (search rules))
+
+pub returns-in_err-append_part-clause-failed_before : goal.returns-in_err-append_part-clause-failed_before
+returns-in_err-append_part-clause-failed_before g c = λ is_failed.
+    sym c.parts.invariant.going ∙ c.append_part.ensures.failed_before (search rules)

@@ -11,6 +11,9 @@ invariant-parts g l = record {
   start : l.start ≡ string_len l.fn.line;
   grown : string_len l.fn.line ≤ string_len l.line;
   utf_8 : IsUtf8 (text_state_of l.fn.self).held → IsUtf8 (text_state_of l.self).held;
+  kept : g.R.Source.has_failed l.self.reader.reader.now
+      ≡ g.R.Source.has_failed l.fn.self.reader.reader.now;
+  going : l.self.reader.failed ≡ l.fn.self.reader.failed;
   same_reader : l.self.reader.reader.ghost_name ≡ l.fn.self.reader.reader.ghost_name;
 }
 

@@ -1,4 +1,4 @@
-use Rattle.std.proofs.Common.{arith, ◌≡◌, ◌<◌, ◌≤◌, [], ◌++◌, length, take, drop, ap, sym, subst, ◌∙◌, take_at}
+use Rattle.std.proofs.Common.{arith, ◌≡◌, ◌≤◌, [], ◌++◌, length, take, drop, ap, sym, subst, ◌∙◌, take_at}
 use Rattle.std.proofs.Common.{length-append, length-take-le}
 use Rattle.std.proofs.Math.ListN.{length-drop}
 use Rattle.std.proofs.lemmas.List.{nil_from_length}
@@ -34,12 +34,11 @@ returns-clause-bytes g c =
     ∙ ap (take len) value in
     let same_source = ap (λ r. g.R.Source.remaining r.reader.now) (sym c.advance.ensures.reader) in
     let moved = state_moved filled c.advance.new.self c.advance.ensures.reader
-    c.advance.ensures.held in
-    (
+    c.advance.ensures.held in (
       subst (Consumes before _) (sym bytes)
-          (subst_both (λ t s. Consumes before (remaining_text t s) (take len shown)) same_source moved
-          (takes_known _ source _ (holding (state_of filled.reader) (drop len shown)) (take len shown)
-          (TakesText-then c.fill.ensures.takes
+          (subst_both (λ t s. Consumes before (remaining_text t s) (take len shown)) same_source
+          moved (takes_known _ source _ (holding (state_of filled.reader) (drop len shown))
+          (take len shown) (TakesText-then c.fill.ensures.takes
           (TakesText-held source (state_of filled.reader) shown len))
           filled.reader.exhausted)),
       λ zero some.
