@@ -89,18 +89,18 @@ pub HasEncoded-call : (k : Option (List ℕ)) {old new : EncoderState} (had : Bo
     }) c.src left c.last
 HasEncoded-call k {old} {new} had result {c = c} held written before after {left} is_html
     result_is encodes wrote_is held_stay left_is = record {
-  wrote = c.wrote;
-  replaced = c.replaced;
-  encoded = subst (λ rest. EncodesText (text_to_encode old c.src) (text_to_encode new rest) c.last
-      c.wrote c.replaced) (sym left_is)
-      (EncodesText-call (text_to_encode old c.src) result is_html result_is refl encodes);
-  flag = refl;
-  pushed = [];
-  taken = AppendsContents-none k;
-  bytes_kept = ap (λ w. take held before ++ w) wrote_is
-      ∙ ap (λ h. h ++ take written (drop held after)) (sym held_stay)
-      ∙ sym (take-add held written after);
-}
+      wrote = c.wrote;
+      replaced = c.replaced;
+      encoded = subst (λ rest. EncodesText (text_to_encode old c.src) (text_to_encode new rest) c.last
+          c.wrote c.replaced) (sym left_is)
+          (EncodesText-call (text_to_encode old c.src) result is_html result_is refl encodes);
+      flag = refl;
+      pushed = [];
+      taken = AppendsContents-none k;
+      bytes_kept = ap (λ w. take held before ++ w) wrote_is
+          ∙ ap (λ h. h ++ take written (drop held after)) (sym held_stay)
+          ∙ sym (take-add held written after);
+    }
 
 pub HasEncoded-then : {k₀ k₁ k₂ : Option (List ℕ)} {a b c : WriterState} {t u v : List ℕ}
     {last : Bool} → HasEncoded k₀ k₁ a b t u last → HasEncoded k₁ k₂ b c u v last

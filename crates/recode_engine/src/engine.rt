@@ -10,8 +10,7 @@ use enc_reader::{DecodeReader, Source};
 use enc_stream::Encoding;
 use enc_writer::{EncodeWriter, Sink, WriteFault};
 use std::error::Error;
-use std::fmt;
-use std::io;
+use std::{fmt, io};
 
 /// The side of a run that has failed.
 #[derive(PartialEq, Eq, Debug, Drop)]
