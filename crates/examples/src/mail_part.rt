@@ -46,7 +46,7 @@ fn field_value<'a>(field: &'a [u8], name: &[u8]) -> Option<&'a [u8]> {
 
 /// Reads a quoted string, after the quote at its front. Returns its text, in which a backslash only
 /// quotes the byte after it (RFC 5322 3.2.4).
-fn take_quoted(alloc: Global, scanner: &mut Scanner<'_>) -> Result<Vec<u8>, AllocError>
+fn take_quoted_string(alloc: Global, scanner: &mut Scanner<'_>) -> Result<Vec<u8>, AllocError>
     ensures { bytes_left scanner.new ≤ bytes_left scanner.old }
 {
     let mut text = Vec::new(alloc);
@@ -66,7 +66,7 @@ fn take_value(alloc: Global, scanner: &mut Scanner<'_>) -> Result<Vec<u8>, Alloc
 {
     if scanner.peek() == Some(b'"') {
         let _quote = scanner.next();
-        return take_quoted(alloc, scanner);
+        return take_quoted_string(alloc, scanner);
     }
     Vec::from_slice(alloc, scanner.take(Run::Token))
 }
