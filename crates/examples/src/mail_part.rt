@@ -1,4 +1,5 @@
-//! A part of a mail by the charset of its header, decoded in chunks of a packet's size.
+//! A part of a mail by the charset of its header, decoded in chunks of a packet's size: a reader of
+//! text over what is left of a buffered reader, once the header is read.
 
 ghost use Rattle.std.specs.Prelude.{◌≤◌};
 ghost use Rattle.examples.specs.Scanner.{bytes_left};
