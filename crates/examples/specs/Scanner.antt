@@ -1,3 +1,4 @@
+-- A position in bytes, as parsers of `examples` move it (src/scanner.rt).
 use Rattle.std.specs.Prelude.{ℕ, ◌-◌, length}
 use Rattle.examples.specs.declared.scanner.Scanner.{Scanner}
 

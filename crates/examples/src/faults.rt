@@ -1,4 +1,4 @@
-//! The places of all malformed sequences of a file, in any encoding.
+//! The places of all malformed sequences of a file, in any encoding: calls without replacement.
 //!
 //! Those that the program prints of data/diary.txt are where Python's codec gb18030 stops.
 

@@ -1,4 +1,5 @@
-//! A part of a mail by the charset of its header, decoded in chunks of a packet's size.
+//! A part of a mail by the charset of its header, decoded in chunks of a packet's size: a reader of
+//! text over what is left of a buffered reader, once the header is read.
 
 ghost use Rattle.std.specs.Prelude.{◌≤◌};
 ghost use Rattle.examples.specs.Scanner.{bytes_left};
@@ -46,7 +47,7 @@ fn field_value<'a>(field: &'a [u8], name: &[u8]) -> Option<&'a [u8]> {
 
 /// Reads a quoted string, after the quote at its front. Returns its text, in which a backslash only
 /// quotes the byte after it (RFC 5322 3.2.4).
-fn take_quoted(alloc: Global, scanner: &mut Scanner<'_>) -> Result<Vec<u8>, AllocError>
+fn take_quoted_string(alloc: Global, scanner: &mut Scanner<'_>) -> Result<Vec<u8>, AllocError>
     ensures { bytes_left scanner.new ≤ bytes_left scanner.old }
 {
     let mut text = Vec::new(alloc);
@@ -66,7 +67,7 @@ fn take_value(alloc: Global, scanner: &mut Scanner<'_>) -> Result<Vec<u8>, Alloc
 {
     if scanner.peek() == Some(b'"') {
         let _quote = scanner.next();
-        return take_quoted(alloc, scanner);
+        return take_quoted_string(alloc, scanner);
     }
     Vec::from_slice(alloc, scanner.take(Run::Token))
 }

@@ -51,7 +51,7 @@ fn xml_label(head: &[u8]) -> Option<&[u8]> {
     }
     scanner.skip(Run::Controls);
     match scanner.peek()? {
-        b'"' | b'\'' => scanner.quoted(),
+        b'"' | b'\'' => scanner.take_between_quotes(),
         _ => None,
     }
 }

@@ -132,7 +132,7 @@ impl<'a> Scanner<'a> {
     }
 
     /// Reads a byte, whichever it is, and the bytes of a run after it.
-    pub(crate) fn take_one_and(&mut self, run: Run) -> Option<&'a [u8]>
+    pub(crate) fn take_byte_and(&mut self, run: Run) -> Option<&'a [u8]>
         ensures kept { bytes_left self.new ≤ bytes_left self.old }
         ensures read { OnSome result (bytes_left self.new < bytes_left self.old) }
     {
@@ -144,7 +144,7 @@ impl<'a> Scanner<'a> {
     }
 
     /// Reads what stands between the next byte, which is a quote, and the next byte like it.
-    pub(crate) fn quoted(&mut self) -> Option<&'a [u8]>
+    pub(crate) fn take_between_quotes(&mut self) -> Option<&'a [u8]>
         ensures { bytes_left self.new ≤ bytes_left self.old }
     {
         let quote = self.next()?;

@@ -28,7 +28,7 @@ fn take_value<'a>(scanner: &mut Scanner<'a>) -> Option<&'a [u8]>
     ensures { bytes_left scanner.new ≤ bytes_left scanner.old }
 {
     if matches!(scanner.peek()?, b'"' | b'\'') {
-        return scanner.quoted();
+        return scanner.take_between_quotes();
     }
     let value = scanner.take(Run::Word(b'>'));
     let _end = scanner.peek()?;
@@ -41,7 +41,7 @@ pub(crate) fn take_attribute<'a>(scanner: &mut Scanner<'a>) -> Option<Attribute<
     ensures kept { bytes_left scanner.new ≤ bytes_left scanner.old }
     ensures read { OnSome result (bytes_left scanner.new < bytes_left scanner.old) }
 {
-    let name = scanner.take_one_and(Run::AttributeName)?;
+    let name = scanner.take_byte_and(Run::AttributeName)?;
     scanner.skip(Run::Spaces);
     if scanner.peek()? != b'=' {
         return Some(Attribute { name, value: &[] });
@@ -71,7 +71,7 @@ fn label_of(content: &[u8]) -> Option<&[u8]> {
     let mut scanner = Scanner::new(content);
     skip_past_charset(&mut scanner)?;
     match scanner.peek()? {
-        b'"' | b'\'' => scanner.quoted(),
+        b'"' | b'\'' => scanner.take_between_quotes(),
         _ => Some(scanner.take(Run::Word(b';'))),
     }
 }
