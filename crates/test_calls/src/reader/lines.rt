@@ -30,6 +30,33 @@ fn compare_line<R: Source>(
     expect(line.as_str() == want, "text of a line", case)
 }
 
+/// Reads all lines through a buffer to read into, of at least one byte, and one for the text, of at
+/// least four: they are those of `want`.
+fn read_lines(
+    alloc: Global,
+    device: StepReader<'_>,
+    encoding: Encoding,
+    buffers: (&mut [u8], &mut [u8]),
+    want: &[&str],
+) -> Result<(), Fail> {
+    let (input, room) = buffers;
+    if input.is_empty() || room.len() < 4 {
+        return Err("buffers too short".into());
+    }
+    let case = Case {
+        name: encoding.name(),
+        input: b"",
+        room: room.len(),
+    };
+    let mut source = FromRead::new(device);
+    let reader = DecodeReader::new(&mut source, Some(encoding), input);
+    let mut text = DecodedText::new(reader, room);
+    for line in want {
+        compare_line(alloc, &mut text, *line, &case)?;
+    }
+    compare_line(alloc, &mut text, "", &case)
+}
+
 /// Reads all lines, a few bytes of the source at a time, through short buffers.
 fn compare_lines(
     alloc: Global,
@@ -39,21 +66,16 @@ fn compare_lines(
 ) -> Result<(), Fail> {
     for step in [BYTE, Step::Move(3), ALL_BYTES] {
         for (room, len) in [(4, 1), (5, 3), (64, 64)] {
-            let case = Case {
-                name: encoding.name(),
-                input: bytes,
-                room,
-            };
             let steps = [step];
-            let mut source = FromRead::new(StepReader::new(bytes, &steps));
             let mut input = [0; 64];
-            let mut room_for_text = [0; 64];
-            let reader = DecodeReader::new(&mut source, Some(encoding), &mut input[..len]);
-            let mut text = DecodedText::new(reader, &mut room_for_text[..room]);
-            for line in want {
-                compare_line(alloc, &mut text, *line, &case)?;
-            }
-            compare_line(alloc, &mut text, "", &case)?;
+            let mut text = [0; 64];
+            read_lines(
+                alloc,
+                StepReader::new(bytes, &steps),
+                encoding,
+                (&mut input[..len], &mut text[..room]),
+                want,
+            )?;
         }
     }
     Ok(())
@@ -124,7 +146,7 @@ fn reads_long_lines_that_are_lent(rt: HostRuntime) -> Result<(), Fail> {
     for _ in 0..3 {
         let mut line = String::new(rt.alloc());
         assert!(rt; text.read_line(&mut line) == Ok(5001));
-        assert!(rt; line.as_bytes() == &bytes.as_slice()[..5001]);
+        assert!(rt; bytes.as_slice().starts_with(line.as_bytes()));
     }
     assert!(rt; text.read_line(&mut String::new(rt.alloc())) == Ok(0));
     assert!(rt; !text.reader().had_errors());

@@ -89,11 +89,13 @@ pub returns-then-branch-clause-utf_8 : goal.returns-then-branch-clause-utf_8
 returns-then-branch-clause-utf_8 g c =
     λ utf_8. c.append_part.ensures.utf_8 (c.parts.invariant.utf_8 utf_8)
 
-pub returns-in_err-append_part-clause-reader_fault : goal.returns-in_err-append_part-clause-reader_fault
+pub returns-in_err-append_part-clause-reader_fault
+    : goal.returns-in_err-append_part-clause-reader_fault
 returns-in_err-append_part-clause-reader_fault g c = λ is_reader.
     SourceFails-after c.parts.invariant.so_far c.parts.invariant.kept
     (c.append_part.ensures.reader_fault (search rules))
 
-pub returns-in_err-append_part-clause-failed_before : goal.returns-in_err-append_part-clause-failed_before
+pub returns-in_err-append_part-clause-failed_before
+    : goal.returns-in_err-append_part-clause-failed_before
 returns-in_err-append_part-clause-failed_before g c = λ is_failed.
     sym c.parts.invariant.going ∙ c.append_part.ensures.failed_before (search rules)
