@@ -6,8 +6,7 @@ ghost use Rattle.std.specs.declared.io.ErrorKind.TheVariants.{Other};
 
 use crate::decode_reader::ReadFault;
 use std::error::Error;
-use std::fmt;
-use std::io;
+use std::{fmt, io};
 
 /// Returns what a fault says.
 fn fault_text(fault: &ReadFault) -> &'static str {

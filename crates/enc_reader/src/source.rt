@@ -6,9 +6,8 @@ ghost use Rattle.std.specs.IoError.{error_kind};
 ghost use Rattle.std.specs.Io.KnownBytes.{IsAtEnd, ReadConsumes};
 ghost use Rattle.enc_reader.specs.Source.{ConsumesRemaining};
 
-use std::fmt;
-use std::io;
 use std::io::{ErrorKind, Read};
+use std::{fmt, io};
 
 /// The number of reads that a pull makes at most.
 const MOST_READS: u32 = u32::MAX;
