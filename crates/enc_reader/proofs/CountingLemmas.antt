@@ -51,32 +51,33 @@ owed_bytes s z = omega (
 
 -- The faults passed are those of the sequences done.
 module _ {k₀ k₁ : Option (List ℕ)} {old new : ReaderState} {bytes wrote : List ℕ}
-    {malformed : Bool} (reads_owed : ReadsOwed k₀ k₁ old new bytes wrote malformed) (given : ℕ)
-    (among : length old.unread + length old.decoder.pending ≤ given) (z : List ℕ)
-    (ends : new.ended ≡ true → z ≡ []) where
-  abbrev pub first_offset : ℕ
-  first_offset =
-      given + length (bytes ++ z) - length (sequence_bytes (owed_sequences old (bytes ++ z)))
+    {malformed : Bool} where
+  module _ (reads_owed : ReadsOwed k₀ k₁ old new bytes wrote malformed) (given : ℕ)
+      (among : length old.unread + length old.decoder.pending ≤ given) (z : List ℕ)
+      (ends : new.ended ≡ true → z ≡ []) where
+    abbrev pub first_offset : ℕ
+    first_offset =
+        given + length (bytes ++ z) - length (sequence_bytes (owed_sequences old (bytes ++ z)))
 
-  pub offset_after : first_offset + length (sequence_bytes reads_owed.done)
-      ≡ given + length bytes + length z - length (sequence_bytes (owed_sequences new z))
-  offset_after = omega (
-    arith,
-    among,
-    owed_bytes old (bytes ++ z),
-    length-append bytes z,
-    ap (λ ss. length (sequence_bytes ss)) (reads_owed.residual z ends),
-    ap length (sequence_bytes-append reads_owed.done (owed_sequences new z)),
-    length-append (sequence_bytes reads_owed.done) (sequence_bytes (owed_sequences new z)),
-  )
+    pub offset_after : first_offset + length (sequence_bytes reads_owed.done)
+        ≡ given + length bytes + length z - length (sequence_bytes (owed_sequences new z))
+    offset_after = omega (
+      arith,
+      among,
+      owed_bytes old (bytes ++ z),
+      length-append bytes z,
+      ap (λ ss. length (sequence_bytes ss)) (reads_owed.residual z ends),
+      ap length (sequence_bytes-append reads_owed.done (owed_sequences new z)),
+      length-append (sequence_bytes reads_owed.done) (sequence_bytes (owed_sequences new z)),
+    )
 
-  pub passes_done : owed_faults given old (bytes ++ z)
-      ≡ faults_from first_offset reads_owed.done ++ owed_faults (given + length bytes) new z
-  passes_done =
-      ap (faults_from first_offset) (reads_owed.residual z ends)
-      ∙ faults-append first_offset reads_owed.done (owed_sequences new z)
-      ∙ ap (λ n. faults_from first_offset reads_owed.done ++ faults_from n (owed_sequences new z))
-      offset_after
+    pub passes_done : owed_faults given old (bytes ++ z)
+        ≡ faults_from first_offset reads_owed.done ++ owed_faults (given + length bytes) new z
+    passes_done =
+        ap (faults_from first_offset) (reads_owed.residual z ends)
+        ∙ faults-append first_offset reads_owed.done (owed_sequences new z)
+        ∙ ap (λ n. faults_from first_offset reads_owed.done ++ faults_from n (owed_sequences new z))
+        offset_after
 
 -- where none of the sequences done is malformed
 pub passes_none : {k₀ k₁ : Option (List ℕ)} {old new : ReaderState} {bytes wrote : List ℕ}
@@ -124,19 +125,19 @@ HasGiven-then counts given has = record {
   among = omega (arith, counts.among, has.among);
 }
 
-pub HandsOutCounted-by : {k₀ k₁ : Option (List ℕ)} {old new : ReaderState} {n₀ n₁ : ℕ}
-    {wrote : List ℕ} {had_before had_after : Bool}
-    (hands_out : HandsOut k₀ k₁ old new wrote had_before had_after)
-    → ((given : ℕ) → HasGiven n₀ old given → HasGiven n₁ new (given + length hands_out.bytes))
-    → HandsOutCounted k₀ k₁ old new n₀ n₁ wrote had_before had_after
-HandsOutCounted-by hands_out counts = record {
-  hands_out = hands_out;
-  counts = counts;
-  replaced = λ given has z ends. (
-    faults_from (first_offset hands_out.reads given has.among z ends) hands_out.reads.done,
-    passes_done hands_out.reads given has.among z ends,
-  );
-}
+module _ {k₀ k₁ : Option (List ℕ)} {old new : ReaderState} {n₀ n₁ : ℕ} where
+  pub HandsOutCounted-by : {wrote : List ℕ} {had_before had_after : Bool}
+      (hands_out : HandsOut k₀ k₁ old new wrote had_before had_after)
+      → ((given : ℕ) → HasGiven n₀ old given → HasGiven n₁ new (given + length hands_out.bytes))
+      → HandsOutCounted k₀ k₁ old new n₀ n₁ wrote had_before had_after
+  HandsOutCounted-by hands_out counts = record {
+    hands_out = hands_out;
+    counts = counts;
+    replaced = λ given has z ends. (
+      faults_from (first_offset hands_out.reads given has.among z ends) hands_out.reads.done,
+      passes_done hands_out.reads given has.among z ends,
+    );
+  }
 
 -- a reader that has read nothing
 
@@ -158,31 +159,32 @@ fresh_faults handling e z =
     ∙ ap (faults_from (whole_start handling e z)) (sym (fresh_sequences handling e z))
 
 -- a chunk that is pulled, by places in the buffer
-pub PullsCounted-after : {t₀ t₁ : Option (List ℕ)} {d : DecoderState} {ended : Bool} {xs : List ℕ}
-    {n₀ n₁ : ℕ} (held n : ℕ) (ys : List ℕ)
-    → ended ≡ false → has_finished d ≡ false → take held ys ≡ xs → n ≤ length ys - held
-    → ConsumesRemaining t₀ t₁ (take n (drop held ys)) → n₁ ≡ min (n₀ + n) (2 ^ 64 - 1)
-    → PullsCounted t₀ t₁ (record { decoder = d; unread = xs; ended = ended })
-    (record { decoder = d; unread = take (held + n - 0) (drop 0 ys); ended = nat_eq n 0 }) n₀ n₁
-PullsCounted-after {xs = xs} held n ys not_ended going held_are bound given counted =
-    let pulled : length (take n (drop held ys)) ≡ n = omega (
-      arith,
-      length-take n (drop held ys),
-      length-drop held ys,
-    ) in
-    record {
-      pulls = PullsChunk-after held n ys not_ended going held_are bound given;
-      counts = record {
-        counted = λ m were. omega (arith, were, counted, pulled);
-        among = omega (
+module _ {t₀ t₁ : Option (List ℕ)} {d : DecoderState} {ended : Bool} {xs : List ℕ} {n₀ n₁ : ℕ}
+  where
+    pub PullsCounted-after : (held n : ℕ) (ys : List ℕ)
+        → ended ≡ false → has_finished d ≡ false → take held ys ≡ xs → n ≤ length ys - held
+        → ConsumesRemaining t₀ t₁ (take n (drop held ys)) → n₁ ≡ min (n₀ + n) (2 ^ 64 - 1)
+        → PullsCounted t₀ t₁ (record { decoder = d; unread = xs; ended = ended })
+        (record { decoder = d; unread = take (held + n - 0) (drop 0 ys); ended = nat_eq n 0 }) n₀ n₁
+    PullsCounted-after held n ys not_ended going held_are bound given counted =
+        let pulled : length (take n (drop held ys)) ≡ n = omega (
           arith,
-          pulled,
-          ap length held_are,
-          length-take held ys,
-          length-take (held + n - 0) (drop 0 ys),
-        );
-      };
-    }
+          length-take n (drop held ys),
+          length-drop held ys,
+        ) in
+        record {
+          pulls = PullsChunk-after held n ys not_ended going held_are bound given;
+          counts = record {
+            counted = λ m were. omega (arith, were, counted, pulled);
+            among = omega (
+              arith,
+              pulled,
+              ap length held_are,
+              length-take held ys,
+              length-take (held + n - 0) (drop 0 ys),
+            );
+          };
+        }
 
 -- A read up to now, and the bytes counted.
 pub record HasCounted (start now : ReaderPlace) (n₀ n₁ : ℕ) (wrote : List ℕ) (replaced waits : Bool)

@@ -193,30 +193,29 @@ CountsBytes-lent d ended filled at n count xs = record {
   );
 }
 
-counts_on : (t₀ t₁ : Option (List ℕ)) (a b c : ReaderState) (n₀ n₁ n₂ : ℕ)
-    (filled : FillsCounted t₀ t₁ a b n₀ n₁) (bytes : List ℕ)
-    → ((given : ℕ) → HasGiven n₁ b given → HasGiven n₂ c (given + length bytes)) → (given : ℕ)
-    → HasGiven n₀ a given → HasGiven n₂ c (given + length (filled.fills.bytes ++ bytes))
-counts_on t₀ t₁ a b c n₀ n₁ n₂ filled bytes counts given were =
-    let same : given + length filled.fills.bytes + length bytes
-    ≡ given + length (filled.fills.bytes ++ bytes) =
-    omega (arith, length-append filled.fills.bytes bytes) in
-    subst (HasGiven n₂ c) same
-    (counts (given + length filled.fills.bytes) (HasGiven-then filled.counts given were))
+module _ {t₀ t₁ : Option (List ℕ)} {a b c : ReaderState} {n₀ n₁ n₂ : ℕ}
+    (filled : FillsCounted t₀ t₁ a b n₀ n₁) where
+  counts_on : (bytes : List ℕ)
+      → ((given : ℕ) → HasGiven n₁ b given → HasGiven n₂ c (given + length bytes)) → (given : ℕ)
+      → HasGiven n₀ a given → HasGiven n₂ c (given + length (filled.fills.bytes ++ bytes))
+  counts_on bytes counts given were =
+      let same : given + length filled.fills.bytes + length bytes
+      ≡ given + length (filled.fills.bytes ++ bytes) =
+      omega (arith, length-append filled.fills.bytes bytes) in
+      subst (HasGiven n₂ c) same
+      (counts (given + length filled.fills.bytes) (HasGiven-then filled.counts given were))
 
-pub HandsOutCounted-filled : {t₀ t₁ t₂ : Option (List ℕ)} {a b c : ReaderState} {n₀ n₁ n₂ : ℕ}
-    {wrote : List ℕ} {had_before had_after : Bool} → FillsCounted t₀ t₁ a b n₀ n₁
-    → HandsOutCounted t₁ t₂ b c n₁ n₂ wrote had_before had_after
-    → HandsOutCounted t₀ t₂ a c n₀ n₂ wrote had_before had_after
-HandsOutCounted-filled filled counted =
-    HandsOutCounted-by (HandsOut-filled filled.fills counted.hands_out)
-    (counts_on _ _ _ _ _ _ _ _ filled counted.hands_out.bytes counted.counts)
+  pub HandsOutCounted-filled : {t₂ : Option (List ℕ)} {wrote : List ℕ} {had_before had_after : Bool}
+      → HandsOutCounted t₁ t₂ b c n₁ n₂ wrote had_before had_after
+      → HandsOutCounted t₀ t₂ a c n₀ n₂ wrote had_before had_after
+  HandsOutCounted-filled counted =
+      HandsOutCounted-by (HandsOut-filled filled.fills counted.hands_out)
+      (counts_on counted.hands_out.bytes counted.counts)
 
-pub HandsOutCounted-lent : {t₀ t₁ t₂ : Option (List ℕ)} {a b c : ReaderState} {n₀ n₁ n₂ : ℕ}
-    {wrote : List ℕ} {had_before had_after : Bool} → FillsCounted t₀ t₁ a b n₀ n₁
-    → (hands_out : HandsOut t₁ t₂ b c wrote had_before had_after)
-    → CountsBytes b c n₁ n₂ hands_out.bytes
-    → HandsOutCounted t₀ t₂ a c n₀ n₂ wrote had_before had_after
-HandsOutCounted-lent filled hands_out counts =
-    HandsOutCounted-by (HandsOut-filled filled.fills hands_out)
-    (counts_on _ _ _ _ _ _ _ _ filled hands_out.bytes (HasGiven-then counts))
+  pub HandsOutCounted-lent : {t₂ : Option (List ℕ)} {wrote : List ℕ} {had_before had_after : Bool}
+      (hands_out : HandsOut t₁ t₂ b c wrote had_before had_after)
+      → CountsBytes b c n₁ n₂ hands_out.bytes
+      → HandsOutCounted t₀ t₂ a c n₀ n₂ wrote had_before had_after
+  HandsOutCounted-lent hands_out counts =
+      HandsOutCounted-by (HandsOut-filled filled.fills hands_out)
+      (counts_on hands_out.bytes (HasGiven-then counts))

@@ -180,56 +180,56 @@ HasReported-turn {s = s} {lens = lens} turn passes_faults counts = record {
       ∙ ap (λ n. faults_of_lens n (length s.unread) lens ++ owed_faults (given + 0) s z) same;
 }
 
-pub HasReported-more : {start now next : ReaderPlace} {pulled : ReaderState} {n₀ n₁ n₂ n₃ : ℕ}
-    {wrote : List ℕ} {lens : Option MalformedLens} {waits : Bool} {pulls : ℕ}
-    → HasReported start now n₀ n₁ [] None true pulls
-    → PullsCounted now.remaining next.remaining now.state pulled n₁ n₂
-    → IsTurn pulled next.state wrote (reports_malformed lens) waits
-    → TurnPassesFaults pulled next.state lens → CountsBytes pulled next.state n₂ n₃ []
-    → HasReported start next n₀ n₃ wrote lens waits (pulls + 1)
-HasReported-more {start} {now} {next} {pulled} {lens = lens} waited pull turn passes_faults counts =
-    let bytes : List ℕ = waited.so_far.read.bytes ++ pull.pulls.bytes in
-    let pulled_reads : ReadsOwed start.remaining next.remaining start.state pulled bytes [] false =
-    ReadsOwed-then start now (reader_at next.remaining pulled) waited.so_far.read.reads
-    pull.pulls.reads in
-    record {
-      so_far = HasCounted-more waited.so_far pull turn counts;
-      passes = λ given among.
-          let among_pulled : length pulled.unread + length pulled.decoder.pending
-          ≤ given + length bytes = omega (
-            arith,
-            among,
-            waited.so_far.counts.among,
-            pull.counts.among,
-            lengths,
-          ) in
-          PassesFaults-turn given start.state pulled next.state bytes
-          (faults_of_lens (given + length bytes) (length next.state.unread) lens)
-          (λ e. ((turn.reads None).none_after e).1)
-          (passes_none pulled_reads given among)
-          (passes_faults (given + length bytes) among_pulled);
-    }
+module _ {start now next : ReaderPlace} {pulled : ReaderState} {n₀ n₁ n₂ n₃ : ℕ} where
+  pub HasReported-more : {wrote : List ℕ} {lens : Option MalformedLens} {waits : Bool} {pulls : ℕ}
+      → HasReported start now n₀ n₁ [] None true pulls
+      → PullsCounted now.remaining next.remaining now.state pulled n₁ n₂
+      → IsTurn pulled next.state wrote (reports_malformed lens) waits
+      → TurnPassesFaults pulled next.state lens → CountsBytes pulled next.state n₂ n₃ []
+      → HasReported start next n₀ n₃ wrote lens waits (pulls + 1)
+  HasReported-more {lens = lens} waited pull turn passes_faults counts =
+      let bytes : List ℕ = waited.so_far.read.bytes ++ pull.pulls.bytes in
+      let pulled_reads : ReadsOwed start.remaining next.remaining start.state pulled bytes [] false =
+      ReadsOwed-then start now (reader_at next.remaining pulled) waited.so_far.read.reads
+      pull.pulls.reads in
+      record {
+        so_far = HasCounted-more waited.so_far pull turn counts;
+        passes = λ given among.
+            let among_pulled : length pulled.unread + length pulled.decoder.pending
+            ≤ given + length bytes = omega (
+              arith,
+              among,
+              waited.so_far.counts.among,
+              pull.counts.among,
+              lengths,
+            ) in
+            PassesFaults-turn given start.state pulled next.state bytes
+            (faults_of_lens (given + length bytes) (length next.state.unread) lens)
+            (λ e. ((turn.reads None).none_after e).1)
+            (passes_none pulled_reads given among)
+            (passes_faults (given + length bytes) among_pulled);
+      }
 
 -- A read that has come to text, to a malformed sequence or to the end.
-pub ReportsFaults-read : {start now : ReaderPlace} {n₀ n₁ : ℕ} {wrote : List ℕ}
-    {lens : Option MalformedLens} {had_before had_after : Bool} {pulls : ℕ} {faults : List (ℕ × ℕ)}
-    → HasReported start now n₀ n₁ wrote lens false pulls
-    → had_after ≡ (had_before || reports_malformed lens)
-    → (now.state.ended ≡ true → IsExhausted now.remaining)
-    → faults_of_lens n₁ (length now.state.unread) lens ≡ faults
-    → ReportsFaults start.remaining now.remaining start.state now.state n₀ n₁ wrote faults had_before
-    had_after
-ReportsFaults-read {start} {now} {n₀} {n₁} {lens = lens} reported flag exhausted faults_are = record {
-  hands_out = HandsOut-read reported.so_far flag exhausted;
-  counts = HasGiven-then reported.so_far.counts;
-  reported = λ given has small.
-      let bytes : List ℕ = reported.so_far.read.bytes in
-      let exact : given + length bytes ≡ n₁ =
-      omega (arith, small, reported.so_far.counts.counted given has.counted) in
-      subst (PassesFaults given start.state now.state bytes)
-      (ap (λ n. faults_of_lens n (length now.state.unread) lens) exact ∙ faults_are)
-      (reported.passes given has.among);
-}
+module _ {start now : ReaderPlace} {n₀ n₁ : ℕ} where
+  pub ReportsFaults-read : {wrote : List ℕ} {lens : Option MalformedLens} {had_before had_after : Bool} {pulls : ℕ} {faults : List (ℕ × ℕ)}
+      → HasReported start now n₀ n₁ wrote lens false pulls
+      → had_after ≡ (had_before || reports_malformed lens)
+      → (now.state.ended ≡ true → IsExhausted now.remaining)
+      → faults_of_lens n₁ (length now.state.unread) lens ≡ faults
+      → ReportsFaults start.remaining now.remaining start.state now.state n₀ n₁ wrote faults had_before
+      had_after
+  ReportsFaults-read {lens = lens} reported flag exhausted faults_are = record {
+    hands_out = HandsOut-read reported.so_far flag exhausted;
+    counts = HasGiven-then reported.so_far.counts;
+    reported = λ given has small.
+        let bytes : List ℕ = reported.so_far.read.bytes in
+        let exact : given + length bytes ≡ n₁ =
+        omega (arith, small, reported.so_far.counts.counted given has.counted) in
+        subst (PassesFaults given start.state now.state bytes)
+        (ap (λ n. faults_of_lens n (length now.state.unread) lens) exact ∙ faults_are)
+        (reported.passes given has.among);
+  }
 
 -- A turn that hands out nothing has written nothing and reports nothing.
 pub nothing_handed : (n : ℕ) (xs : List ℕ) (lens : Option MalformedLens) → n ≤ length xs

@@ -59,97 +59,97 @@ pub record HandsOutSequences (done : List Sequence) (handed : List ℕ)
   pub flag : malformed ≡ any_malformed done
 
 module _ (before : ReaderState) {new : DecoderState} {mode : DecodeErrorMode} {room : ℕ}
-    {result : DecoderResult} {read : ℕ} {wrote : List ℕ} {replaced : Bool}
-    (decodes : DecodesChunk encode_utf8 before.decoder new
-    (unread_call before mode room result read wrote replaced))
-    (can_decode : CanDecode before room) where
-  abbrev pub after : ReaderState
-  after = record { decoder = new; unread = drop read before.unread; ended = before.ended }
+    {result : DecoderResult} {read : ℕ} {wrote : List ℕ} {replaced : Bool} where
+  module _ (decodes : DecodesChunk encode_utf8 before.decoder new
+      (unread_call before mode room result read wrote replaced))
+      (can_decode : CanDecode before room) where
+    abbrev pub after : ReaderState
+    after = record { decoder = new; unread = drop read before.unread; ended = before.ended }
 
-  abbrev call : Call
-  call = unread_call before mode room result read wrote replaced
+    abbrev call : Call
+    call = unread_call before mode room result read wrote replaced
 
-  pub comes_nearer : (handed : List ℕ)
-      → distance_to_end after + min 1 (length handed) ≤ distance_to_end before + 2 * 0
-  comes_nearer handed = elim (true_or_false (has_finished new)) [
-    | inl f ↦ omega (arith, ended_at after f, before_end before can_decode.going)
-    | inr unfinished ↦ elim (nearer four_bytes call can_decode.roomy decodes can_decode.some) [
-      | inl finished ↦ absurd (false≢true (sym unfinished ∙ finished))
-      | inr less ↦ omega (
-        arith,
-        before_end after unfinished,
-        before_end before can_decode.going,
-        length-drop read before.unread,
-      )
+    pub comes_nearer : (handed : List ℕ)
+        → distance_to_end after + min 1 (length handed) ≤ distance_to_end before + 2 * 0
+    comes_nearer handed = elim (true_or_false (has_finished new)) [
+      | inl f ↦ omega (arith, ended_at after f, before_end before can_decode.going)
+      | inr unfinished ↦ elim (nearer four_bytes call can_decode.roomy decodes can_decode.some) [
+        | inl finished ↦ absurd (false≢true (sym unfinished ∙ finished))
+        | inr less ↦ omega (
+          arith,
+          before_end after unfinished,
+          before_end before can_decode.going,
+          length-drop read before.unread,
+        )
+      ]
     ]
-  ]
 
-  abbrev pub reads_owed : {handed : List ℕ} {malformed : Bool}
-      → HandsOutSequences decodes.call.done handed malformed → (known : Option (List ℕ))
-      → ReadsOwed known known before after [] handed malformed
-  reads_owed {handed = handed} hands_out known = record {
-    given = ConsumesRemaining-none known;
-    none_after = λ f. (refl, f);
-    done = decodes.call.done;
-    residual = decodes.call.residual;
-    encoding = λ z none. still_ahead call decodes z none;
-    scalars = hands_out.scalars;
-    text = hands_out.text;
-    flag = hands_out.flag;
-    nearer = comes_nearer handed;
-  }
+    abbrev pub reads_owed : {handed : List ℕ} {malformed : Bool}
+        → HandsOutSequences decodes.call.done handed malformed → (known : Option (List ℕ))
+        → ReadsOwed known known before after [] handed malformed
+    reads_owed {handed = handed} hands_out known = record {
+      given = ConsumesRemaining-none known;
+      none_after = λ f. (refl, f);
+      done = decodes.call.done;
+      residual = decodes.call.residual;
+      encoding = λ z none. still_ahead call decodes z none;
+      scalars = hands_out.scalars;
+      text = hands_out.text;
+      flag = hands_out.flag;
+      nearer = comes_nearer handed;
+    }
 
-  -- Without text, a malformed sequence and the end it has read all unread bytes.
-  waits_for_more : wrote ≡ [] → lens_of_result result ≡ None → has_finished new ≡ false
-      → IsWaiting after
-  waits_for_more none unreported going = by_result result decodes unreported
-    where
-      by_result : (r : DecoderResult)
-          → DecodesChunk encode_utf8 before.decoder new
-          (unread_call before mode room r read wrote replaced)
-          → lens_of_result r ≡ None → IsWaiting after
-      by_result InputEmpty at_empty said = record {
-        unread = ap (λ n. drop n before.unread) at_empty.call.stops.all_read
-            ∙ drop-length before.unread;
-        not_ended = sym (finishes at_empty) ∙ going;
-        going = going;
-      }
-      by_result OutputFull at_full said =
-          let some = some_written four_bytes call can_decode.roomy at_full in
-          absurd (omega (arith, some, ap length none))
-      by_result (Malformed l a) at_malformed said = absurd (let no : ⊥ = cc in no)
+    -- Without text, a malformed sequence and the end it has read all unread bytes.
+    waits_for_more : wrote ≡ [] → lens_of_result result ≡ None → has_finished new ≡ false
+        → IsWaiting after
+    waits_for_more none unreported going = by_result result decodes unreported
+      where
+        by_result : (r : DecoderResult)
+            → DecodesChunk encode_utf8 before.decoder new
+            (unread_call before mode room r read wrote replaced)
+            → lens_of_result r ≡ None → IsWaiting after
+        by_result InputEmpty at_empty said = record {
+          unread = ap (λ n. drop n before.unread) at_empty.call.stops.all_read
+              ∙ drop-length before.unread;
+          not_ended = sym (finishes at_empty) ∙ going;
+          going = going;
+        }
+        by_result OutputFull at_full said =
+            let some = some_written four_bytes call can_decode.roomy at_full in
+            absurd (omega (arith, some, ap length none))
+        by_result (Malformed l a) at_malformed said = absurd (let no : ⊥ = cc in no)
 
-  pub is_turn : (waits : Bool) {handed unread : List ℕ} {malformed : Bool}
-      → drop read before.unread ≡ unread
-      → HandsOutSequences decodes.call.done handed malformed
-      → (waits ≡ true
-      → (wrote ≡ []) × (lens_of_result result ≡ None) × (has_finished new ≡ false))
-      → (waits ≡ false → handed ≡ [] → has_finished new ≡ true)
-      → IsTurn before (record { decoder = new; unread = unread; ended = before.ended }) handed
-      malformed waits
-  is_turn waits rest_is hands_out without_text text_or_end = rw (← rest_is) (record {
-    reads = reads_owed hands_out;
-    waiting = λ w. let is = without_text w in waits_for_more is.0 is.1 is.2;
-    text_or_end = text_or_end;
-  })
+    pub is_turn : (waits : Bool) {handed unread : List ℕ} {malformed : Bool}
+        → drop read before.unread ≡ unread
+        → HandsOutSequences decodes.call.done handed malformed
+        → (waits ≡ true
+        → (wrote ≡ []) × (lens_of_result result ≡ None) × (has_finished new ≡ false))
+        → (waits ≡ false → handed ≡ [] → has_finished new ≡ true)
+        → IsTurn before (record { decoder = new; unread = unread; ended = before.ended }) handed
+        malformed waits
+    is_turn waits rest_is hands_out without_text text_or_end = rw (← rest_is) (record {
+      reads = reads_owed hands_out;
+      waiting = λ w. let is = without_text w in waits_for_more is.0 is.1 is.2;
+      text_or_end = text_or_end;
+    })
 
-  -- Bytes unread and pending are among those unread and pending before.
-  pub still_among : length after.unread + length new.pending
-      ≤ length before.unread + length before.decoder.pending
-  still_among = omega (
-    arith,
-    bytes_done call decodes,
-    decodes.call.within,
-    length-drop read before.unread,
-  )
+    -- Bytes unread and pending are among those unread and pending before.
+    pub still_among : length after.unread + length new.pending
+        ≤ length before.unread + length before.decoder.pending
+    still_among = omega (
+      arith,
+      bytes_done call decodes,
+      decodes.call.within,
+      length-drop read before.unread,
+    )
 
-  pub CountsBytes-call : {n : ℕ} {unread : List ℕ} → drop read before.unread ≡ unread
-      → CountsBytes before (record { decoder = new; unread = unread; ended = before.ended }) n n []
-  CountsBytes-call rest_is = rw (← rest_is) (record {
-    counted = λ given counted. let same : given ≡ given + 0 = omega arith in
-        counted ∙ ap (λ m. min m (2 ^ 64 - 1)) same;
-    among = omega (arith, still_among);
-  })
+    pub CountsBytes-call : {n : ℕ} {unread : List ℕ} → drop read before.unread ≡ unread
+        → CountsBytes before (record { decoder = new; unread = unread; ended = before.ended }) n n []
+    CountsBytes-call rest_is = rw (← rest_is) (record {
+      counted = λ given counted. let same : given ≡ given + 0 = omega arith in
+          counted ∙ ap (λ m. min m (2 ^ 64 - 1)) same;
+      among = omega (arith, still_among);
+    })
 
 -- a call with replacement, which reports nothing
 unreported : (result : CoderResult) → lens_of_result (decoder_result_of result) ≡ None

@@ -107,8 +107,8 @@ pub fn compare_with_whole(alloc: Global, encoding: Encoding, bytes: &[u8]) -> Re
     Ok(())
 }
 
-/// Reads to the end without replacement, with U+FFFD put in for each malformed sequence. Returns the
-/// text, and the offset and length of each.
+/// Reads to the end without replacement, and puts U+FFFD in for each malformed sequence. Returns
+/// the text, and the offset and length of each.
 fn read_reports<R: Source>(
     alloc: Global,
     reader: &mut DecodeReader<'_, R>,

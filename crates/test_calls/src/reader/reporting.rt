@@ -3,7 +3,9 @@
 
 use enc_reader::{DecodeReader, FromRead, ReadFault, ReadStop, Source};
 use encoding_rs::run::BomHandling;
-use encoding_rs::{Encoding, EUC_JP, GB18030, ISO_2022_JP, SHIFT_JIS, UTF_16LE, UTF_8, WINDOWS_1252};
+use encoding_rs::{
+    EUC_JP, Encoding, GB18030, ISO_2022_JP, SHIFT_JIS, UTF_8, UTF_16LE, WINDOWS_1252,
+};
 use std::io::ErrorKind;
 use std::test::Fail;
 use test_support::devices::{ALL_BYTES, BYTE, Step, StepReader};
@@ -19,7 +21,11 @@ const FAULTY: &[Faulty] = &[
     (UTF_8, b"", &[]),
     (UTF_8, b"caf\xC3\xA9", &[]),
     (UTF_8, b"\xEF\xBB\xBFa\xE2\x82\xFFb", &[(4, 2), (6, 1)]),
-    (UTF_8, b"a\xF0\x90A\xED\xA0\x80\xE2\x82", &[(1, 2), (4, 1), (5, 1), (6, 1), (7, 2)]),
+    (
+        UTF_8,
+        b"a\xF0\x90A\xED\xA0\x80\xE2\x82",
+        &[(1, 2), (4, 1), (5, 1), (6, 1), (7, 2)],
+    ),
     (UTF_8, b"\xEF\xBB", &[(0, 2)]),
     (SHIFT_JIS, b"\x81 \x93\xFA\xFF", &[(0, 1), (4, 1)]),
     (EUC_JP, b"\xC6\xFC\x8F\xB0", &[(2, 2)]),
@@ -44,11 +50,23 @@ fn reports_text_and_what_follows_it(rt: HostRuntime) -> Result<(), Fail> {
     let mut reader = DecodeReader::new(&mut source, None, &mut input);
     let mut dst = [b'.'; 4];
     let stop = reader.read_str_without_replacement(&mut dst)?;
-    assert!(rt; stop == ReadStop::Malformed { written: 2, offset: 5, len: 2 });
+    assert!(rt;
+        stop == ReadStop::Malformed {
+            written: 2,
+            offset: 5,
+            len: 2
+        }
+    );
     assert!(rt; dst.as_slice() == b"ab..".as_slice());
     assert!(rt; reader.had_errors());
     let stop = reader.read_str_without_replacement(&mut dst)?;
-    assert!(rt; stop == ReadStop::Malformed { written: 0, offset: 7, len: 1 });
+    assert!(rt;
+        stop == ReadStop::Malformed {
+            written: 0,
+            offset: 7,
+            len: 1
+        }
+    );
     // a read with replacement in between
     compare_read(&mut reader, Ok(4), b"\xEF\xBF\xBDc")?;
     assert!(rt; reader.read_str_without_replacement(&mut dst)? == ReadStop::Text(0));
@@ -64,7 +82,13 @@ fn counts_on_after_a_read_with_replacement(rt: HostRuntime) -> Result<(), Fail> 
     compare_read(&mut reader, Ok(3), b"\xEF\xBF\xBD")?;
     compare_read(&mut reader, Ok(1), b"a")?;
     let stop = reader.read_str_without_replacement(&mut [0; 4])?;
-    assert!(rt; stop == ReadStop::Malformed { written: 0, offset: 2, len: 1 });
+    assert!(rt;
+        stop == ReadStop::Malformed {
+            written: 0,
+            offset: 2,
+            len: 1
+        }
+    );
     Ok(())
 }
 
@@ -77,7 +101,13 @@ fn reports_no_sequence_that_a_fault_cuts(rt: HostRuntime) -> Result<(), Fail> {
     let mut dst = [b'.'; 4];
     assert!(rt; reader.read_str_without_replacement(&mut dst) == Ok(ReadStop::Text(1)));
     let stop = reader.read_str_without_replacement(&mut dst);
-    assert!(rt; stop == Ok(ReadStop::Malformed { written: 0, offset: 1, len: 1 }));
+    assert!(rt;
+        stop == Ok(ReadStop::Malformed {
+            written: 0,
+            offset: 1,
+            len: 1
+        })
+    );
     assert!(rt; reader.read_str_without_replacement(&mut dst) == Err(ReadFault::Reader));
     assert!(rt; reader.read_str_without_replacement(&mut dst) == Err(ReadFault::Failed));
     assert!(rt; dst.as_slice() == b"a...".as_slice());
@@ -96,15 +126,24 @@ fn looks_for_the_byte_order_marks_that_it_is_to(rt: HostRuntime) -> Result<(), F
     // with `Remove` only that of UTF-8 is no part of the text, and with `Off` each is
     let rows = [
         (BomHandling::Sniff, UTF_8, UTF_16LE, "П"),
-        (BomHandling::Remove, UTF_8, UTF_8, "\u{FFFD}\u{FFFD}\u{1F}\u{4}"),
+        (
+            BomHandling::Remove,
+            UTF_8,
+            UTF_8,
+            "\u{FFFD}\u{FFFD}\u{1F}\u{4}",
+        ),
         (BomHandling::Remove, UTF_16LE, UTF_16LE, "П"),
         (BomHandling::Off, UTF_16LE, UTF_16LE, "\u{FEFF}П"),
     ];
     for (handling, encoding, by, text) in rows {
         let mut source = FromRead::new(b"\xFF\xFE\x1F\x04".as_slice());
         let mut input = [0; 8];
-        let mut reader =
-            DecodeReader::with_bom_handling(&mut source, encoding, handling, &mut input);
+        let mut reader = DecodeReader::with_bom_handling(
+            &mut source,
+            encoding,
+            handling,
+            &mut input,
+        );
         let mut dst = [0; 16];
         let n = reader.read_str(&mut dst)?;
         assert!(rt; &dst[..n] == text.as_bytes() && reader.encoding() == by);

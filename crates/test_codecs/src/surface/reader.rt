@@ -88,8 +88,12 @@ fn a_source_hands_out_its_error_and_its_reader(rt: HostRuntime) -> Result<(), Fa
 fn a_reader_reports_what_is_malformed(rt: HostRuntime) {
     let mut source = FromRead::new(b"\xEF\xBB\xBFa\xFF".as_slice());
     let mut input: [u8; 8] = [0; 8];
-    let mut reader =
-        DecodeReader::with_bom_handling(&mut source, UTF_8, BomHandling::Off, &mut input);
+    let mut reader = DecodeReader::with_bom_handling(
+        &mut source,
+        UTF_8,
+        BomHandling::Off,
+        &mut input,
+    );
     let mut dst: [u8; 8] = [0; 8];
     let stop: Result<ReadStop, ReadFault> = reader.read_str_without_replacement(&mut dst);
     let want = ReadStop::Malformed {
