@@ -9,6 +9,8 @@ from edit_list import file_of_test
 # Folders whose name begins a path of the repository, and words that begin one below crates.
 ROOTS = ("crates/", "docs/", "scripts/", "data/", "bench/", "completions/", ".ci/")
 BELOW = re.compile(r"\b((?:enc|recode|conformance|test)\w*/(?:src|specs|proofs|must-fail|edits|equal)/[\w./-]*\w)")
+# The most columns of a row of a table.
+MOST_COLUMNS = 160
 # What stands for any name.
 ANY = re.compile(r"NAME|Name|WHAT|\bname(?![a-z])")
 
@@ -23,10 +25,20 @@ def named_in(document):
     return [(it, os.path.join(os.path.dirname(document), it)) for it in links] + [(it, it) for it in named]
 
 
+def documents():
+    return sorted(paths("*.md") + paths("*/*.md"))
+
+
+def wide_rows():
+    """The rows of tables that have too many columns."""
+    rows = [(it, at, row) for it in documents() for at, row in enumerate(read(it).splitlines(), 1) if row[:1] == "|"]
+    return [f"{it}:{at}: more than {MOST_COLUMNS} columns: a list in place of the table" for it, at, row in rows
+            if len(row) > MOST_COLUMNS]
+
+
 def dead_paths():
     """The paths that documents name and that are not there."""
-    documents = sorted(paths("*.md") + paths("*/*.md"))
-    named = [(document, *it) for document in documents for it in named_in(document)]
+    named = [(document, *it) for document in documents() for it in named_in(document)]
     return [f"{document}: no {it}" for document, it, path in named if not paths(ANY.sub("*", path))]
 
 
@@ -38,6 +50,6 @@ def missing_tests():
             for crate, module, name in missing]
 
 
-def crates_without_a_row():
-    text = read("ARCHITECTURE.md")
-    return [f"ARCHITECTURE.md: no row of {it}" for it in crates() if not re.search(rf"^\|.*`{it}`", text, re.M)]
+def crates_without_an_item():
+    listed = " ".join(re.findall(r"^- ((?:`\w+`,?\s+)*`\w+`):", read("ARCHITECTURE.md"), re.M))
+    return [f"ARCHITECTURE.md: no item of {it}" for it in crates() if f"`{it}`" not in listed]
