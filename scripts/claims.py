@@ -1,7 +1,6 @@
 """Compares docs/PROVED.md with the contracts in the sources. For scripts/documents.
 
-A claim is an item of a list under "What is proved". The items in it have functions, a colon and clauses: each of these
-functions has each of these clauses.
+A claim is an item under "What is proved". An item in it has functions, a colon, and clauses that each of these has.
 
 A function is `name`, `crate::name`, `module::name` or, of a type or a trait, `Type::name`. A star stands for letters. A
 name by itself takes the qualifier before it in its item. A name in italics stands for the functions of the list item

@@ -155,7 +155,7 @@ def parts():
 
 
 def listed():
-    """The list of docs/VERIFY.md: of each part the files with their definitions, lowest crate first, the code's last."""
+    """The list of docs/VERIFY.md: of each part the files with their definitions, lowest crate first, code last."""
     said, order = "", list(crates())
     for part, items in parts().items():
         lines, types = size(items)

@@ -79,8 +79,7 @@ def of_verify():
 
 def with_lists(path, *lists):
     """A document with these lists between its marks."""
-    rest = iter(lists)
-    return re.sub(f"{FROM}\n.*?{TO}", lambda _: f"{FROM}\n{next(rest)}{TO}", read(path), flags=re.S)
+    return re.sub(f"{FROM}\n.*?{TO}", lambda _, rest=iter(lists): f"{FROM}\n{next(rest)}{TO}", read(path), flags=re.S)
 
 
 @functools.cache
