@@ -4,7 +4,7 @@ import html
 import re
 from dataclasses import dataclass
 
-from claims import CLAIMS, LABEL, Claims, named
+from claims import CLAIMS, LABEL, Claims
 from closure import WORD
 from common import read
 from definitions import Definition
