@@ -24,7 +24,7 @@ def named_in(document):
 
 
 def documents():
-    return sorted(paths("*.md") + paths("*/*.md"))
+    return sorted(paths("*.md") + paths("*/*.md") + paths("crates/*/*.md"))
 
 
 def wide_rows():
