@@ -63,9 +63,9 @@ def table(rows, programs, peers, units=(), way=""):
     """A table in Markdown: rates, and that of recode by the fastest peer and, if measured, by its own before. To the
     right are those of the same texts to or from UTF-16, beside the crate alone."""
     programs = [program for program in programs if any(program in row.times for row in rows)]
-    name = "encoding_rs" if len(peers) == 1 else "the best of the three"
+    name = "encoding_rs" if len(peers) == 1 else "the fastest"
     compared = [(name, peers)] + ([("before", ("before",))] if "before" in programs else [])
-    heads = ["Text", *programs] + [f"recode by {head}" for head, _ in compared]
+    heads = ["Text", *programs] + [f"by {head}" for head, _ in compared]
     heads += [f"recode {way}", f"encoding_rs {way}", "one by the other"] if units else []
     other = {row.title: row for row in units}
     made = ["| " + " | ".join(heads) + " |", "|---" * len(heads) + "|"]
@@ -87,7 +87,7 @@ def simdutf_table(rows):
     """A table in Markdown: rates beside simdutf, and that of recode by each of its implementations."""
     names = [name for name in SIMDUTF if any(name in row.times for row in rows)]
     programs = ["recode", "encoding_rs", *names]
-    heads = ["Text", *programs] + [f"recode by {name}" for name in names]
+    heads = ["Text", *programs] + [f"by {name}" for name in names]
     made = ["| " + " | ".join(heads) + " |", "|---" * len(heads) + "|"]
     for row in [row for row in rows if any(name in row.times for name in names)]:
         cells = [f"{row.title}, {TARGETS[row.way]}"] + [row.rate(program) for program in programs]

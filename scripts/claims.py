@@ -1,11 +1,10 @@
 """Compares docs/PROVED.md with the contracts in the sources. For scripts/documents.
 
-A row of its tables has a claim, functions and clauses. Semicolons divide functions, and clauses in the same order: each
-function of a part has each clause of that part.
+A claim is an item under "What is proved". An item in it has functions, a colon, and clauses that each of these has.
 
 A function is `name`, `crate::name`, `module::name` or, of a type or a trait, `Type::name`. A star stands for letters. A
-name by itself takes the qualifier before it in its part. A name in italics stands for the functions of the list item
-with this name.
+name by itself takes the qualifier before it in its item. A name in italics stands for the functions of the list item
+with this name, `- *NAME*: FUNCTIONS`.
 
 A clause is a label, `its clause` if the contract is one clause without a label, or `every clause`. Names in parentheses
 after it are of definitions that the clause cites, of facts that those cite, or of their fields.
@@ -29,6 +28,8 @@ CRATES_CLAIMED = ("enc_stream", "encoding_rs", "enc_reader", "recode_engine")
 TRAITS_CLAIMED = ("Units", "Chars", "RawDecoder", "RawEncoder", "Source", "Sink")
 
 LABEL = re.compile(r"(?:`(\w+)`|(its clause|every clause))(?: \((.*?)\))?")
+# An item of a list with the items in it, if it is no list of names.
+CLAIM = re.compile(r"^- (?!\*[^*]+\*: )(.*(?:\n  (?!- ).*)*)((?:\n  - .*(?:\n    .*)*)*)", re.M)
 
 
 @dataclass(eq=False)
@@ -104,17 +105,17 @@ class Claims:
     """The claims of the document: which clauses they name, and which names are wrong."""
 
     def __init__(self, text):
-        self.lists = dict(re.findall(r"^- \*(.+?)\*: (.*(?:\n  .*)*)", text, re.M))
+        self.lists = dict(re.findall(r"^- \*([^*]+)\*: (.*(?:\n  .*)*)", text, re.M))
         self.claimed, self.wrong = set(), []
-        for table in re.findall(r"^\| Claim \|.*\n.*\n((?:\|.*\n)*)", text, re.M):
-            for row in table.splitlines():
-                self.add(row.strip("| ").split(" | "))
+        for claim in CLAIM.finditer(text.partition("\n## What is proved\n")[2].partition("\n## ")[0]):
+            said, *items = (" ".join(it.split()) for it in (claim[1], *claim[2].split("\n  - ")[1:]))
+            self.add(said, [it.partition(": ")[::2] for it in items])
 
-    def add(self, cells):
-        functions, clauses = (cell.split(";") for cell in cells[-2:])
-        if len(cells) != 3 or len(functions) != len(clauses) or not all(map(LABEL.search, clauses)):
-            self.wrong.append(f"a row has three cells, and clauses for each part of its functions: {cells[0]}")
-        for part, labels in zip(functions, clauses):
+    def add(self, said, parts):
+        """Adds a claim, by its text and the functions and clauses of each item in it."""
+        if not parts or not all(re.search("[*`]", part) and LABEL.search(labels) for part, labels in parts):
+            self.wrong.append(f"a claim has items of functions, a colon and their clauses: {said}")
+        for part, labels in parts:
             for function in self.functions_in(part):
                 self.add_clauses(function, labels)
 

@@ -10,7 +10,7 @@ import os
 import re
 from typing import NamedTuple
 
-from common import crates, is_there, paths, read
+from common import crates, is_there, item, paths, read
 from places import decoders
 from sources import blocks, counted, end_of_group
 
@@ -154,28 +154,15 @@ def parts():
     return sections
 
 
-def row(part, items):
-    """A row of docs/VERIFY.md: a part, its files with their lines, the lines of all, the definitions."""
-    lines = {path: sum(it.lines for it in items if it.path == path) for path in dict.fromkeys(it.path for it in items)}
-    files = [f"[{os.path.basename(path).removesuffix('.antt')}](../{path}) {number}" for path, number in lines.items()]
-    names = [f"`{it.name}`" for path in lines for it in items if it.path == path]
-    return f"| {part} | {', '.join(files)} | {sum(lines.values())} | {', '.join(names)} |\n"
-
-
-def table():
-    """The table of docs/VERIFY.md: a row for each codec, and of the other parts one for each crate, lowest first, and one
-    for the types of the code."""
-    rows = "| Part | Files, with lines | Lines | Definitions |\n|---|---|---|---|\n"
-    codecs, order = {it.name for it in decoders()}, list(crates())
+def listed():
+    """The list of docs/VERIFY.md: of each part the files with their definitions, lowest crate first, code last."""
+    said, order = "", list(crates())
     for part, items in parts().items():
-        of_crates = {}
-        for it in items:
-            is_own = part not in codecs and it.path.endswith(".antt")
-            of_crates.setdefault(order.index(it.path.split("/")[1]) if is_own else len(order), []).append(it)
-        rows += "".join(row(part, those) for _, those in sorted(of_crates.items()))
-    return rows
-
-
-def sizes():
-    """The lines of definitions and of types of each part."""
-    return {part: size(items) for part, items in parts().items()}
+        lines, types = size(items)
+        said += item(f"{part}: {lines} lines{f', and {types} of types' if types else ''}")
+        files = dict.fromkeys(it.path for it in items)
+        for path in sorted(files, key=lambda path: (path.endswith(".rt"), order.index(path.split("/")[1]))):
+            those = [it for it in items if it.path == path]
+            link = f"[{os.path.basename(path).removesuffix('.antt')}](../{path}), {sum(it.lines for it in those)} lines"
+            said += item(f"{link}: {', '.join(f'`{it.name}`' for it in those)}", 1)
+    return said

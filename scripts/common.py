@@ -9,6 +9,7 @@ import shutil
 import subprocess
 import sys
 import tempfile
+import textwrap
 
 TOP = os.path.dirname(os.path.dirname(os.path.abspath(__file__)))
 NAME = os.path.basename(sys.argv[0])
@@ -43,6 +44,13 @@ def write(path, content):
 def paths(pattern):
     """The paths from the top that a pattern stands for, in order."""
     return sorted(glob.glob(pattern, root_dir=TOP, recursive=True))
+
+
+def item(text, depth=0):
+    """An item of a list in Markdown. No line begins within code, or with a sign."""
+    kept = re.sub(r"`[^`]*`| (?=[-+*=] )", lambda it: it[0].replace(" ", "\0"), text)
+    filled = textwrap.wrap(kept, 118 - 2 * depth, break_long_words=False, break_on_hyphens=False)
+    return textwrap.indent("- " + "\n  ".join(filled), "  " * depth).replace("\0", " ") + "\n"
 
 
 def differing(texts):

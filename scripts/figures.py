@@ -1,4 +1,4 @@
-"""The figures of documents that can be counted, and the tables of them. For scripts/documents."""
+"""The figures of documents that can be counted, and the lists of them. For scripts/documents."""
 
 import functools
 import os
@@ -6,7 +6,7 @@ import re
 
 import claims
 import closure
-from common import crates, differing, paths, read
+from common import crates, differing, item, paths, read
 from edit_list import edits_of, equal_of
 from lists import encodings, labels_of
 from places import decoders
@@ -21,9 +21,9 @@ FOLDERS = {
 }
 
 
-def table(rows):
-    """A table of numbers: what each is of, the number, and where it is from."""
-    return "| | Number | Where |\n|---|---|---|\n" + "".join(f"| {' | '.join(map(str, it))} |\n" for it in rows)
+def list_of(rows):
+    """A list of numbers: what each is of, the number, and where it is from."""
+    return "".join(item(f"{what}: {number} ({where})") for what, number, where in rows)
 
 
 def listed(numbers):
@@ -31,13 +31,13 @@ def listed(numbers):
 
 
 def of_gate():
-    """The table of docs/GATE.md."""
+    """The list of docs/GATE.md."""
     every, tests = {it: edits_of(it) for it in crates()}, {it: tests_of(it) for it in crates()}
     edits = [it for those in every.values() for it in those]
     single, calls = sum("/must-fail/" in it.path for it in edits), sum(bool(it.call) for it in edits)
     shown, equal = sum(bool(it.shown) for it in edits), sum(len(equal_of(it)) for it in crates())
     codecs, by_crate = sum(len(it.codecs) for it in decoders()), {it: len(those) for it, those in every.items()}
-    return table([
+    return list_of([
         ("crates", len(every), f"`crates.txt`; {codecs} codecs, of {len(decoders())} decoders"),
         ("edits", len(edits), f"{listed(by_crate)}; {calls} name a call; `rt ci` tries {single}"),
         ("shown by a run", shown,
@@ -53,8 +53,9 @@ def lines_in(folder, test):
 
 
 def of_verify():
-    """The table of numbers of docs/VERIFY.md."""
-    sizes, clauses = closure.sizes(), [len(it.clauses) for it in claims.functions() if it.clauses]
+    """The list of numbers of docs/VERIFY.md."""
+    sizes = {part: closure.size(items) for part, items in closure.parts().items()}
+    clauses = [len(it.clauses) for it in claims.functions() if it.clauses]
     call, core = sizes["clause `run`"], sizes["core"]
     lines, types = map(sum, zip(*(size for part, size in sizes.items() if part != "labels")))
     less = f"without clause `run` {lines - call[0]} and {types - call[1]}; for UTF-8 alone {core[0]} and {core[1]}"
@@ -63,10 +64,10 @@ def of_verify():
     by_hand = [it for it in paths("crates/*/src/**/*.rt") if not is_written(it) and not it.startswith("crates/test_")]
     executable, proofs = sum(map(executable_lines, by_hand)), lines_in("proofs", False)[0]
     in_folders = {name: (*lines_in(folder, False), said) for name, (folder, said) in FOLDERS.items()}
-    return table([
+    return list_of([
         ("definitions under `decode_run`", f"{lines} lines, and {types} of types", less),
-        ("definitions under `encode_run`", "{} lines, and {} of types".format(*of_encoding), "some are in the table"),
-        ("runs of the indexes: pointers and code points", closure.runs(), "`crates/enc_index/src/data/`"),
+        ("definitions under `encode_run`", "{} lines, and {} of types".format(*of_encoding), "some are in the list"),
+        ("runs of the indexes (pointers and code points)", closure.runs(), "`crates/enc_index/src/data/`"),
         *((f"{name} in all", f"{every} lines, {written} in files that scripts write", said)
           for name, (every, written, said) in in_folders.items()),
         ("executable lines by hand", executable, f"proofs have {proofs / executable:.2f} lines for each"),
@@ -76,10 +77,9 @@ def of_verify():
     ])
 
 
-def with_tables(path, *tables):
-    """A document with these tables between its marks."""
-    rest = iter(tables)
-    return re.sub(f"{FROM}\n.*?{TO}", lambda _: f"{FROM}\n{next(rest)}{TO}", read(path), flags=re.S)
+def with_lists(path, *lists):
+    """A document with these lists between its marks."""
+    return re.sub(f"{FROM}\n.*?{TO}", lambda _, rest=iter(lists): f"{FROM}\n{next(rest)}{TO}", read(path), flags=re.S)
 
 
 @functools.cache
@@ -103,39 +103,34 @@ def with_counts(path):
     """A document with the numbers of the tree, and the sentences of `counts` that it doesn't have."""
     text, missing = read(path), []
     for before, after, number in counts()[path]:
-        text, found = re.subn(rf"({before})\d+({after})", rf"\g<1>{number}\g<2>", text)
+        words = rf"({before})\d+({after})".replace(" ", r"\s+")
+        text, found = re.subn(words, rf"\g<1>{number}\g<2>", text)
         missing += [f"{path}: no words {before}NUMBER{after}"] * (not found)
     return text, missing
 
 
 def definitions():
-    """docs/DEFINITIONS.md: a row for each spec file."""
-    rows = [(crate, it) for crate in crates() for it in specs_of(crate)]
+    """docs/DEFINITIONS.md: an item for each spec file."""
+    items = {it: item(f"[{os.path.basename(it)[:-5]}](../{it}): {headline(it)}") for it in paths("crates/*/specs/*")}
     return """\
 # Definitions
 
 The files of `crates/*/specs/`, lowest crate first, each with the sentence that heads it. Each definition has a name
 of its own, so a search for the name in `crates/*/specs/` finds it. `scripts/documents` writes this file.
-
-| Crate | File | Defines |
-|---|---|---|
-""" + "".join(f"| {crate} | [{os.path.basename(it)[:-5]}](../{it}) | {headline(it)} |\n" for crate, it in rows)
+""" + "".join(f"\n## {it}\n\n{''.join(map(items.get, specs_of(it)))}" for it in crates() if specs_of(it))
 
 
 def written():
-    """The documents with figures, by path: the kind of figures, and the text."""
-    return {
-        "docs/GATE.md": ("numbers", with_tables("docs/GATE.md", of_gate())),
-        "docs/VERIFY.md": ("tables", with_tables("docs/VERIFY.md", closure.table(), of_verify())),
-        **{path: ("numbers", with_counts(path)[0]) for path in counts()},
-        "docs/DEFINITIONS.md": ("spec files", definitions()),
+    """The documents with figures, by path."""
+    return {path: with_counts(path)[0] for path in counts()} | {
+        "docs/GATE.md": with_lists("docs/GATE.md", of_gate()),
+        "docs/VERIFY.md": with_lists("docs/VERIFY.md", closure.listed(), of_verify()),
+        "docs/DEFINITIONS.md": definitions(),
     }
 
 
 def out_of_date():
     """The spec files without a headline, and the documents whose figures are others now."""
     found = [f"{it}: no headline" for crate in crates() for it in specs_of(crate) if not headline(it)]
-    for path, (what, text) in written().items():
-        found += with_counts(path)[1] if path in counts() else []
-        found += [f"{it}: the {what} are others now: run scripts/documents" for it in differing({path: text})]
-    return found
+    found += [it for path in counts() for it in with_counts(path)[1]]
+    return found + [f"{it}: figures or files are others now: run scripts/documents" for it in differing(written())]

@@ -26,10 +26,19 @@ def named_in(document):
     return [(it, os.path.join(os.path.dirname(document), it)) for it in links] + [(it, it) for it in named]
 
 
+def documents():
+    return sorted(paths("*.md") + paths("*/*.md") + paths("crates/*/*.md"))
+
+
+def wide_rows():
+    """The rows of tables that are wider than an editor shows: 160 columns."""
+    rows = [(it, *row) for it in documents() for row in enumerate(read(it).splitlines(), 1)]
+    return [f"{it}:{at}: a row of more than 160 columns" for it, at, row in rows if re.match(r"\|.{160}", row)]
+
+
 def dead_paths():
     """The paths that documents name and that are not there."""
-    documents = sorted(paths("*.md") + paths("*/*.md") + paths("crates/*/*.md"))
-    named = [(document, *it) for document in documents for it in named_in(document)]
+    named = [(document, *it) for document in documents() for it in named_in(document)]
     return [f"{document}: no {it}" for document, it, path in named if not paths(ANY.sub("*", path))]
 
 
@@ -54,6 +63,6 @@ def untested_code():
     return [f"{it}: no example has: {code.splitlines()[0]}" for it, code in shown if code not in examples]
 
 
-def crates_without_a_row():
-    text = read("ARCHITECTURE.md")
-    return [f"ARCHITECTURE.md: no row of {it}" for it in crates() if not re.search(rf"^\|.*`{it}`", text, re.M)]
+def crates_without_an_item():
+    listed = " ".join(re.findall(r"^- ((?:`\w+`,?\s+)*`\w+`):", read("ARCHITECTURE.md"), re.M))
+    return [f"ARCHITECTURE.md: no item of {it}" for it in crates() if f"`{it}`" not in listed]

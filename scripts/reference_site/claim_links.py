@@ -4,7 +4,7 @@ import html
 import re
 from dataclasses import dataclass
 
-from claims import CLAIMS, LABEL, Claims, named
+from claims import CLAIMS, LABEL, Claims
 from closure import WORD
 from common import read
 from definitions import Definition
@@ -57,18 +57,17 @@ class LinkedClaims(Claims):
         self.homes, self.rows, self.by_clause, self.links, self.texts = homes, {}, {}, 0, []
         super().__init__(read(CLAIMS))
 
-    def add(self, cells):
-        super().add(cells)
-        functions, clauses = (cell.split(";") for cell in cells[-2:])
-        row = Row(len(self.rows) + 1, cells[0], [])
-        for part, labels in zip(functions, clauses):
+    def add(self, said, parts):
+        super().add(said, parts)
+        row = Row(len(self.rows) + 1, said, [])
+        for part, labels in parts:
             items = [item for it in self.functions_in(part) for item in items_named(it)]
-            row.parts.append((part.strip(), list(dict.fromkeys(items)), LABEL.findall(labels)))
+            row.parts.append((part, list(dict.fromkeys(items)), LABEL.findall(labels)))
             for item in row.parts[-1][1]:
                 self.homes.page(item)
                 for clause in self.clauses_of(item, row.parts[-1][2]):
                     self.by_clause.setdefault(id(clause), {})[row.number] = row
-        self.rows[" | ".join(cells)] = row
+        self.rows[said] = row
 
     @staticmethod
     def clauses_of(item, labels):
@@ -91,7 +90,7 @@ class LinkedClaims(Claims):
             return body
         return f'<details class="fold"><summary>In words <span>({len(rows)} claims)</span></summary>{body}</details>'
 
-    # The rows of the document
+    # The claims of the document
 
     def link_to(self, item, page, clause=None):
         """A link to an item, or to a clause of it."""
@@ -134,11 +133,11 @@ class LinkedClaims(Claims):
         return (f'<details class="fold"><summary>{name}: {self.labels(items[0], labels, page, marker, True)} '
                 f"<span>({len(items)} functions)</span></summary><ul>{rows}</ul></details>")
 
-    def table(self, rows, pages, page=PAGE):
-        """A table of claims, as HTML."""
+    def listed(self, claims, pages, page=PAGE):
+        """A list of claims, by their texts, as HTML."""
         found = []
-        for line in rows:
-            row = self.rows[line.strip("| ")]
+        for said in claims:
+            row = self.rows[" ".join(said.split())]
             parts = "".join(self.part(*it, page, pages.marker) for it in row.parts)
             text = pages.inline(row.text, CLAIMS, page)
             found.append(f'<div class="claim" id="{row.anchor}"><div class="claim-text">{text}</div>'

@@ -5,6 +5,7 @@ import os
 import posixpath
 import re
 
+from claims import CLAIM, CLAIMS
 from common import TOP, is_there, paths, read
 from definitions import spec_files
 from homes import Target, page_of_spec
@@ -20,8 +21,8 @@ TICKED = r"(?P<ticks>`+)(?P<code>.+?)(?P=ticks)"
 BARE = r"(?<![\w/.$`(\[-])(?P<path>(?:crates|docs|scripts|data|bench|completions)/[\w./-]*\w|(?:[A-Z]+)\.md)"
 PROSE = re.compile("|".join((PICTURE, LINK, TICKED, BARE)))
 FENCE = re.compile(r"^(```.*?^```)$", re.M | re.S)
-CLAIM_TABLE = re.compile(r"^\| Claim \|.*\n.*\n((?:\|.*\n)*)", re.M)
-LIST_OF_NAMES = re.compile(r"^- \*(.+?)\*:", re.M)
+CLAIM_LIST = re.compile(rf"(?:{CLAIM.pattern}\n)+", re.M)
+LIST_OF_NAMES = re.compile(r"^- \*([^*]+)\*:", re.M)
 
 
 def documents():
@@ -143,15 +144,18 @@ class Prose:
     def page(self, document):
         """The page of a document."""
         page, text = page_of_document(document), re.sub(r"<!--.*?-->\n?", "", read(document), flags=re.S)
-        tables = []
+        lists = []
 
         def kept(match):
-            tables.append(self.claims.table(match[1].splitlines(), self.pages, page))
-            return f"\n%TABLE{len(tables) - 1}%\n\n"
-        if document == "docs/PROVED.md":
-            text = CLAIM_TABLE.sub(kept, text)
+            claims = [it for it in CLAIM.finditer(match[0]) if it[2]]
+            if not claims:
+                return match[0]
+            lists.append(self.claims.listed([it[1] for it in claims], self.pages, page))
+            return f"\n%CLAIMS{len(lists) - 1}%\n\n"
+        if document == CLAIMS:
+            text = CLAIM_LIST.sub(kept, text)
             text = LIST_OF_NAMES.sub(r'- <span id="names-\1"></span>*\1*:', text)
         parts = FENCE.split(text)
         found = "".join(it if it.startswith("```") else self.text(it, document, page) for it in parts)
-        found = re.sub(r"%TABLE(\d+)%", lambda it: tables[int(it[1])], found)
+        found = re.sub(r"%CLAIMS(\d+)%", lambda it: lists[int(it[1])], found)
         return page, re.sub(r"^```text$", "```none", found, flags=re.M)
