@@ -32,7 +32,9 @@ returns-in_default g c =
     (λ f. false≢true (sym invariant.reading ∙ c.read_or_lend.ensures.from_then_on.0 f)) in
     let fails = c.read_or_lend.ensures.reader_fault fault in
     IsRecodeRun-fault c.requires.reader c.requires.writer Read refl
-    (RunsToFault-by (search rules) (search rules) (RunsToFault-reading invariant.ran next fails))
+    (RunsToFault-by (search rules)
+    (search (rules, c.writer-in_default-1, c.new-encoding.ensures, c.reads.invariant))
+    (RunsToFault-reading invariant.ran next fails))
     (λ _. (search (rules, has_failed-reading invariant.ran next fails), search rules)) (λ is. cc)
 
 pub returns-in_err-replaced : goal.returns-in_err-replaced
@@ -41,7 +43,7 @@ returns-in_err-replaced g c =
     (state_of c.read_or_lend.new.self) in
     let none : c.text-piece.result.now ≡ [] = no_text _ (search rules) in
     IsRecodeRun-fault c.requires.reader c.requires.writer Write (search rules)
-    (RunsToFault-by {t = next.remaining} {k = g.W.Sink.contents c.finish-replaced.new.self.writer.now}
+    (RunsToFault-by {t = next.remaining} {k = g.W.Sink.contents c.finish.new.self.writer.now}
     (search rules) (search rules)
     (RunsToFault-ending next c.reads.invariant.ran
     (HandsOut-by c.text-piece.ensures c.in-Ok.ensures.ok)
@@ -54,7 +56,7 @@ returns-then-is_empty g c =
     (state_of c.read_or_lend.new.self) in
     let none : c.text-piece.result.now ≡ [] = no_text _ (search rules) in
     IsRecodeRun-ok c.requires.reader c.requires.writer refl
-    (RunsToEnd-by {t = next.remaining} {k = g.W.Sink.contents c.finish-replaced.new.self.writer.now}
+    (RunsToEnd-by {t = next.remaining} {k = g.W.Sink.contents c.finish.new.self.writer.now}
     (search rules) (search rules) (search rules)
     (RunsToEnd-last next c.reads.invariant.ran
     (HandsOut-by c.text-piece.ensures c.in-Ok.ensures.ok)
@@ -68,7 +70,7 @@ returns-in_err-write_str g c =
     let same : c.from_utf8_unchecked.result.now ≡ c.text-piece.result.now = search rules in
     IsRecodeRun-fault c.requires.reader c.requires.writer Write (search rules)
     (RunsToFault-by {t = next.remaining} {k = g.W.Sink.contents c.write_str.new.self.writer.now}
-    (search rules) (search rules)
+    (search rules) ?
     (RunsToFault-writing next c.reads.invariant.ran
     (HandsOut-by c.text-piece.ensures c.in-Ok.ensures.ok)
     (rw same at c.in_err-write_str.ensures.err)))
@@ -109,5 +111,5 @@ reads-preserved g c =
 pub returns : goal.returns
 returns g c =
     IsRecodeRun-fault c.requires.reader c.requires.writer Read refl
-    (RunsToFault-by (search rules) (search rules) (RunsToFault-between c.reads.invariant.ran))
+    (RunsToFault-by (search rules) (cc (c.new-encoding.ensures.same_writer, c.reads.invariant.same_writer)) (RunsToFault-between c.reads.invariant.ran))
     (λ _. (has_failed-between c.reads.invariant.ran _ (search rules), search rules)) (λ is. cc)
