@@ -1,5 +1,6 @@
 -- The count of the bytes given, and the malformed sequences passed, over several steps.
-use Rattle.std.proofs.Common.{◌≡◌, ℕ, ◌+◌, ◌-◌, ◌^◌, ◌<◌, ◌≤◌, min, Bool, true, false, List, [], ◌++◌, length, take, drop}
+use Rattle.std.proofs.Common.{◌≡◌, ℕ, ◌+◌, ◌-◌, ◌^◌, ◌≤◌, min, Bool, true, false, List, [], ◌++◌, length}
+use Rattle.std.proofs.Common.{take, drop}
 use Rattle.std.proofs.Common.{Option, refl, ap, ◌∙◌, sym, arith, append_assoc, append-nil, length-append, nat_eq, ◌||◌}
 use Rattle.std.proofs.Math.ListN.{length-drop}
 use Rattle.std.proofs.lemmas.List.{length-take}
@@ -141,7 +142,8 @@ module _ {k₀ k₁ : Option (List ℕ)} {old new : ReaderState} {n₀ n₁ : �
 
 -- a reader that has read nothing
 
-pub HasGiven-fresh : (handling : BomHandling) (e : Encoding) → HasGiven 0 (fresh_reader handling e) 0
+pub HasGiven-fresh : (handling : BomHandling) (e : Encoding)
+    → HasGiven 0 (fresh_reader handling e) 0
 HasGiven-fresh handling e = record { counted = refl; among = omega arith }
 
 pub fresh_faults : (handling : BomHandling) (e : Encoding) (z : List ℕ)
@@ -192,8 +194,8 @@ pub record HasCounted (start now : ReaderPlace) (n₀ n₁ : ℕ) (wrote : List 
   pub read : HasRead start now wrote replaced waits pulls
   pub counts : CountsBytes start.state now.state n₀ n₁ read.bytes
 
-abbrev pub HasCounted-turn : {known : Option (List ℕ)} {s₀ s : ReaderState} {n₀ n₁ : ℕ} {wrote : List ℕ}
-    {replaced waits : Bool}
+abbrev pub HasCounted-turn : {known : Option (List ℕ)} {s₀ s : ReaderState} {n₀ n₁ : ℕ}
+    {wrote : List ℕ} {replaced waits : Bool}
     → IsTurn s₀ s wrote replaced waits → CountsBytes s₀ s n₀ n₁ []
     → HasCounted (reader_at known s₀) (reader_at known s) n₀ n₁ wrote replaced waits 0
 HasCounted-turn turn counts = record { read = HasRead-turn turn; counts = counts }

@@ -102,8 +102,8 @@ abbrev reader_with : DecoderState → Bool → List ℕ → ReaderState
 reader_with d ended unread = record { decoder = d; unread = unread; ended = ended }
 
 -- the same, by places in the buffer
-abbrev pub HandsOut-chunk : (source : Option (List ℕ)) (d : DecoderState) (filled at n : ℕ) (xs : List ℕ)
-    (ended had : Bool)
+abbrev pub HandsOut-chunk : (source : Option (List ℕ)) (d : DecoderState) (filled at n : ℕ)
+    (xs : List ℕ) (ended had : Bool)
     → at ≤ filled → filled ≤ length xs
     → n ≤ filled - at → IsOwnText d (take n (take (filled - at) (drop at xs)))
     → (ended ≡ true → IsExhausted source)

@@ -85,8 +85,8 @@ before_end s f = ap (λ b. if b then 0 else 1 + (2 * length s.unread + length s.
 
 -- A chunk that is pulled after the unread bytes, by places in the buffer: `held` bytes are unread,
 -- and n more are pulled after them. All is owed that was owed.
-abbrev pub PullsChunk-after : {t₀ t₁ : Option (List ℕ)} {d : DecoderState} {ended : Bool} {xs : List ℕ}
-    (held n : ℕ) (ys : List ℕ)
+abbrev pub PullsChunk-after : {t₀ t₁ : Option (List ℕ)} {d : DecoderState} {ended : Bool}
+    {xs : List ℕ} (held n : ℕ) (ys : List ℕ)
     → ended ≡ false → has_finished d ≡ false → take held ys ≡ xs → n ≤ length ys - held
     → ConsumesRemaining t₀ t₁ (take n (drop held ys))
     → PullsChunk t₀ t₁ (record { decoder = d; unread = xs; ended = ended })

@@ -1,5 +1,5 @@
 -- What a turn of the decoder without replacement hands out and reports.
-use Rattle.std.proofs.Common.{◌≡◌, ℕ, ◌+◌, ◌-◌, ◌^◌, ◌<◌, ◌≤◌, min, Bool, true, false, List, [], ◌∷◌, ◌++◌, length, take}
+use Rattle.std.proofs.Common.{◌≡◌, ℕ, ◌+◌, ◌-◌, ◌≤◌, Bool, true, false, List, [], ◌∷◌, ◌++◌, length, take}
 use Rattle.std.proofs.Common.{drop, Option, Some, None, refl, ap, ◌∙◌, sym, subst, arith, append-nil, ◌||◌}
 use Rattle.std.proofs.Common.{length-append}
 use Rattle.std.proofs.lemmas.List.{length-take}
@@ -72,7 +72,8 @@ module _ (before : ReaderState) {new : DecoderState} {room : ℕ} {result : Deco
             (or_true (any_malformed put)));
       })
 
-  hands_out : HandsOutSequences decodes.call.done (wrote ++ replacement_of_lens (lens_of_result result))
+  hands_out : HandsOutSequences decodes.call.done
+      (wrote ++ replacement_of_lens (lens_of_result result))
       (reports_malformed (lens_of_result result))
   hands_out = hands_out_by result decodes
 
@@ -85,7 +86,8 @@ module _ (before : ReaderState) {new : DecoderState} {room : ℕ} {result : Deco
       let first = sequence_at_end made.call.put made.call.stops.next in
       let is_within : phase_of new.life ≡ Within =
       ap phase_of (made.life
-      ∙ ap (life_after before.decoder.life false (before.decoder.pending ++ take read before.unread))
+      ∙ ap (life_after before.decoder.life false
+      (before.decoder.pending ++ take read before.unread))
       (made.call.stops.then_next ∙ first.2))
       ∙ within_after _ first.0 first.1 in
       omega (arith, ap length (within_bytes new (after.unread ++ z) is_within), lengths)
@@ -189,7 +191,8 @@ module _ {start now next : ReaderPlace} {pulled : ReaderState} {n₀ n₁ n₂ n
       → HasReported start next n₀ n₃ wrote lens waits (pulls + 1)
   HasReported-more {lens = lens} waited pull turn passes_faults counts =
       let bytes : List ℕ = waited.so_far.read.bytes ++ pull.pulls.bytes in
-      let pulled_reads : ReadsOwed start.remaining next.remaining start.state pulled bytes [] false =
+      let pulled_reads : ReadsOwed start.remaining next.remaining start.state pulled bytes []
+      false =
       ReadsOwed-then start now (reader_at next.remaining pulled) waited.so_far.read.reads
       pull.pulls.reads in
       record {
@@ -212,13 +215,14 @@ module _ {start now next : ReaderPlace} {pulled : ReaderState} {n₀ n₁ n₂ n
 
 -- A read that has come to text, to a malformed sequence or to the end.
 module _ {start now : ReaderPlace} {n₀ n₁ : ℕ} where
-  pub ReportsFaults-read : {wrote : List ℕ} {lens : Option MalformedLens} {had_before had_after : Bool} {pulls : ℕ} {faults : List (ℕ × ℕ)}
+  pub ReportsFaults-read : {wrote : List ℕ} {lens : Option MalformedLens}
+      {had_before had_after : Bool} {pulls : ℕ} {faults : List (ℕ × ℕ)}
       → HasReported start now n₀ n₁ wrote lens false pulls
       → had_after ≡ (had_before || reports_malformed lens)
       → (now.state.ended ≡ true → IsExhausted now.remaining)
       → faults_of_lens n₁ (length now.state.unread) lens ≡ faults
-      → ReportsFaults start.remaining now.remaining start.state now.state n₀ n₁ wrote faults had_before
-      had_after
+      → ReportsFaults start.remaining now.remaining start.state now.state n₀ n₁ wrote faults
+      had_before had_after
   ReportsFaults-read {lens = lens} reported flag exhausted faults_are = record {
     hands_out = HandsOut-read reported.so_far flag exhausted;
     counts = HasGiven-then reported.so_far.counts;

@@ -39,7 +39,8 @@ pub record CanDecode (s : ReaderState) (room : ℕ) : Type 0 where
   pub roomy : 4 ≤ room
 
 -- a call of the decoder with the unread bytes
-abbrev pub unread_call : ReaderState → DecodeErrorMode → ℕ → DecoderResult → ℕ → List ℕ → Bool → Call
+abbrev pub unread_call : ReaderState → DecodeErrorMode → ℕ → DecoderResult → ℕ → List ℕ → Bool
+    → Call
 unread_call s mode room result read wrote replaced = record {
   src = s.unread;
   last = s.ended;
@@ -144,7 +145,8 @@ module _ (before : ReaderState) {new : DecoderState} {mode : DecodeErrorMode} {r
     )
 
     pub CountsBytes-call : {n : ℕ} {unread : List ℕ} → drop read before.unread ≡ unread
-        → CountsBytes before (record { decoder = new; unread = unread; ended = before.ended }) n n []
+        → CountsBytes before (record { decoder = new; unread = unread; ended = before.ended })
+        n n []
     CountsBytes-call rest_is = rw (← rest_is) (record {
       counted = λ given counted. let same : given ≡ given + 0 = omega arith in
           counted ∙ ap (λ m. min m (2 ^ 64 - 1)) same;

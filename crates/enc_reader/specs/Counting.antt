@@ -14,7 +14,8 @@ pub record HasGiven (count : ℕ) (s : ReaderState) (given : ℕ) : Type 0 where
 -- `given` bytes and still gives exactly z. The sequences owed are the last ones of the whole input.
 abbrev pub owed_faults : ℕ → ReaderState → List ℕ → List (ℕ × ℕ)
 owed_faults given s z =
-    faults_from (given + length z - length (sequence_bytes (owed_sequences s z))) (owed_sequences s z)
+    faults_from (given + length z - length (sequence_bytes (owed_sequences s z)))
+    (owed_sequences s z)
 
 -- The source gives `bytes`. Then the faults owed before are these and those owed now, whatever it
 -- still gives.

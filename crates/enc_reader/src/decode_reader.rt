@@ -286,10 +286,10 @@ impl<'a, R: Source> DecodeReader<'a, R> {
     /// Returns a reader of `reader`, through the buffer `input`, that looks for the byte order
     /// marks of `handling`.
     ///
-    /// It decodes by `encoding`. With `Sniff` a byte order mark overrides it. With `Remove` only the
-    /// byte order mark of `encoding` is looked for, and with `Off` none is. One that is found is no
-    /// part of the text. Nothing is read yet. If the source has failed, so has the reader. Takes no
-    /// memory. Condition: `input` is not empty.
+    /// It decodes by `encoding`. With `Sniff` a byte order mark overrides it. With `Remove` only
+    /// the byte order mark of `encoding` is looked for, and with `Off` none is. One that is found
+    /// is no part of the text. Nothing is read yet. If the source has failed, so has the reader.
+    /// Takes no memory. Condition: `input` is not empty.
     pub fn with_bom_handling(
         reader: &'a mut R,
         encoding: Encoding,

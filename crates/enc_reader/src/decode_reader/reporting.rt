@@ -190,9 +190,9 @@ impl<'a, R: Source> DecodeReader<'a, R> {
     ///   the end, and then in each later read.
     /// - `Malformed`: text is written, which may be empty, and a malformed sequence follows it. The
     ///   next read goes on after the sequence. It is reported whether or not U+FFFD would fit. A
-    ///   caller who puts U+FFFD in its place gets the text of [`DecodeReader::read_str`]. The offset
-    ///   counts all bytes that the source has given to this reader, with a byte order mark. It is
-    ///   exact while the source has given fewer than 2^64 bytes.
+    ///   caller who puts U+FFFD in its place gets the text of [`DecodeReader::read_str`]. The
+    ///   offset counts all bytes that the source has given to this reader, with a byte order mark.
+    ///   It is exact while the source has given fewer than 2^64 bytes.
     ///
     /// Every malformed sequence of the input is reported in order, except those that other reads
     /// replace, which may come between. [`DecodeReader::had_errors`] is true after a report too.

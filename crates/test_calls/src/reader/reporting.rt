@@ -79,8 +79,8 @@ fn counts_on_after_a_read_with_replacement(rt: HostRuntime) -> Result<(), Fail> 
     let mut source = FromRead::new(StepReader::new(b"\xFFa\xFF", &[BYTE]));
     let mut input = [0; 1];
     let mut reader = DecodeReader::new(&mut source, None, &mut input);
-    compare_read(&mut reader, Ok(3), b"\xEF\xBF\xBD")?;
-    compare_read(&mut reader, Ok(1), b"a")?;
+    // a byte order mark may come until the second byte is read
+    compare_read(&mut reader, Ok(4), b"\xEF\xBF\xBDa")?;
     let stop = reader.read_str_without_replacement(&mut [0; 4])?;
     assert!(rt;
         stop == ReadStop::Malformed {

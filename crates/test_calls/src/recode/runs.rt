@@ -89,11 +89,11 @@ const FAULTS: &[FaultRow] = &[
         true,
         b"a",
     ),
-    // any error is a fault
+    // a reader that fails after a byte, and a writer, for which any error is a fault
     (
         (WINDOWS_1252, UTF_8),
         b"a\xE9",
-        &[BYTE, INTERRUPTED, BYTE],
+        &[BYTE, FAULT, BYTE],
         &[BYTE],
         true,
         b"a",
