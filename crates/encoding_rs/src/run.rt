@@ -19,9 +19,9 @@ mod error;
 
 pub use crate::encode_run::{EncodeCall, EncodeReport, encode_run, encode_run_barring};
 pub use enc_stream::BomHandling;
-pub use error::RunError;
 use enc_stream::{Decoder, Encoding};
 use enc_units::{CoderResult, DecoderResult};
+pub use error::RunError;
 use std::alloc::{AllocError, Global};
 
 /// One call of a run: the output's code units, the error mode, the chunk's length and the room.
