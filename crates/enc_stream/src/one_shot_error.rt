@@ -59,7 +59,8 @@ impl From<OneShotError> for io::Error {
     /// Returns an error of kind `OutOfMemory`, or of kind `InvalidInput` with the printed reason.
     ///
     /// No memory makes an input shorter that is too long for a length to allocate: its caller has
-    /// to pass another.
+    /// to pass another. A crate that uses this conversion names `enc_stream` in crates.txt, beside
+    /// `encoding_rs`.
     fn from(error: OneShotError) -> io::Error {
         match error {
             OneShotError::Memory => io::Error::from(ErrorKind::OutOfMemory),
