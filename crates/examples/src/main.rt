@@ -1,8 +1,9 @@
 //! Examples of calls, each in a file of its own.
 //!
 //! `examples detection FILE=LABEL ..` finds the encodings of files. `examples first-fault LABEL`,
-//! `examples form-data LABEL`, `examples legacy-writer LABEL` and `examples mail-part` read standard
-//! input. `examples all` runs each over the files of `data`, from which it has to be started.
+//! `examples form-data LABEL`, `examples legacy-writer LABEL` and `examples mail-part` read
+//! standard input. `examples all` runs each over the files of `data`, from which it has to be
+//! started.
 #![tactic(auto)]
 
 mod detection;

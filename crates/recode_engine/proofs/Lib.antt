@@ -1,3 +1,5 @@
-pub mod SourceLemmas
+pub mod SourceSinkLemmas
+pub mod EncodingLemmas
+pub mod UnencodedLemmas
 pub mod RunLemmas
 pub mod RunOutcomeLemmas

@@ -1,37 +1,33 @@
 -- What a run has done after some reads, and where a fault stops it.
 use Rattle.std.proofs.Common.{◌≡◌, ℕ, ◌+◌, ◌-◌, ◌*◌, ◌^◌, ◌<◌, ◌≤◌, inl, inr, Bool, true, false, ◌||◌, List, []}
 use Rattle.std.proofs.Common.{◌++◌, length, Option, Some, None, refl, ap, ◌∙◌, sym, append_assoc}
-use Rattle.std.proofs.Common.{append-nil, length-append, arith, chars, subst}
+use Rattle.std.proofs.Common.{append-nil, length-append, arith, chars}
 use Rattle.std.proofs.lemmas.Bool.{false≢true}
 use Rattle.std.proofs.lemmas.Str.{chars-encodes, chars-append, chars-nil}
 use Rattle.std.specs.Prelude.{IfSome}
 use Rattle.enc_units.proofs.Utf8CharsLemmas.{their_units}
 use Rattle.enc_decoder.specs.Sequence.{sequence_text, any_malformed}
 use Rattle.enc_decoder.proofs.SequenceLemmas.{sequence_text-append}
+use Rattle.enc_encoder.specs.declared.character_set.CharacterSet.{CharacterSet}
 use Rattle.enc_encoder.specs.declared.character_set.CharacterSet.TheVariants.{Ascii}
-use Rattle.enc_encoder.specs.EncoderRule.{EncoderRule}
-use Rattle.enc_encoder.specs.Text.{bytes_of_text, with_references}
+use Rattle.enc_encoder.specs.Text.{bytes_of_text, with_references, escape_at_end}
 use Rattle.enc_encoder.specs.Unmappable.{any_unmappable}
 use Rattle.enc_stream.specs.declared.bom.BomHandling.TheVariants.{Sniff}
 use Rattle.enc_stream.specs.declared.encoding.Encoding.{Encoding}
-use Rattle.enc_stream.specs.Encodings.{output_rule}
 use Rattle.enc_stream.specs.Decoding.{has_finished, whole_sequences}
+use Rattle.enc_stream.specs.Encoder.{EncoderState, fresh_encoder, raw_state}
 use Rattle.enc_stream.proofs.EndOfInputLemmas.{fresh_sequences, none_left}
-use Rattle.enc_stream.proofs.EncoderProgressLemmas.{output_rule_is}
+use Rattle.enc_stream.proofs.EncoderProgressLemmas.{none_due, output_rule_is}
 use Rattle.enc_reader.specs.Source.{ConsumesRemaining, IsExhausted}
 use Rattle.enc_reader.specs.Reading.{ReaderState, ReadsOwed, HandsOut, FailsToRead, IsReaderAtEnd, distance_to_end}
 use Rattle.enc_reader.specs.Reading.{fresh_reader, owed_sequences}
 use Rattle.enc_reader.proofs.SourceLemmas.{ConsumesRemaining-then}
 use Rattle.enc_reader.proofs.ReadingLemmas.{ReaderPlace, reader_at, ReadsOwed-none, ReadsOwed-then, handed_utf_8}
-use Rattle.enc_writer.specs.Sink.{AppendsContents}
-use Rattle.enc_writer.specs.Writing.{WriterState, HasWritten, TakesPrefix, StopsWithin, EndsText, AppendsText}
-use Rattle.enc_writer.specs.Writing.{fresh_writer, owed_bytes}
-use Rattle.enc_writer.proofs.WritingLemmas.{HasWritten-none, StopsWithin-none}
+use Rattle.recode_engine.specs.Writing.{HasEncoded, StopsWithin, bytes_from_state, text_to_encode}
 use Rattle.recode_engine.specs.Run.{RunsToEnd, RunsToFault, whole_text, recoded_bytes, any_replaced}
-use Rattle.recode_engine.proofs.SourceLemmas.{all_given, none_remaining}
-
-not_ended : {P : Type 0} → false ≡ true → P
-not_ended e = cc
+use Rattle.recode_engine.proofs.SourceSinkLemmas.{AppendsContents-then, all_given, none_remaining}
+use Rattle.recode_engine.proofs.EncodingLemmas.{not_ended, HasEncoded-none, HasEncoded-then, HasEncoded-longer_text}
+use Rattle.recode_engine.proofs.EncodingLemmas.{StopsWithin-none}
 
 -- The text owed before is that handed out and that owed now.
 
@@ -60,51 +56,61 @@ pub record RunStart : Type 0 where
 pub record RunState : Type 0 where
   pub source : ReaderPlace
   pub taken : Option (List ℕ)
-  pub writer : WriterState
+  pub encoder : EncoderState
   pub malformed : Bool
+  pub replaced : Bool
   pub made : ℕ
 
--- Each of the reads has handed out a text: all of it is written.
+-- Each of the reads has handed out a text: all of it is encoded.
 pub record HasRun (start : RunStart) (now : RunState) : Type 0 where
   pub bytes : List ℕ
   pub wrote : List ℕ
   pub reads : ReadsOwed start.remaining now.source.remaining (fresh_reader start.from)
       now.source.state bytes wrote now.malformed
   pub is_exhausted : now.source.state.ended ≡ true → IsExhausted now.source.remaining
-  pub written : HasWritten start.taken now.taken (fresh_writer start.to) now.writer (chars wrote)
+  pub encoded : HasEncoded (text_to_encode (fresh_encoder [] start.to) (chars wrote))
+      (text_to_encode now.encoder []) false start.taken now.taken now.replaced
   pub enough : now.made + distance_to_end now.source.state ≤ 1 + 2 * length bytes
 
 pub HasRun-start : {start : RunStart} {remaining : Option (List ℕ)} {reader : ReaderState}
-    {taken : Option (List ℕ)} {writer : WriterState} {malformed : Bool}
-    → remaining ≡ start.remaining → reader ≡ fresh_reader start.from → taken ≡ start.taken
-    → writer ≡ fresh_writer start.to → malformed ≡ false
+    {encoder : EncoderState} {malformed : Bool}
+    → remaining ≡ start.remaining → reader ≡ fresh_reader start.from
+    → encoder ≡ fresh_encoder [] start.to → malformed ≡ false
     → HasRun start (record {
       source = reader_at remaining reader;
-      taken = taken;
-      writer = writer;
+      taken = start.taken;
+      encoder = encoder;
       malformed = malformed;
+      replaced = false;
       made = 0;
     })
-HasRun-start {start} all_remaining is_fresh none_taken fresh none_malformed =
-    rw (all_remaining, is_fresh, none_taken, fresh, none_malformed) (record {
+HasRun-start {start} all_remaining is_fresh fresh none_malformed =
+    rw (all_remaining, is_fresh, fresh, none_malformed) (record {
       bytes = [];
       wrote = [];
       reads = ReadsOwed-none start.remaining (fresh_reader start.from);
       is_exhausted = λ e. not_ended e;
-      written = rw chars-nil (HasWritten-none start.taken (fresh_writer start.to));
+      encoded = rw chars-nil
+          (HasEncoded-none (text_to_encode (fresh_encoder [] start.to) []) false start.taken);
       enough = omega arith;
     })
 
--- The bytes of a whole input are those that a fresh writer owes for its text.
+-- What a run owes is what its reader and its encoder owe that have read nothing.
 owed_is : (from to : Encoding) (bytes : List ℕ)
     → recoded_bytes from to bytes
-    ≡ owed_bytes (fresh_writer to) (sequence_text (owed_sequences (fresh_reader from) bytes))
+    ≡ bytes_from_state (fresh_encoder [] to)
+    (sequence_text (owed_sequences (fresh_reader from) bytes))
 owed_is from to bytes =
-    ap (λ (rule : EncoderRule). bytes_of_text rule Ascii (with_references rule (whole_text from bytes)))
+    ap (λ rule. bytes_of_text rule Ascii (with_references rule (whole_text from bytes)))
     (sym (output_rule_is [] to))
-    ∙ ap (λ ss. owed_bytes (fresh_writer to) (sequence_text ss)) (fresh_sequences Sniff from bytes)
+    ∙ ap (λ ss. bytes_from_state (fresh_encoder [] to) (sequence_text ss))
+    (fresh_sequences Sniff from bytes)
 
 -- At the end nothing is owed.
+none_owed : (e : EncoderState) → e.set ≡ Ascii → bytes_from_state e [] ≡ []
+none_owed e h = ap (λ (s : CharacterSet). escape_at_end ((raw_state e).rule.set_after s [])) h
+    ∙ none_due e.barred e.encoding
+
 none_after : (s : ReaderState) → has_finished s.decoder ≡ true → (z : List ℕ)
     → owed_sequences s z ≡ []
 none_after s f z = none_left s.decoder.life s.decoder.encoding s.decoder.set
@@ -118,42 +124,16 @@ whole_given old None bytes given fails = rw given tt
 whole_given old (Some rest) bytes given fails =
     rw given (λ few. fails (omega (arith, few, length-append bytes rest)))
 
--- Some reads have handed out `text`, of which the sink has taken a prefix of the bytes.
-RunsToFault-by_prefix : (start : RunStart) (next : ReaderPlace) {taken : Option (List ℕ)}
-    {bytes wrote text : List ℕ} {malformed last : Bool}
-    → ReadsOwed start.remaining next.remaining (fresh_reader start.from) next.state bytes wrote
-    malformed → (next.state.ended ≡ true → IsExhausted next.remaining) → text ≡ chars wrote
-    → (last ≡ true → has_finished next.state.decoder ≡ true)
-    → TakesPrefix start.taken taken (fresh_writer start.to) text last
-    → RunsToFault start.from start.to start.remaining next.remaining start.taken taken
-RunsToFault-by_prefix start next {bytes = bytes} {wrote = wrote} {text = text} reads exhausted
-    text_is finished takes =
-    let later : List ℕ → List ℕ = λ z. sequence_text (owed_sequences next.state z) in
-    record {
-      bytes = bytes;
-      given = reads.given;
-      ended = next.state.ended;
-      none_left = exhausted;
-      wrote = takes.pushed;
-      written = takes.taken;
-      prefix = λ z ends.
-          let others = takes.prefix (later z)
-          (λ is_last. ap sequence_text (none_after next.state (finished is_last) z)) in (
-            others.0,
-            owed_is start.from start.to (bytes ++ z)
-                ∙ ap (owed_bytes (fresh_writer start.to)) (owed_text reads z ends
-                ∙ ap (λ t. t ++ later z) (sym text_is))
-                ∙ others.1,
-          );
-    }
-
 -- one read more
 module _ {start : RunStart} {now : RunState} (next : ReaderPlace) {text : List ℕ} {malformed : Bool}
     (so_far : HasRun start now)
     (hands_out : HandsOut now.source.remaining next.remaining now.source.state next.state text
     now.malformed malformed) where
-  reads_on : ReadsOwed start.remaining next.remaining (fresh_reader start.from) next.state
-      (so_far.bytes ++ hands_out.bytes) (so_far.wrote ++ text) malformed
+  abbrev bytes : List ℕ
+  bytes = so_far.bytes ++ hands_out.bytes
+
+  reads_on : ReadsOwed start.remaining next.remaining (fresh_reader start.from) next.state bytes
+      (so_far.wrote ++ text) malformed
   reads_on = rw hands_out.flag
       (ReadsOwed-then (reader_at start.remaining (fresh_reader start.from)) now.source next
       so_far.reads hands_out.reads)
@@ -161,109 +141,116 @@ module _ {start : RunStart} {now : RunState} (next : ReaderPlace) {text : List �
   chars_on : chars (so_far.wrote ++ text) ≡ chars so_far.wrote ++ chars text
   chars_on = chars-append so_far.wrote text (handed_utf_8 so_far.reads)
 
-  -- its text is written
-  module _ {between : Option (List ℕ)} {mid : WriterState}
-      (writes : AppendsText now.taken between now.writer mid (chars text)) where
-    written_on : HasWritten start.taken between (fresh_writer start.to) mid
-        (chars (so_far.wrote ++ text))
-    written_on = rw chars_on
-        (writes.after start.taken (fresh_writer start.to) (chars so_far.wrote) so_far.written)
+  owed_on : (z : List ℕ) → (next.state.ended ≡ true → z ≡ [])
+      → recoded_bytes start.from start.to (bytes ++ z) ≡ so_far.encoded.wrote
+      ++ bytes_from_state now.encoder (chars text ++ sequence_text (owed_sequences next.state z))
+  owed_on z ends =
+      let later = hands_out.bytes ++ z in
+      let ended : now.source.state.ended ≡ true → later ≡ [] =
+      λ e. let after = hands_out.reads.none_after e in ap (λ x. x ++ z) after.0 ∙ ends after.1 in
+      ap (recoded_bytes start.from start.to) (append_assoc so_far.bytes hands_out.bytes z)
+      ∙ owed_is start.from start.to (so_far.bytes ++ later)
+      ∙ ap (bytes_from_state (fresh_encoder [] start.to)) (owed_text so_far.reads later ended)
+      ∙ so_far.encoded.encoded.residual (sequence_text (owed_sequences now.source.state later))
+      (λ e. not_ended e)
+      ∙ ap (λ x. so_far.encoded.wrote ++ bytes_from_state now.encoder x)
+      (owed_text hands_out.reads z ends)
 
-    -- and the bytes held are pushed
-    pub HasRun-more : {taken : Option (List ℕ)} {writer : WriterState}
-        → AppendsText between taken mid writer [] → 0 < length text → HasRun start (record {
-          source = next;
-          taken = taken;
-          writer = writer;
-          malformed = malformed;
-          made = now.made + 1;
-        })
-    HasRun-more flushes some = record {
-      bytes = so_far.bytes ++ hands_out.bytes;
+  module _ {taken : Option (List ℕ)} {after : EncoderState} {last replaced : Bool}
+      (encodes : HasEncoded (text_to_encode now.encoder (chars text)) (text_to_encode after []) last
+      now.taken taken replaced) where
+    encoded_on : HasEncoded
+        (text_to_encode (fresh_encoder [] start.to) (chars (so_far.wrote ++ text)))
+        (text_to_encode after []) last start.taken taken (now.replaced || replaced)
+    encoded_on = rw chars_on
+        (HasEncoded-then (HasEncoded-longer_text (chars text) so_far.encoded) encodes)
+
+    pub HasRun-more : last ≡ false → 0 < length text → HasRun start (record {
+      source = next;
+      taken = taken;
+      encoder = after;
+      malformed = malformed;
+      replaced = now.replaced || replaced;
+      made = now.made + 1;
+    })
+    HasRun-more not_last some = record {
+      bytes = bytes;
       wrote = so_far.wrote ++ text;
       reads = reads_on;
       is_exhausted = hands_out.exhausted;
-      written = rw append-nil at
-          (flushes.after start.taken (fresh_writer start.to) (chars (so_far.wrote ++ text))
-          written_on);
+      encoded = rw not_last at encoded_on;
       enough = omega (arith, length-append so_far.bytes hands_out.bytes);
     }
 
-    -- or a fault stops the push
-    pub RunsToFault-pushing : {taken : Option (List ℕ)} → StopsWithin between taken mid [] false
-        → RunsToFault start.from start.to start.remaining next.remaining start.taken taken
-    RunsToFault-pushing stops =
-        RunsToFault-by_prefix start next reads_on hands_out.exhausted
-        (append-nil (chars (so_far.wrote ++ text))) (λ is_last. not_ended is_last)
-        (stops start.taken (fresh_writer start.to) (chars (so_far.wrote ++ text)) written_on)
+    -- the end
+    module _ (end : IsReaderAtEnd next.remaining next.state) (set : after.set ≡ Ascii)
+        (is_last : last ≡ true) where
+      all_done : whole_sequences Sniff start.from bytes ≡ reads_on.done
+      all_done =
+          fresh_sequences Sniff start.from bytes
+          ∙ ap (owed_sequences (fresh_reader start.from)) (sym (append-nil bytes))
+          ∙ reads_on.residual [] (λ _. refl)
+          ∙ ap (λ ss. reads_on.done ++ ss) end.none_owed ∙ append-nil reads_on.done
+
+      text_is : chars (so_far.wrote ++ text) ≡ whole_text start.from bytes
+      text_is = handed_is reads_on ∙ ap sequence_text (sym all_done)
+
+      bytes_are : encoded_on.wrote ≡ recoded_bytes start.from start.to bytes
+      bytes_are =
+          sym (append-nil encoded_on.wrote)
+          ∙ ap (λ t. encoded_on.wrote ++ t) (sym (none_owed after set))
+          ∙ sym (encoded_on.encoded.residual [] (λ _. refl))
+          ∙ ap (bytes_from_state (fresh_encoder [] start.to))
+          (append-nil (chars (so_far.wrote ++ text)) ∙ text_is)
+          ∙ ap (λ rule. bytes_of_text rule Ascii
+          (with_references rule (whole_text start.from bytes))) (output_rule_is [] start.to)
+
+      flag_is : (malformed || (now.replaced || replaced)) ≡ any_replaced start.from start.to bytes
+      flag_is =
+          ap (λ b. b || (now.replaced || replaced))
+          (reads_on.flag ∙ ap any_malformed (sym all_done))
+          ∙ ap (λ u. any_malformed (whole_sequences Sniff start.from bytes) || u)
+          (encoded_on.encoded.flag
+          ∙ ap (any_unmappable (raw_state (fresh_encoder [] start.to)).rule)
+          (sym (append-nil encoded_on.encoded.front) ∙ sym encoded_on.encoded.reads ∙ text_is)
+          ∙ ap (λ rule. any_unmappable rule (whole_text start.from bytes))
+          (output_rule_is [] start.to))
+
+      pub RunsToEnd-last : RunsToEnd start.from start.to start.remaining next.remaining start.taken
+          taken (malformed || (now.replaced || replaced))
+      RunsToEnd-last = record {
+        bytes = bytes;
+        all_read = all_given start.remaining next.remaining bytes reads_on.given end.exhausted;
+        none_left = none_remaining start.remaining next.remaining bytes reads_on.given
+            end.exhausted;
+        flag = flag_is;
+        written = rw (← bytes_are) encoded_on.taken;
+      }
 
   -- a fault while its text is written
-  pub RunsToFault-writing : {taken : Option (List ℕ)}
-      → StopsWithin now.taken taken now.writer (chars text) false
+  pub RunsToFault-within : {taken : Option (List ℕ)} {last : Bool}
+      → (last ≡ true → IsReaderAtEnd next.remaining next.state)
+      → StopsWithin (text_to_encode now.encoder (chars text)) last now.taken taken
       → RunsToFault start.from start.to start.remaining next.remaining start.taken taken
-  RunsToFault-writing stops =
-      RunsToFault-by_prefix start next reads_on hands_out.exhausted (sym chars_on)
-      (λ is_last. not_ended is_last)
-      (stops start.taken (fresh_writer start.to) (chars so_far.wrote) so_far.written)
-
-  -- the end
-  module _ (end : IsReaderAtEnd next.remaining next.state) (none : text ≡ []) where
-    text_stays : chars (so_far.wrote ++ text) ≡ chars so_far.wrote
-    text_stays = ap (λ t. chars (so_far.wrote ++ t)) none ∙ ap chars (append-nil so_far.wrote)
-
-    -- a fault while it is written
-    pub RunsToFault-ending : {taken : Option (List ℕ)}
-        → StopsWithin now.taken taken now.writer [] true
-        → RunsToFault start.from start.to start.remaining next.remaining start.taken taken
-    RunsToFault-ending stops =
-        RunsToFault-by_prefix start next reads_on hands_out.exhausted
-        (append-nil (chars so_far.wrote) ∙ sym text_stays) (λ _. end.finished)
-        (stops start.taken (fresh_writer start.to) (chars so_far.wrote) so_far.written)
-
-    all_done : whole_sequences Sniff start.from (so_far.bytes ++ hands_out.bytes) ≡ reads_on.done
-    all_done =
-        fresh_sequences Sniff start.from (so_far.bytes ++ hands_out.bytes)
-        ∙ ap (owed_sequences (fresh_reader start.from))
-        (sym (append-nil (so_far.bytes ++ hands_out.bytes)))
-        ∙ reads_on.residual [] (λ _. refl)
-        ∙ ap (λ ss. reads_on.done ++ ss) end.none_owed ∙ append-nil reads_on.done
-
-    text_is : chars so_far.wrote ≡ whole_text start.from (so_far.bytes ++ hands_out.bytes)
-    text_is = sym text_stays ∙ handed_is reads_on ∙ ap sequence_text (sym all_done)
-
-    bytes_are : owed_bytes (fresh_writer start.to) (chars so_far.wrote)
-        ≡ recoded_bytes start.from start.to (so_far.bytes ++ hands_out.bytes)
-    bytes_are =
-        ap (owed_bytes (fresh_writer start.to)) text_is
-        ∙ ap (λ (rule : EncoderRule). bytes_of_text rule Ascii
-        (with_references rule (whole_text start.from (so_far.bytes ++ hands_out.bytes))))
-        (output_rule_is [] start.to)
-
-    flag_is : (malformed || now.writer.had_unmappables)
-        ≡ any_replaced start.from start.to (so_far.bytes ++ hands_out.bytes)
-    flag_is =
-        let all = so_far.bytes ++ hands_out.bytes in
-        ap (λ b. b || now.writer.had_unmappables)
-        (reads_on.flag ∙ ap any_malformed (sym all_done))
-        ∙ ap (λ u. any_malformed (whole_sequences Sniff start.from all) || u)
-        (so_far.written.flag
-        ∙ ap (λ (rule : EncoderRule). any_unmappable rule (chars so_far.wrote))
-        (output_rule_is [] start.to)
-        ∙ ap (any_unmappable (output_rule [] start.to)) text_is)
-
-    pub RunsToEnd-last : {taken : Option (List ℕ)} → EndsText now.taken taken now.writer
-        → RunsToEnd start.from start.to start.remaining next.remaining start.taken taken
-        (malformed || now.writer.had_unmappables)
-    RunsToEnd-last {taken = taken} ends = record {
-      bytes = so_far.bytes ++ hands_out.bytes;
-      all_read = all_given start.remaining next.remaining (so_far.bytes ++ hands_out.bytes)
-          reads_on.given end.exhausted;
-      none_left = none_remaining start.remaining next.remaining (so_far.bytes ++ hands_out.bytes)
-          reads_on.given end.exhausted;
-      flag = flag_is;
-      written = subst (AppendsContents start.taken taken) bytes_are
-          (ends start.taken (fresh_writer start.to) (chars so_far.wrote) so_far.written);
-    }
+  RunsToFault-within {taken = taken} {last = last} end stops =
+      let later : List ℕ → List ℕ = λ z. sequence_text (owed_sequences next.state z) in
+      let none_later : (z : List ℕ) → last ≡ true → later z ≡ [] =
+      λ z l. ap sequence_text (none_after next.state (end l).finished z) in
+      record {
+        bytes = bytes;
+        given = reads_on.given;
+        ended = next.state.ended;
+        none_left = hands_out.exhausted;
+        wrote = so_far.encoded.wrote ++ stops.wrote;
+        written = AppendsContents-then start.taken now.taken taken so_far.encoded.wrote stops.wrote
+            so_far.encoded.taken stops.taken;
+        prefix = λ z h. (
+          stops.unwritten (later z) (none_later z),
+          owed_on z h ∙ ap (λ x. so_far.encoded.wrote ++ x) (stops.prefix (later z) (none_later z))
+              ∙ sym (append_assoc so_far.encoded.wrote stops.wrote
+              (stops.unwritten (later z) (none_later z))),
+        );
+      }
 
 -- a fault between two texts
 module _ {start : RunStart} {now : RunState} (so_far : HasRun start now) where
@@ -272,13 +259,14 @@ module _ {start : RunStart} {now : RunState} (so_far : HasRun start now) where
       → (next.state.ended ≡ true → IsExhausted next.remaining)
       → RunsToFault start.from start.to start.remaining next.remaining start.taken now.taken
   stops_at next x malformed reads_owed is_exhausted =
-      RunsToFault-writing next so_far (record {
+      RunsToFault-within next so_far (record {
         bytes = x;
         malformed = malformed;
         reads = reads_owed;
         flag = refl;
         exhausted = is_exhausted;
-      }) (StopsWithin-none now.taken now.writer (chars []) false)
+      }) (λ is_last. not_ended is_last)
+      (StopsWithin-none (text_to_encode now.encoder (chars [])) false now.taken)
 
   -- after `made` reads
   pub RunsToFault-between : RunsToFault start.from start.to start.remaining now.source.remaining

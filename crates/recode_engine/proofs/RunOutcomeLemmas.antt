@@ -14,7 +14,7 @@ use Rattle.enc_reader.proofs.SourceLemmas.{ConsumesRemaining-none}
 use Rattle.recode_engine.specs.declared.engine.RecodeFault.{RecodeFault}
 use Rattle.recode_engine.specs.declared.engine.RecodeFault.TheVariants as side_fault
 use Rattle.recode_engine.specs.Run.{IsRecodeRun, Side, RunsToEnd, RunsToFault, recoded_bytes}
-use Rattle.enc_writer.proofs.SinkLemmas.{AppendsContents-none}
+use Rattle.recode_engine.proofs.SourceSinkLemmas.{AppendsContents-none}
 
 -- a text that is empty, and one that isn't
 pub no_text : (text : List ℕ) → nat_eq (length text) 0 ≡ true → text ≡ []
@@ -37,15 +37,15 @@ is_readers (Ok n) e f = absurd (false≢true e)
 is_readers (Err fault.Reader) e f = refl
 is_readers (Err fault.Failed) e f = absurd (f refl)
 
--- the same, where the source, the sink and the flag are known by other names
-pub RunsToEnd-by : {from to : Encoding} {t₀ t t' k₀ k k' : Option (List ℕ)} {r replaced : Bool}
-    → t' ≡ t → k' ≡ k → replaced ≡ r → RunsToEnd from to t₀ t k₀ k r
-    → RunsToEnd from to t₀ t' k₀ k' replaced
-RunsToEnd-by source sink flag ends = rw (source, sink, flag) ends
+-- the same, where the source and the flag are known by other names
+pub RunsToEnd-by : {from to : Encoding} {t₀ t known k₀ k : Option (List ℕ)} {r replaced : Bool}
+    → known ≡ t
+    → replaced ≡ r → RunsToEnd from to t₀ t k₀ k r → RunsToEnd from to t₀ known k₀ k replaced
+RunsToEnd-by a b h = rw (a, b) h
 
-pub RunsToFault-by : {from to : Encoding} {t₀ t t' k₀ k k' : Option (List ℕ)} → t' ≡ t → k' ≡ k
-    → RunsToFault from to t₀ t k₀ k → RunsToFault from to t₀ t' k₀ k'
-RunsToFault-by source sink stops = rw (source, sink) stops
+pub RunsToFault-by : {from to : Encoding} {t₀ t known k₀ k : Option (List ℕ)} → known ≡ t
+    → RunsToFault from to t₀ t k₀ k → RunsToFault from to t₀ known k₀ k
+RunsToFault-by a h = rw a h
 
 IfSome-always : (known : Option (List ℕ)) {P : List ℕ → Type 0} → ((all : List ℕ) → P all)
     → IfSome known P

@@ -1,3 +1,4 @@
+pub mod Writing
 pub mod Run
 pub mod Labels
 pub mod Status

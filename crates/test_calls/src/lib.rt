@@ -1,5 +1,6 @@
 //! Tests of `encoding_rs`: names, labels, properties and byte order marks of all encodings,
-//! outputs, length queries, one-shot calls and runs; of `enc_reader` and `enc_writer`; and of `recode_engine`.
+//! outputs, length queries, one-shot calls and runs; of `enc_reader` and `enc_writer`; and of
+//! `recode_engine`.
 //! `test_codecs` tests each decoder and encoder.
 //!
 //! Expected values come from outside, as each table says: from examples of the Encoding Standard,
