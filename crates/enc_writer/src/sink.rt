@@ -6,9 +6,8 @@ ghost use Rattle.std.specs.IoError.{error_kind};
 ghost use Rattle.std.specs.Io.KnownBytes.{WriteAppends};
 ghost use Rattle.enc_writer.specs.Sink.{AppendsContents};
 
-use std::fmt;
-use std::io;
 use std::io::{ErrorKind, Write};
+use std::{fmt, io};
 
 /// A sink of bytes, a buffer at a time.
 pub trait Sink {

@@ -1,7 +1,7 @@
 //! Lines of UTF-8, written in another encoding through a buffer.
 
-use encoding_rs::Encoding;
 use enc_writer::{EncodeWriter, FromWrite, Sink};
+use encoding_rs::Encoding;
 use std::alloc::Global;
 use std::io;
 use std::io::{BufRead, BufReader, Error, Read, Write};

@@ -19,8 +19,7 @@ use enc_stream::laws::ascii_compatible_encode_ascii;
 use enc_stream::{CoderResult, Encoder, Encoding};
 use enc_writer::Sink;
 use std::error::Error;
-use std::fmt;
-use std::io;
+use std::{fmt, io};
 
 /// The least number of ASCII bytes that are written without being encoded. Fewer are encoded
 /// together with the characters that follow, since a push may be a system call.
