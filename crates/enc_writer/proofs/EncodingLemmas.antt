@@ -46,7 +46,8 @@ none_owed e h = ap (λ (s : CharacterSet). escape_at_end ((raw_state e).rule.set
 
 -- one call
 pub EncodesText-call : (old : TextToEncode) {new : EncoderState} (result : CoderResult)
-    {units_of : ℕ → List ℕ} {c : CallInMode} → c.mode ≡ html_mode old.encoder → c.result ≡ encoder_result_of result
+    {units_of : ℕ → List ℕ} {c : CallInMode} → c.mode ≡ html_mode old.encoder
+    → c.result ≡ encoder_result_of result
     → c.src ≡ old.text → (encodes : EncodesChunk units_of old.encoder new c)
     → EncodesText old (text_to_encode new encodes.rest) c.last c.wrote c.replaced
 EncodesText-call old {new = new} result {c = c} is_html result_is src_is encodes =

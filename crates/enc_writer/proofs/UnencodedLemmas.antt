@@ -1,6 +1,6 @@
 -- The start of a text that is written as its UTF-8, and the rest of the text.
 use Rattle.std.proofs.Common.{◌≡◌, ℕ, ◌<◌, false, List, []}
-use Rattle.std.proofs.Common.{◌++◌, ◌∷◌, length, take, drop, Some, true, refl, ap, ◌∙◌, sym, subst, chars}
+use Rattle.std.proofs.Common.{◌++◌, ◌∷◌, length, take, drop, Some, true, refl, ap, ◌∙◌, sym, chars}
 use Rattle.std.proofs.Common.{IsUtf8}
 use Rattle.std.proofs.Math.Seq.{take-length, drop-length}
 use Rattle.std.proofs.lemmas.List.{take-append-drop}

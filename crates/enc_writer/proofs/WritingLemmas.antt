@@ -9,13 +9,12 @@ use Rattle.enc_encoder.specs.declared.character_set.CharacterSet.TheVariants.{As
 use Rattle.enc_encoder.specs.ErrorMode.{CallInMode}
 use Rattle.enc_encoder.specs.Unmappable.{any_unmappable}
 use Rattle.enc_encoder.proofs.UnmappableLemmas.{any_unmappable-append}
-use Rattle.enc_stream.specs.declared.encoding.Encoding.{Encoding}
 use Rattle.enc_stream.specs.Encodings.{output_rule}
 use Rattle.enc_stream.specs.Encoder.{EncoderState, EncodesChunk, raw_state, html_mode}
 use Rattle.enc_writer.specs.Sink.{AppendsContents, AppendsPrefix}
 use Rattle.enc_writer.specs.EncodedText.{EncodesText, bytes_from_state, text_to_encode}
 use Rattle.enc_writer.specs.Writing.{WriterState, PushesBytes, HasEncoded, HasWritten, TakesPrefix}
-use Rattle.enc_writer.specs.Writing.{AppendsText, StopsWithin, EndsText, ended_writer, flag_after, owed_bytes}
+use Rattle.enc_writer.specs.Writing.{AppendsText, StopsWithin, EndsText, ended_writer, owed_bytes}
 use Rattle.enc_writer.proofs.SinkLemmas.{AppendsContents-none, AppendsContents-then}
 use Rattle.enc_writer.proofs.EncodingLemmas.{not_ended, none_owed, EncodesText-none, EncodesText-call}
 use Rattle.enc_writer.proofs.EncodingLemmas.{EncodesText-then}
@@ -53,17 +52,18 @@ PushesBytes-all encoder had held bytes taken = record {
 pub HasEncoded-pushed : {k₀ k₁ : Option (List ℕ)} {a b : WriterState} {t left bytes : List ℕ}
     {last : Bool} → EncodesText (text_to_encode a.encoder t) (text_to_encode a.encoder left) last
     bytes false → PushesBytes k₀ k₁ a b bytes → HasEncoded k₀ k₁ a b t left last
-HasEncoded-pushed {a = a} {t = t} {left = left} {bytes = bytes} {last = last} encodes pushes = record {
-  wrote = bytes;
-  replaced = false;
-  encoded = subst (λ (e : EncoderState).
-      EncodesText (text_to_encode a.encoder t) (text_to_encode e left) last bytes false)
-      (sym pushes.encoder) encodes;
-  flag = pushes.flag ∙ or_false a.had_unmappables;
-  pushed = pushes.pushed;
-  taken = pushes.taken;
-  bytes_kept = pushes.bytes_kept;
-}
+HasEncoded-pushed {a = a} {t = t} {left = left} {bytes = bytes} {last = last} encodes
+    pushes = record {
+      wrote = bytes;
+      replaced = false;
+      encoded = subst (λ (e : EncoderState).
+          EncodesText (text_to_encode a.encoder t) (text_to_encode e left) last bytes false)
+          (sym pushes.encoder) encodes;
+      flag = pushes.flag ∙ or_false a.had_unmappables;
+      pushed = pushes.pushed;
+      taken = pushes.taken;
+      bytes_kept = pushes.bytes_kept;
+    }
 
 -- no text is read
 pub HasEncoded-push : {k₀ k₁ : Option (List ℕ)} {a b : WriterState} (t : List ℕ) (last : Bool)
@@ -76,49 +76,50 @@ pub HasEncoded-none : (k : Option (List ℕ)) (w : WriterState) (t : List ℕ) (
 HasEncoded-none k w t last = HasEncoded-push t last (PushesBytes-none k w)
 
 -- one call of the encoder, which writes after the bytes held
-pub HasEncoded-call : (k : Option (List ℕ)) {old new : EncoderState} (had : Bool) (result : CoderResult)
-    {units_of : ℕ → List ℕ} {c : CallInMode} (held written : ℕ) (before after : List ℕ)
-    {left : List ℕ} → c.mode ≡ html_mode old → c.result ≡ encoder_result_of result
-    → (encodes : EncodesChunk units_of old new c) → c.wrote ≡ take written (drop held after)
-    → take held after ≡ take held before → left ≡ encodes.rest
-    → HasEncoded k k (record { encoder = old; held = take held before; had_unmappables = had })
-    (record {
-      encoder = new;
-      held = take (held + written) after;
-      had_unmappables = had || c.replaced;
-    }) c.src left c.last
-HasEncoded-call k {old} {new} had result {c = c} held written before after {left} is_html
-    result_is encodes wrote_is held_stay left_is = record {
-      wrote = c.wrote;
-      replaced = c.replaced;
-      encoded = subst (λ rest. EncodesText (text_to_encode old c.src) (text_to_encode new rest) c.last
-          c.wrote c.replaced) (sym left_is)
-          (EncodesText-call (text_to_encode old c.src) result is_html result_is refl encodes);
-      flag = refl;
-      pushed = [];
-      taken = AppendsContents-none k;
-      bytes_kept = ap (λ w. take held before ++ w) wrote_is
-          ∙ ap (λ h. h ++ take written (drop held after)) (sym held_stay)
-          ∙ sym (take-add held written after);
-    }
+module _ (k : Option (List ℕ)) {old new : EncoderState} (had : Bool) (held written : ℕ)
+    (before after : List ℕ) where
+  pub HasEncoded-call : (result : CoderResult) {units_of : ℕ → List ℕ} {c : CallInMode}
+      {left : List ℕ} → c.mode ≡ html_mode old → c.result ≡ encoder_result_of result
+      → (encodes : EncodesChunk units_of old new c) → c.wrote ≡ take written (drop held after)
+      → take held after ≡ take held before → left ≡ encodes.rest
+      → HasEncoded k k
+      (record { encoder = old; held = take held before; had_unmappables = had })
+      (record {
+        encoder = new;
+        held = take (held + written) after;
+        had_unmappables = had || c.replaced;
+      }) c.src left c.last
+  HasEncoded-call result {c = c} is_html result_is encodes wrote_is held_stay left_is = record {
+    wrote = c.wrote;
+    replaced = c.replaced;
+    encoded = subst (λ rest. EncodesText (text_to_encode old c.src) (text_to_encode new rest)
+        c.last c.wrote c.replaced) (sym left_is)
+        (EncodesText-call (text_to_encode old c.src) result is_html result_is refl encodes);
+    flag = refl;
+    pushed = [];
+    taken = AppendsContents-none k;
+    bytes_kept = ap (λ w. take held before ++ w) wrote_is
+        ∙ ap (λ h. h ++ take written (drop held after)) (sym held_stay)
+        ∙ sym (take-add held written after);
+  }
 
-pub HasEncoded-then : {k₀ k₁ k₂ : Option (List ℕ)} {a b c : WriterState} {t u v : List ℕ}
-    {last : Bool} → HasEncoded k₀ k₁ a b t u last → HasEncoded k₁ k₂ b c u v last
-    → HasEncoded k₀ k₂ a c t v last
-HasEncoded-then {k₀} {k₁} {k₂} {a} {b} {c} first next = record {
-  wrote = first.wrote ++ next.wrote;
-  replaced = first.replaced || next.replaced;
-  encoded = EncodesText-then first.encoded next.encoded;
-  flag = next.flag ∙ ap (λ x. x || next.replaced) first.flag
-      ∙ or_assoc a.had_unmappables first.replaced next.replaced;
-  pushed = first.pushed ++ next.pushed;
-  taken = AppendsContents-then k₀ k₁ k₂ first.pushed next.pushed first.taken next.taken;
-  bytes_kept = sym (append_assoc a.held first.wrote next.wrote)
-      ∙ ap (λ x. x ++ next.wrote) first.bytes_kept
-      ∙ append_assoc first.pushed b.held next.wrote
-      ∙ ap (λ x. first.pushed ++ x) next.bytes_kept
-      ∙ sym (append_assoc first.pushed next.pushed c.held);
-}
+module _ {k₀ k₁ k₂ : Option (List ℕ)} {a b c : WriterState} where
+  pub HasEncoded-then : {t u v : List ℕ} {last : Bool} → HasEncoded k₀ k₁ a b t u last
+      → HasEncoded k₁ k₂ b c u v last → HasEncoded k₀ k₂ a c t v last
+  HasEncoded-then first next = record {
+    wrote = first.wrote ++ next.wrote;
+    replaced = first.replaced || next.replaced;
+    encoded = EncodesText-then first.encoded next.encoded;
+    flag = next.flag ∙ ap (λ x. x || next.replaced) first.flag
+        ∙ or_assoc a.had_unmappables first.replaced next.replaced;
+    pushed = first.pushed ++ next.pushed;
+    taken = AppendsContents-then k₀ k₁ k₂ first.pushed next.pushed first.taken next.taken;
+    bytes_kept = sym (append_assoc a.held first.wrote next.wrote)
+        ∙ ap (λ x. x ++ next.wrote) first.bytes_kept
+        ∙ append_assoc first.pushed b.held next.wrote
+        ∙ ap (λ x. first.pushed ++ x) next.bytes_kept
+        ∙ sym (append_assoc first.pushed next.pushed c.held);
+  }
 
 -- The bytes owed before are those pushed and those owed now.
 owed_by : {k₀ k₁ : Option (List ℕ)} {a b : WriterState} {t left : List ℕ} {last : Bool}
@@ -133,24 +134,24 @@ owed_by {a = a} {b = b} {left = left} encoded z ends =
 
 -- A part of a text is encoded, and of the bytes of another part, which follow those held, the sink
 -- takes a prefix.
-pub TakesPrefix-pushed : {k₀ k₁ k₂ : Option (List ℕ)} {a b : WriterState} {t u left bytes : List ℕ}
-    {last : Bool} → HasEncoded k₀ k₁ a b t u last
-    → EncodesText (text_to_encode b.encoder u) (text_to_encode b.encoder left) last bytes false
-    → AppendsPrefix k₁ k₂ (b.held ++ bytes) → TakesPrefix k₀ k₂ a t last
-TakesPrefix-pushed {k₀} {k₁} {k₂} {a} {b} {left = left} {bytes = bytes} encoded encodes part = record {
-  pushed = encoded.pushed ++ part.wrote;
-  taken = AppendsContents-then k₀ k₁ k₂ encoded.pushed part.wrote encoded.taken part.taken;
-  prefix = λ z ends.
-      let later = bytes_from_state b.encoder (left ++ z) in (
-        part.unwritten ++ later,
-        owed_by encoded z ends
-            ∙ ap (λ x. encoded.pushed ++ (b.held ++ x)) (encodes.residual z ends)
-            ∙ ap (λ x. encoded.pushed ++ x) (sym (append_assoc b.held bytes later)
-            ∙ ap (λ x. x ++ later) part.prefix
-            ∙ append_assoc part.wrote part.unwritten later)
-            ∙ sym (append_assoc encoded.pushed part.wrote (part.unwritten ++ later)),
-      );
-}
+module _ {k₀ k₁ k₂ : Option (List ℕ)} {a b : WriterState} where
+  pub TakesPrefix-pushed : {t u left bytes : List ℕ} {last : Bool} → HasEncoded k₀ k₁ a b t u last
+      → EncodesText (text_to_encode b.encoder u) (text_to_encode b.encoder left) last bytes false
+      → AppendsPrefix k₁ k₂ (b.held ++ bytes) → TakesPrefix k₀ k₂ a t last
+  TakesPrefix-pushed {left = left} {bytes = bytes} encoded encodes part = record {
+    pushed = encoded.pushed ++ part.wrote;
+    taken = AppendsContents-then k₀ k₁ k₂ encoded.pushed part.wrote encoded.taken part.taken;
+    prefix = λ z ends.
+        let later = bytes_from_state b.encoder (left ++ z) in (
+          part.unwritten ++ later,
+          owed_by encoded z ends
+              ∙ ap (λ x. encoded.pushed ++ (b.held ++ x)) (encodes.residual z ends)
+              ∙ ap (λ x. encoded.pushed ++ x) (sym (append_assoc b.held bytes later)
+              ∙ ap (λ x. x ++ later) part.prefix
+              ∙ append_assoc part.wrote part.unwritten later)
+              ∙ sym (append_assoc encoded.pushed part.wrote (part.unwritten ++ later)),
+        );
+  }
 
 -- a part is encoded, and a push of the bytes held fails
 pub TakesPrefix-held : {k₀ k₁ k₂ : Option (List ℕ)} {a b : WriterState} {t u : List ℕ} {last : Bool}
@@ -159,7 +160,8 @@ TakesPrefix-held {k₁ = k₁} {k₂ = k₂} {b = b} {u = u} {last = last} encod
     TakesPrefix-pushed encoded (EncodesText-none (text_to_encode b.encoder u) last)
     (rw (append-nil b.held) part)
 
-pub TakesPrefix-after : {k₀ k₁ k₂ : Option (List ℕ)} {a b : WriterState} {t u : List ℕ} {last : Bool}
+pub TakesPrefix-after : {k₀ k₁ k₂ : Option (List ℕ)} {a b : WriterState} {t u : List ℕ}
+    {last : Bool}
     → HasEncoded k₀ k₁ a b t u last → TakesPrefix k₁ k₂ b u last → TakesPrefix k₀ k₂ a t last
 TakesPrefix-after {k₀} {k₁} {k₂} encoded part = record {
   pushed = encoded.pushed ++ part.pushed;
@@ -247,18 +249,18 @@ StopsWithin-none k w t last = StopsWithin-by {t = t} (record {
 -- The end: all is encoded, and all bytes are pushed.
 module _ {k₀ k₁ k₂ : Option (List ℕ)} {a b c : WriterState}
     (encoded : HasEncoded k₀ k₁ a b [] [] true) (in_ascii : b.encoder.set ≡ Ascii)
-    (pushes : PushesBytes k₁ k₂ b c []) (none_held : c.held ≡ []) where
-  held_is : owed_bytes b [] ≡ pushes.pushed
-  held_is = ap (λ x. b.held ++ x) (none_owed b.encoder in_ascii) ∙ pushes.bytes_kept
+    (pushes : PushesBytes k₁ k₂ b c []) where
+  held_is : c.held ≡ [] → owed_bytes b [] ≡ pushes.pushed
+  held_is none_held = ap (λ x. b.held ++ x) (none_owed b.encoder in_ascii) ∙ pushes.bytes_kept
       ∙ ap (λ x. pushes.pushed ++ x) none_held ∙ append-nil pushes.pushed
 
-  pub EndsText-by : EndsText k₀ k₂ a
-  EndsText-by k start text first =
+  pub EndsText-by : c.held ≡ [] → EndsText k₀ k₂ a
+  EndsText-by none_held k start text first =
       let pushed = encoded.pushed ++ pushes.pushed in
       let all : owed_bytes start text ≡ first.pushed ++ pushed =
       ap (owed_bytes start) (sym (append-nil text)) ∙ first.owed []
       ∙ ap (λ x. first.pushed ++ x) (owed_by encoded [] (λ _. refl)
-      ∙ ap (λ x. encoded.pushed ++ x) held_is) in
+      ∙ ap (λ x. encoded.pushed ++ x) (held_is none_held)) in
       subst (AppendsContents k k₂) (sym all)
       (AppendsContents-then k k₀ k₂ first.pushed pushed first.taken
       (AppendsContents-then k₀ k₁ k₂ encoded.pushed pushes.pushed encoded.taken pushes.taken))
@@ -273,14 +275,15 @@ module _ {k₀ k₁ k₂ : Option (List ℕ)} {a b c : WriterState}
 
   encoder_is : c.encoder ≡ record a.encoder { set = Ascii }
   encoder_is =
-      let e = a.encoder in
+      let first = a.encoder in
       pushes.encoder
       ∙ ap (λ x. record b.encoder { encoding = x }) encoded.encoded.encoding
-      ∙ ap (λ x. record b.encoder { encoding = e.encoding; barred = x }) encoded.encoded.barred
-      ∙ ap (λ x. record { encoding = e.encoding; barred = e.barred; set = x }) in_ascii
+      ∙ ap (λ x. record b.encoder { encoding = first.encoding; barred = x })
+      encoded.encoded.barred
+      ∙ ap (λ x. record { encoding = first.encoding; barred = first.barred; set = x }) in_ascii
 
-  pub writer_ends : c ≡ ended_writer a
-  writer_ends =
+  pub writer_ends : c.held ≡ [] → c ≡ ended_writer a
+  writer_ends none_held =
       ap (λ x. record c { encoder = x }) encoder_is
       ∙ ap (λ x. record c { encoder = record a.encoder { set = Ascii }; held = x }) none_held
       ∙ ap (λ x. record (ended_writer a) { had_unmappables = x }) flag_stays

@@ -325,8 +325,8 @@ impl<'a, W: Sink> EncodeWriter<'a, W> {
 
     /// Ends the text: writes the last escape sequence, if one is due, and pushes the bytes held.
     ///
-    /// Returns whether a character was unmappable since [`EncodeWriter::new`]. The writer is then at
-    /// the start of another text.
+    /// Returns whether a character was unmappable since [`EncodeWriter::new`]. The writer is then
+    /// at the start of another text.
     ///
     /// Errors: `Writer` if the sink failed in this call, and `Failed` in each later call. The sink
     /// has taken a prefix of the bytes of the text, and nothing more is written.

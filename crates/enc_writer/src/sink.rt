@@ -93,8 +93,7 @@ impl<W: Write> FromWrite<W> {
 
     /// Takes the error that has stopped it out of it.
     ///
-    /// `None` if no push has failed, or if the error was taken before. The sink stays failed. Takes
-    /// no memory.
+    /// `None` if no push has failed, or if the error was taken before. The sink stays failed.
     pub fn take_error(&mut self) -> Option<io::Error>
         ensures error { result ≡ self.old.error }
         ensures taken { self.new ≡ record self.old { error = None } }

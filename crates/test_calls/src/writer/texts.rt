@@ -7,18 +7,18 @@ use std::test::Fail;
 use test_support::devices::{ALL_BYTES, BYTE, Step, StepWriter};
 
 /// An encoding, the texts of some writes, their bytes, and whether a character is unmappable.
-type Row = (
-    Encoding,
-    &'static [&'static str],
-    &'static [u8],
-    bool,
-);
+type Row = (Encoding, &'static [&'static str], &'static [u8], bool);
 
 const ROWS: &[Row] = &[
     (WINDOWS_1252, &["caf", "é"], b"caf\xE9", false),
     (WINDOWS_1252, &["éЖ", "z"], b"\xE9&#1046;z", true),
     (SHIFT_JIS, &["日", "é", "本"], b"\x93\xFA&#233;\x96\x7B", true),
-    (GB18030, &["€", "💩é"], b"\xA2\xE3\x94\x39\xDA\x33\xA8\xA6", false),
+    (
+        GB18030,
+        &["€", "💩é"],
+        b"\xA2\xE3\x94\x39\xDA\x33\xA8\xA6",
+        false,
+    ),
     // the escape sequences are those of one text
     (ISO_2022_JP, &["日", "本"], b"\x1B$BF|K\\\x1B(B", false),
     (ISO_2022_JP, &["日", "é"], b"\x1B$BF|\x1B(B&#233;", true),
@@ -123,8 +123,10 @@ fn writes_utf_16(rt: HostRuntime) {
     assert!(rt; encoding.write_utf16(&PAIR[1..]) == Ok(()));
     assert!(rt; encoding.write_str("é") == Ok(()));
     assert!(rt; encoding.finish() == Ok(false));
-    assert!(rt; writer.taken.as_slice()
-        == b"a\xA2\xE3\x94\x39\xDA\x33\x84\x31\xA4\x37\x84\x31\xA4\x37\xA8\xA6".as_slice());
+    assert!(rt;
+        writer.taken.as_slice()
+            == b"a\xA2\xE3\x94\x39\xDA\x33\x84\x31\xA4\x37\x84\x31\xA4\x37\xA8\xA6".as_slice()
+    );
 }
 
 #[test]

@@ -21,8 +21,11 @@ fn a_writer_writes_to_a_sink(rt: HostRuntime) {
     let mut written: Vec<u8> = Vec::new(rt.alloc());
     let mut sink: FromWrite<&mut Vec<u8>> = FromWrite::new(&mut written);
     let mut buffer = [0; 14];
-    let mut writer: EncodeWriter<'_, FromWrite<&mut Vec<u8>>> =
-        EncodeWriter::new(&mut sink, SHIFT_JIS, &mut buffer);
+    let mut writer: EncodeWriter<'_, FromWrite<&mut Vec<u8>>> = EncodeWriter::new(
+        &mut sink,
+        SHIFT_JIS,
+        &mut buffer,
+    );
     let encoding: Encoding = writer.encoding();
     assert!(rt; encoding == SHIFT_JIS);
     let answer: Result<(), WriteFault> = writer.write_str("日");

@@ -1,4 +1,3 @@
-use Rattle.std.proofs.Common.{rules}
 use Rattle.std.proofs.lemmas.Result.{on_ok_weaker, on_err_weaker}
 use Rattle.enc_writer.proofs.SinkLemmas.{AppendsContents-then, AppendsPrefix-front, AppendsPrefix-back, on_err}
 use Rattle.enc_writer.proofs.pushing.push_both.Goals as goal
@@ -17,4 +16,5 @@ returns-clause-ok g c =
 pub returns-clause-err : goal.returns-clause-err
 returns-clause-err g c =
     on_err_weaker c.push_all-2.result
-    (λ part. AppendsPrefix-back _ c.args.front.now c.in_ok-push_all.ensures.ok part) c.push_all-2.ensures.err
+    (λ part. AppendsPrefix-back _ c.args.front.now c.in_ok-push_all.ensures.ok part)
+    c.push_all-2.ensures.err

@@ -26,7 +26,8 @@ returns-then-eq-clause-ok g c =
     let at_end : c.encode_part-outcome.result.0 ≡ InputEmpty = search rules in
     rw (c.encode_part-outcome.ensures.all at_end) at
     (HasEncoded-then c.calls.invariant.1.encoded
-    (HasEncoded-then (HasEncoded-push (chars c.calls.rest.now) c.args.last c.in_ok-make_room.ensures.ok)
+    (HasEncoded-then
+    (HasEncoded-push (chars c.calls.rest.now) c.args.last c.in_ok-make_room.ensures.ok)
     c.encode_part-outcome.ensures.part))
 
 pub calls-preserved : goal.calls-preserved

@@ -1,4 +1,4 @@
-use Rattle.std.proofs.Common.{rules, refl, ◌∙◌}
+use Rattle.std.proofs.Common.{refl, ◌∙◌}
 use Rattle.enc_encoder.specs.Steps.{step_chars}
 use Rattle.enc_stream.proofs.UnreadTextLemmas.{chars_after}
 use Rattle.enc_writer.proofs.EncodingLemmas.{none_unread}
@@ -9,8 +9,8 @@ pub returns-clause-part : goal.returns-clause-part
 returns-clause-part g c =
     let call = c.encode_utf8_after-call in
     let encodes = call.ensures.call in
-    HasEncoded-call _ c.args.self.now.had_unmappables call.result.result c.args.self.now.filled
-    call.result.written c.args.self.now.output.now call.new.output refl refl encodes refl
+    HasEncoded-call _ c.args.self.now.had_unmappables c.args.self.now.filled call.result.written
+    c.args.self.now.output.now call.new.output call.result.result refl refl encodes refl
     call.ensures.held
     (chars_after c.args.text.now (step_chars encodes.call.done) encodes.rest _ c.utf8.text
     encodes.call.reads encodes.call.units)

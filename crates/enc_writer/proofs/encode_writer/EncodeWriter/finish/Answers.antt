@@ -1,4 +1,4 @@
-use Rattle.std.proofs.Common.{rules, [], true, refl, ap}
+use Rattle.std.proofs.Common.{[], true, refl, ap}
 use Rattle.std.proofs.lemmas.Str.{chars-nil}
 use Rattle.enc_writer.specs.EncodedText.{text_to_encode}
 use Rattle.enc_writer.specs.Writing.{WriterState}
@@ -34,7 +34,6 @@ pub returns-clause-flag : goal.returns-clause-flag
 returns-clause-flag g c =
     flag_stays (rw chars-nil at c.in_ok-encode.ensures.ok) (c.in_ok-encode.ensures.ended refl)
     c.in_ok-push.ensures.ok
-    (ap (λ (w : WriterState). w.held) c.in_ok-push.ensures.none_held)
 
 pub returns-clause-ended : goal.returns-clause-ended
 returns-clause-ended g c =

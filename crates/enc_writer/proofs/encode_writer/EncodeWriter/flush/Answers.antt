@@ -1,4 +1,4 @@
-use Rattle.std.proofs.Common.{rules, [], false}
+use Rattle.std.proofs.Common.{[], false}
 use Rattle.std.proofs.lemmas.Result.{on_ok_weaker, on_err_weaker}
 use Rattle.enc_writer.specs.EncodedText.{text_to_encode}
 use Rattle.enc_writer.specs.Writer.{state_of}
@@ -17,7 +17,7 @@ returns-clause-ok g c =
 
 pub returns-clause-err : goal.returns-clause-err
 returns-clause-err g c =
-    let w = state_of c.args.self.now in
+    let writer = state_of c.args.self.now in
     on_err_weaker c.push.result
-    (λ part. StopsWithin-by (TakesPrefix-pushed (HasEncoded-none _ w [] false)
-    (EncodesText-none (text_to_encode w.encoder []) false) part)) c.push.ensures.err
+    (λ part. StopsWithin-by (TakesPrefix-pushed (HasEncoded-none _ writer [] false)
+    (EncodesText-none (text_to_encode writer.encoder []) false) part)) c.push.ensures.err
