@@ -1,9 +1,11 @@
 -- Calls of a writer that report unmappable characters.
-use Rattle.std.proofs.Common.{◌≡◌, ℕ, ◌+◌, Bool, true, false, not, ◌||◌, is_some, Option, Some, None, List, [], ◌∷◌}
+use Rattle.std.proofs.Common.{◌≡◌, ℕ, ◌+◌, Bool, true, false, not}
+use Rattle.std.proofs.Common.{◌||◌, is_some, Option, Some, None, List, [], ◌∷◌}
 use Rattle.std.proofs.Common.{◌++◌, take, drop, refl, ap, ◌∙◌, sym, append_assoc, append-nil}
 use Rattle.std.proofs.Math.Seq.{take-add}
 use Rattle.enc_units.specs.declared.encoder_result.EncoderResult.{EncoderResult}
-use Rattle.enc_units.specs.declared.encoder_result.EncoderResult.TheVariants.{InputEmpty, OutputFull, Unmappable}
+use Rattle.enc_units.specs.declared.encoder_result.EncoderResult.TheVariants.{InputEmpty}
+use Rattle.enc_units.specs.declared.encoder_result.EncoderResult.TheVariants.{OutputFull, Unmappable}
 use Rattle.enc_encoder.specs.Call.{EncoderStops}
 use Rattle.enc_encoder.specs.EncoderRule.{EncoderRule, RawEncoderState}
 use Rattle.enc_encoder.specs.ErrorMode.{CallInMode, Fatal}
@@ -12,13 +14,15 @@ use Rattle.enc_encoder.specs.Text.{reference_after}
 use Rattle.enc_encoder.specs.Unmappable.{any_unmappable, report_for, reports_of}
 use Rattle.enc_encoder.proofs.LeavesLemmas.{leaves_in_mode}
 use Rattle.enc_encoder.proofs.TextLemmas.{parted}
-use Rattle.enc_encoder.proofs.UnmappableLemmas.{any_reported_is, any_unmappable-append, reports_are, reports_by}
+use Rattle.enc_encoder.proofs.UnmappableLemmas.{any_reported_is, any_unmappable-append}
+use Rattle.enc_encoder.proofs.UnmappableLemmas.{reports_are, reports_by}
 use Rattle.enc_encoder.proofs.UnmappableLemmas.{reports_in, reports_in-append, reports_of-append}
 use Rattle.enc_stream.specs.Encodings.{output_rule}
 use Rattle.enc_stream.specs.Encoder.{EncoderState, EncodesChunk, raw_state}
 use Rattle.enc_writer.specs.Sink.{AppendsPrefix}
 use Rattle.enc_writer.specs.EncodedText.{bytes_from_state}
-use Rattle.enc_writer.specs.Writing.{WriterState, PushesBytes, HasWritten, TakesPrefix, AppendsText, flag_after, owed_bytes}
+use Rattle.enc_writer.specs.Writing.{WriterState, PushesBytes, HasWritten}
+use Rattle.enc_writer.specs.Writing.{TakesPrefix, AppendsText, flag_after, owed_bytes}
 use Rattle.enc_writer.specs.Reporting.{ReportsText}
 use Rattle.enc_writer.proofs.SinkLemmas.{AppendsContents-none, AppendsContents-then}
 use Rattle.enc_writer.proofs.EncodingLemmas.{not_ended}
@@ -107,7 +111,8 @@ pub none_left : (result : EncoderResult) → result ≡ InputEmpty → {units_of
     {old new : EncoderState} {c : CallInMode} → c.mode ≡ Fatal → c.result ≡ result
     → (encodes : EncodesChunk units_of old new c) → encodes.rest ≡ []
 none_left result at_end {new = new} {c = c} is_fatal result_is encodes =
-    let stops : EncoderStops (raw_state new) encodes.rest c.last c.room encodes.call.done InputEmpty =
+    let stops : EncoderStops (raw_state new) encodes.rest c.last c.room encodes.call.done
+    InputEmpty =
     rw (is_fatal, result_is, at_end) at encodes.call.stops in
     stops.all_read
 

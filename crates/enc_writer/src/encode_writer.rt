@@ -319,8 +319,8 @@ impl<'a, W: Sink> EncodeWriter<'a, W> {
 
     /// Writes a text up to an unmappable character.
     ///
-    /// Returns `None` if all of the text is taken. Otherwise it returns the character and the number
-    /// of bytes of the text that are taken. The caller may write a decimal reference to it
+    /// Returns `None` if all of the text is taken. Otherwise it returns the character and the
+    /// number of bytes of the text that are taken. The caller may write a decimal reference to it
     /// (`&#`, its number and `;`) or another text in its place, and then the rest of the text. The
     /// bytes are collected as by [`EncodeWriter::write_str`], and all of them are encoded.
     ///

@@ -1,4 +1,5 @@
-use Rattle.std.proofs.Common.{rules, ◌≡◌, ◌≤◌, ◌+◌, ◌-◌, refl, ap, sym, ◌∙◌, subst, chars, drop, length, arith, false, true, IsUtf8}
+use Rattle.std.proofs.Common.{rules, ◌≡◌, ◌≤◌, ◌+◌, ◌-◌, refl, ap, sym, ◌∙◌}
+use Rattle.std.proofs.Common.{subst, chars, drop, length, arith, false, true, IsUtf8}
 use Rattle.std.proofs.Math.ListN.{length-drop}
 use Rattle.std.proofs.lemmas.List.{drop-drop}
 use Rattle.std.proofs.lemmas.Str.{IsCharBoundary-from_drop, IsUtf8-drop}
@@ -18,7 +19,8 @@ pub calls-init : goal.calls-init
 calls-init g c = (
   search rules,
   record {
-    reports = ReportsText-push (chars c.args.text.now) (PushesBytes-none _ (state_of c.args.self.now));
+    reports = ReportsText-push (chars c.args.text.now)
+        (PushesBytes-none _ (state_of c.args.self.now));
     within = search rules;
     rest_is = refl;
     going = search rules;
@@ -31,7 +33,8 @@ calls-init g c = (
 pub returns-in_err-make_room-clause-err : goal.returns-in_err-make_room-clause-err
 returns-in_err-make_room-clause-err g c =
     on_err c.from_residual.result _
-    (StopsWithin-by (TakesPrefix-reported c.calls.invariant.1.reports c.in_err-make_room.ensures.err))
+    (StopsWithin-by
+    (TakesPrefix-reported c.calls.invariant.1.reports c.in_err-make_room.ensures.err))
 
 pub overflow_add-taken : goal.overflow_add-taken
 overflow_add-taken g c =
