@@ -68,43 +68,42 @@ none_reports e (c ∷ t) none = at_char (e.bytes c) (λ rest. none_reports e t r
     at_char (Some b) later h = later h
 
 -- one call, which writes after the bytes held
-pub ReportsText-call : (k : Option (List ℕ)) {old new : EncoderState} (had : Bool)
-    {units_of : ℕ → List ℕ} {c : CallInMode} (held written : ℕ) (before after : List ℕ)
-    {left : List ℕ} → c.mode ≡ Fatal → c.last ≡ false
-    → (encodes : EncodesChunk units_of old new c) → c.wrote ≡ take written (drop held after)
-    → take held after ≡ take held before → left ≡ encodes.rest
-    → ReportsText k k (record { encoder = old; held = take held before; had_unmappables = had })
-    (record { encoder = new; held = take (held + written) after; had_unmappables = had }) c.src left
-    c.result
-ReportsText-call k {old} {new} had {c = c} held written before after {left} is_fatal not_last encodes
-    wrote_is held_stay left_is =
-    let call = encodes.call in
-    let leaves = leaves_in_mode call in
-    let stops : EncoderStops (raw_state new) encodes.rest c.last c.room call.done c.result =
-    rw is_fatal at call.stops in
-    let bytes_are : take held before ++ c.wrote ≡ take (held + written) after =
-    ap (λ w. take held before ++ w) wrote_is
-    ∙ ap (λ h. h ++ take written (drop held after)) (sym held_stay)
-    ∙ sym (take-add held written after) in
-    record {
-      encoding = encodes.encoding;
-      barred = encodes.barred;
-      front = step_chars call.done;
-      reads = call.reads ∙ ap (λ t. step_chars call.done ++ t) (sym left_is);
-      mappable = λ goes_on. sym (any_reported_is leaves)
-          ∙ none_of (raw_state new) encodes.rest c.last c.room call.done c.result stops goes_on;
-      reported = λ x is. sym (reports_are leaves)
-          ∙ one_of (raw_state new) encodes.rest c.last c.room call.done c.result stops x is;
-      pushed = [];
-      taken = AppendsContents-none k;
-      owed = λ z.
-          let later = reference_after c.result ++ bytes_from_state new (left ++ z) in
-          ap (λ x. take held before ++ x) (call.text z (λ e. not_ended (sym not_last ∙ e))
-          ∙ ap (λ t. c.wrote ++ (reference_after c.result ++ bytes_from_state new (t ++ z)))
-          (sym left_is))
-          ∙ sym (append_assoc (take held before) c.wrote later)
-          ∙ ap (λ x. x ++ later) bytes_are;
-    }
+module _ (k : Option (List ℕ)) {old new : EncoderState} (had : Bool) (held written : ℕ)
+    (before after : List ℕ) where
+  pub ReportsText-call : {units_of : ℕ → List ℕ} {c : CallInMode} {left : List ℕ} → c.mode ≡ Fatal → c.last ≡ false
+      → (encodes : EncodesChunk units_of old new c) → c.wrote ≡ take written (drop held after)
+      → take held after ≡ take held before → left ≡ encodes.rest
+      → ReportsText k k (record { encoder = old; held = take held before; had_unmappables = had })
+      (record { encoder = new; held = take (held + written) after; had_unmappables = had })
+      c.src left c.result
+  ReportsText-call {c = c} {left = left} is_fatal not_last encodes wrote_is held_stay left_is =
+      let call = encodes.call in
+      let leaves = leaves_in_mode call in
+      let stops : EncoderStops (raw_state new) encodes.rest c.last c.room call.done c.result =
+      rw is_fatal at call.stops in
+      let bytes_are : take held before ++ c.wrote ≡ take (held + written) after =
+      ap (λ w. take held before ++ w) wrote_is
+      ∙ ap (λ h. h ++ take written (drop held after)) (sym held_stay)
+      ∙ sym (take-add held written after) in
+      record {
+        encoding = encodes.encoding;
+        barred = encodes.barred;
+        front = step_chars call.done;
+        reads = call.reads ∙ ap (λ t. step_chars call.done ++ t) (sym left_is);
+        mappable = λ goes_on. sym (any_reported_is leaves)
+            ∙ none_of (raw_state new) encodes.rest c.last c.room call.done c.result stops goes_on;
+        reported = λ x is. sym (reports_are leaves)
+            ∙ one_of (raw_state new) encodes.rest c.last c.room call.done c.result stops x is;
+        pushed = [];
+        taken = AppendsContents-none k;
+        owed = λ z.
+            let later = reference_after c.result ++ bytes_from_state new (left ++ z) in
+            ap (λ x. take held before ++ x) (call.text z (λ e. not_ended (sym not_last ∙ e))
+            ∙ ap (λ t. c.wrote ++ (reference_after c.result ++ bytes_from_state new (t ++ z)))
+            (sym left_is))
+            ∙ sym (append_assoc (take held before) c.wrote later)
+            ∙ ap (λ x. x ++ later) bytes_are;
+      }
 
 -- At the end of a text no character is unread.
 pub none_left : (result : EncoderResult) → result ≡ InputEmpty → {units_of : ℕ → List ℕ}
@@ -136,35 +135,35 @@ ReportsText-push {a = a} {b = b} t pushes = record {
       (sym pushes.encoder);
 }
 
-pub ReportsText-then : {k₀ k₁ k₂ : Option (List ℕ)} {a b c : WriterState} {t u v : List ℕ}
-    {r : EncoderResult} → ReportsText k₀ k₁ a b t u OutputFull → ReportsText k₁ k₂ b c u v r
-    → ReportsText k₀ k₂ a c t v r
-ReportsText-then {k₀} {k₁} {k₂} {a} {b} {c} {v = v} {r = r} first next =
-    let rule = (raw_state a.encoder).rule in
-    let same : (raw_state b.encoder).rule ≡ rule =
-    ap (λ e. output_rule b.encoder.barred e) first.encoding
-    ∙ ap (λ l. output_rule l a.encoder.encoding) first.barred in
-    let none = first.mappable (λ x e. cc) in
-    record {
-      encoding = next.encoding ∙ first.encoding;
-      barred = next.barred ∙ first.barred;
-      front = first.front ++ next.front;
-      reads = first.reads ∙ ap (λ x. first.front ++ x) next.reads
-          ∙ sym (append_assoc first.front next.front v);
-      mappable = λ goes_on. any_unmappable-append rule first.front next.front
-          ∙ ap (λ x. x || any_unmappable rule next.front) none
-          ∙ ap (λ (e : EncoderRule). any_unmappable e next.front) (sym same)
-          ∙ next.mappable goes_on;
-      reported = λ x is. reports_of-append rule first.front next.front
-          ∙ ap (λ t. t ++ reports_of rule next.front) (none_reports rule first.front none)
-          ∙ ap (λ (e : EncoderRule). reports_of e next.front) (sym same)
-          ∙ next.reported x is;
-      pushed = first.pushed ++ next.pushed;
-      taken = AppendsContents-then k₀ k₁ k₂ first.pushed next.pushed first.taken next.taken;
-      owed = λ z. first.owed z ∙ ap (λ x. first.pushed ++ x) (next.owed z)
-          ∙ sym (append_assoc first.pushed next.pushed
-          (c.held ++ (reference_after r ++ bytes_from_state c.encoder (v ++ z))));
-    }
+module _ {k₀ k₁ k₂ : Option (List ℕ)} {a b c : WriterState} where
+  pub ReportsText-then : {t u v : List ℕ} {r : EncoderResult} → ReportsText k₀ k₁ a b t u OutputFull → ReportsText k₁ k₂ b c u v r
+      → ReportsText k₀ k₂ a c t v r
+  ReportsText-then {v = v} {r = r} first next =
+      let rule = (raw_state a.encoder).rule in
+      let same : (raw_state b.encoder).rule ≡ rule =
+      ap (λ e. output_rule b.encoder.barred e) first.encoding
+      ∙ ap (λ l. output_rule l a.encoder.encoding) first.barred in
+      let none = first.mappable (λ x e. cc) in
+      record {
+        encoding = next.encoding ∙ first.encoding;
+        barred = next.barred ∙ first.barred;
+        front = first.front ++ next.front;
+        reads = first.reads ∙ ap (λ x. first.front ++ x) next.reads
+            ∙ sym (append_assoc first.front next.front v);
+        mappable = λ goes_on. any_unmappable-append rule first.front next.front
+            ∙ ap (λ x. x || any_unmappable rule next.front) none
+            ∙ ap (λ (e : EncoderRule). any_unmappable e next.front) (sym same)
+            ∙ next.mappable goes_on;
+        reported = λ x is. reports_of-append rule first.front next.front
+            ∙ ap (λ t. t ++ reports_of rule next.front) (none_reports rule first.front none)
+            ∙ ap (λ (e : EncoderRule). reports_of e next.front) (sym same)
+            ∙ next.reported x is;
+        pushed = first.pushed ++ next.pushed;
+        taken = AppendsContents-then k₀ k₁ k₂ first.pushed next.pushed first.taken next.taken;
+        owed = λ z. first.owed z ∙ ap (λ x. first.pushed ++ x) (next.owed z)
+            ∙ sym (append_assoc first.pushed next.pushed
+            (c.held ++ (reference_after r ++ bytes_from_state c.encoder (v ++ z))));
+      }
 
 -- a part is taken, and a push of the bytes held fails
 pub TakesPrefix-reported : {k₀ k₁ k₂ : Option (List ℕ)} {a b : WriterState} {t u : List ℕ}
