@@ -2,3 +2,4 @@ pub mod SinkLemmas
 pub mod EncodingLemmas
 pub mod UnencodedLemmas
 pub mod WritingLemmas
+pub mod ReportLemmas

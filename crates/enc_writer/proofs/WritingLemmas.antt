@@ -19,7 +19,7 @@ use Rattle.enc_writer.proofs.SinkLemmas.{AppendsContents-none, AppendsContents-t
 use Rattle.enc_writer.proofs.EncodingLemmas.{not_ended, none_owed, EncodesText-none, EncodesText-call}
 use Rattle.enc_writer.proofs.EncodingLemmas.{EncodesText-then}
 
-or_false : (x : Bool) → x ≡ (x || false)
+pub or_false : (x : Bool) → x ≡ (x || false)
 or_false true = refl
 or_false false = refl
 
@@ -217,11 +217,14 @@ HasWritten-then {k₀} {k₁} {k₂} {a} {b} {c} {t} {u} first next = record {
       ∙ ap (λ r. a.had_unmappables || r) (sym (any_unmappable-append rule t u));
 }
 
+pub AppendsText-alone : {k₀ k₁ : Option (List ℕ)} {a b : WriterState} {t : List ℕ}
+    → HasWritten k₀ k₁ a b t → AppendsText k₀ k₁ a b t
+AppendsText-alone alone =
+    record { alone = alone; after = λ k start before first. HasWritten-then first alone }
+
 pub AppendsText-by : {k₀ k₁ : Option (List ℕ)} {a b : WriterState} {t : List ℕ}
     → HasEncoded k₀ k₁ a b t [] false → AppendsText k₀ k₁ a b t
-AppendsText-by encoded =
-    let alone = HasWritten-by encoded in
-    record { alone = alone; after = λ k start before first. HasWritten-then first alone }
+AppendsText-by encoded = AppendsText-alone (HasWritten-by encoded)
 
 pub StopsWithin-by : {k₀ k₁ : Option (List ℕ)} {a : WriterState} {t : List ℕ} {last : Bool}
     → TakesPrefix k₀ k₁ a t last → StopsWithin k₀ k₁ a t last

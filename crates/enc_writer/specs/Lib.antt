@@ -1,4 +1,5 @@
 pub mod Sink
 pub mod EncodedText
 pub mod Writing
+pub mod Reporting
 pub mod Writer

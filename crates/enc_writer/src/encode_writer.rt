@@ -1,16 +1,16 @@
 //! The writer of text.
 
 ghost use Rattle.std.specs.Prelude.{◌≡◌, ◌↔◌, ◌+◌, ◌≤◌, length, drop, [], true, false, ◌++◌, chars};
-ghost use Rattle.std.specs.Prelude.{IfOk, OnOk, OnErr, IsErrOf, IfErr};
+ghost use Rattle.std.specs.Prelude.{IfOk, OnOk, OnErr, IsErrOf, IfErr, IfSome, IfNone};
 ghost use Rattle.std.specs.Str.{IsCharBoundary};
 ghost use Rattle.std.specs.Char.Utf16.{utf16_lossy_chars};
 
-use crate::encoding_calls::{encode_utf8_after, encode_utf16_after};
-use crate::fault::WriteFault;
+use crate::encoding_calls::{encode_mappable_after, encode_utf8_after, encode_utf16_after};
+use crate::fault::{UnmappableStop, WriteFault};
 use crate::pushing::push_both;
 use crate::sink::Sink;
 use crate::unencoded::unencoded_len;
-use enc_stream::{CoderResult, Encoder, Encoding};
+use enc_stream::{CoderResult, Encoder, EncoderResult, Encoding};
 use std::fmt;
 
 /// The least room for a call of the encoder: four bytes, and ten that it keeps free for references.
@@ -44,11 +44,12 @@ impl<'a, W: Sink> EncodeWriter<'a, W> {
     ghost use Rattle.enc_encoder.specs.declared.character_set.CharacterSet.TheVariants.{Ascii};
     ghost use Rattle.enc_encoder.specs.Unmappable.{any_unmappable};
     ghost use Rattle.enc_stream.specs.Encodings.{output_rule};
-    ghost use Rattle.enc_stream.specs.Encoder.{whole_bytes, LeavesFewerSteps};
+    ghost use Rattle.enc_stream.specs.Encoder.{raw_state, whole_bytes, LeavesFewerSteps};
     ghost use Rattle.enc_writer.specs.Sink.{AppendsContents, AppendsPrefix};
     ghost use Rattle.enc_writer.specs.Writing.{AppendsText, EndsText, HasEncoded};
     ghost use Rattle.enc_writer.specs.Writing.{PushesBytes, StopsWithin, TakesPrefix};
     ghost use Rattle.enc_writer.specs.Writing.{ended_writer, flag_after, fresh_writer, owed_bytes};
+    ghost use Rattle.enc_writer.specs.Reporting.{ReportsText};
     ghost use Rattle.enc_writer.specs.Writer.{state_of};
 
     /// Returns a writer to `writer`, in the output encoding of `encoding`, through the buffer
@@ -290,6 +291,86 @@ impl<'a, W: Sink> EncodeWriter<'a, W> {
             rest = left;
             if outcome == CoderResult::InputEmpty {
                 return Ok(());
+            }
+        }
+    }
+
+    /// Encodes a part of a text, up to an unmappable character, into the free part of the buffer.
+    /// Returns why it stopped, and the number of bytes read.
+    fn encode_mappable(&mut self, text: &str) -> (EncoderResult, usize)
+        requires room { self.old.filled + 14 ≤ length self.old.output.now }
+        ensures boundary { IsCharBoundary text.now result.1 }
+        ensures read { result.1 ≤ length text.now }
+        ensures part { ReportsText (W.contents self.old.writer.now) (W.contents self.new.writer.now)
+            (state_of self.old) (state_of self.new) (chars text.now)
+            (chars (drop result.1 text.now)) result.0 }
+        ensures all { result.0 ≡ EncoderResult.InputEmpty → chars (drop result.1 text.now) ≡ [] }
+        ensures progress { (result.0 ≡ EncoderResult.InputEmpty → ⊥) →
+            LeavesFewerSteps self.old.encoder self.new.encoder false
+            (chars text.now) (chars (drop result.1 text.now)) }
+        ensures writer { self.new.writer ≡ self.old.writer }
+        ensures failed { self.new.failed ≡ self.old.failed }
+        ensures had { self.new.had_unmappables ≡ self.old.had_unmappables }
+    {
+        let call = encode_mappable_after(&mut self.encoder, text, self.output, self.filled);
+        self.filled += call.written;
+        (call.result, call.read)
+    }
+
+    /// Writes a text up to an unmappable character.
+    ///
+    /// Returns `None` if all of the text is taken. Otherwise it returns the character and the
+    /// number of bytes of the text that are taken. The caller may write a decimal reference to it
+    /// (`&#`, its number and `;`) or another text in its place, and then the rest of the text. The
+    /// bytes are collected as by [`EncodeWriter::write_str`], and all of them are encoded.
+    ///
+    /// Errors: `Writer` if the sink failed in this call, and `Failed` in each later call. The sink
+    /// has taken a prefix of the bytes of all text written, and nothing more is written.
+    pub fn write_str_without_replacement(
+        &mut self,
+        text: &str,
+    ) -> Result<Option<UnmappableStop>, WriteFault>
+        ensures ok { IfOk result (λ stop. IfNone stop (AppendsText
+            (W.contents self.old.writer.now) (W.contents self.new.writer.now) (state_of self.old)
+            (state_of self.new) (chars text.now))) }
+        ensures mappable { IfOk result (λ stop. IfNone stop
+            (any_unmappable (raw_state self.old.encoder).rule (chars text.now) ≡ false)) }
+        ensures stop { IfOk result (λ stop. IfSome stop (λ at. ReportsText
+            (W.contents self.old.writer.now) (W.contents self.new.writer.now) (state_of self.old)
+            (state_of self.new) (chars text.now) (chars (drop at.taken text.now))
+            (EncoderResult.Unmappable at.character))) }
+        ensures boundary { IfOk result (λ stop. IfSome stop
+            (λ at. IsCharBoundary text.now at.taken)) }
+        ensures flag { IfOk result (λ stop. IfSome stop (λ _. self.new.had_unmappables ≡ true)) }
+        ensures kept { OnOk result (W.has_failed self.new.writer.now
+            ≡ W.has_failed self.old.writer.now) }
+        ensures going { OnOk result (self.new.failed ≡ false) }
+        ensures err { OnErr result (StopsWithin (W.contents self.old.writer.now)
+            (W.contents self.new.writer.now) (state_of self.old) (chars text.now) false) }
+        ensures sink_failed { OnErr result (W.has_failed self.new.writer.now ≡ true) }
+        ensures failed { OnErr result (self.new.failed ≡ true) }
+        ensures from_then_on { IsErrOf result WriteFault.Failed ↔ self.old.failed ≡ true }
+        ensures unchanged { IsErrOf result WriteFault.Failed → self.new ≡ self.old }
+        ensures same_writer { self.new.writer.ghost_name ≡ self.old.writer.ghost_name }
+    {
+        if self.failed {
+            return Err(WriteFault::Failed);
+        }
+        let mut rest = text;
+        let mut taken = 0;
+        'calls: loop {
+            self.make_room()?;
+            let (outcome, read) = self.encode_mappable(rest);
+            let (_, left) = rest.split_at(read);
+            rest = left;
+            taken += read;
+            match outcome {
+                EncoderResult::InputEmpty => return Ok(None),
+                EncoderResult::OutputFull => {}
+                EncoderResult::Unmappable(character) => {
+                    self.had_unmappables = true;
+                    return Ok(Some(UnmappableStop { character, taken }));
+                }
             }
         }
     }

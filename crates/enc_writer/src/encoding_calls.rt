@@ -23,6 +23,56 @@ pub(crate) struct CallOutcome {
     pub(crate) replaced: bool,
 }
 
+/// The outcome of a call without replacement.
+#[derive(Clone, Copy)]
+pub(crate) struct ReportOutcome {
+    pub(crate) result: EncoderResult,
+    /// The number of bytes read.
+    pub(crate) read: usize,
+    /// The number of bytes written.
+    pub(crate) written: usize,
+}
+
+/// Encodes from UTF-8, up to an unmappable character, into `output` after its first `held` bytes.
+/// Text follows.
+pub(crate) fn encode_mappable_after(
+    encoder: &mut Encoder,
+    text: &str,
+    output: &mut [u8],
+    held: usize,
+) -> ReportOutcome
+    requires room { held + 14 ≤ length output.old }
+    ensures call { EncodesChunk encode_utf8 encoder.old encoder.new (record {
+      src = chars text.now;
+      last = false;
+      mode = Fatal;
+      room = length output.old - held;
+      result = result.result;
+      read = result.read;
+      wrote = take result.written (drop held output.new);
+      replaced = false;
+    }) }
+    ensures read { result.read ≤ length text.now }
+    ensures boundary { IsCharBoundary text.now result.read }
+    ensures written { held + result.written ≤ length output.new }
+    ensures held { take held output.new ≡ take held output.old }
+    ensures length { length output.new ≡ length output.old }
+    ensures progress { (result.result ≡ EncoderResult.InputEmpty → ⊥) →
+        LeavesFewerSteps encoder.old encoder.new false
+        (chars text.now) (chars (drop result.read text.now)) }
+{
+    let (result, read, written) = encoder.encode_from_utf8_without_replacement(
+        text,
+        &mut output[held..],
+        false,
+    );
+    ReportOutcome {
+        result,
+        read,
+        written,
+    }
+}
+
 /// Encodes from UTF-8, with replacement, into `output` after its first `held` bytes.
 pub(crate) fn encode_utf8_after(
     encoder: &mut Encoder,

@@ -16,6 +16,15 @@ pub enum WriteFault {
     Failed = 2,
 }
 
+/// An unmappable character, at which a write without replacement has stopped.
+#[derive(Clone, Copy, PartialEq, Eq, Debug)]
+pub struct UnmappableStop {
+    /// The character reported: in ISO-2022-JP U+FFFD for U+000E, U+000F and U+001B.
+    pub character: char,
+    /// The number of bytes of the text that are taken, with those of the character.
+    pub taken: usize,
+}
+
 /// Returns the numbers of the faults.
 fn numbers() -> (u8, u8)
     ensures { result ≡ (1, 2) }

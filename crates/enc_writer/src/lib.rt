@@ -11,5 +11,5 @@ mod sink;
 mod unencoded;
 
 pub use encode_writer::EncodeWriter;
-pub use fault::WriteFault;
+pub use fault::{UnmappableStop, WriteFault};
 pub use sink::{FromWrite, Sink};

@@ -1,6 +1,6 @@
 //! Texts in several writes, and their bytes. Those of mappable characters are of Python's codecs.
 
-use enc_writer::{EncodeWriter, FromWrite};
+use enc_writer::{EncodeWriter, FromWrite, UnmappableStop};
 use encoding_rs::*;
 use std::alloc::Global;
 use std::test::Fail;
@@ -160,4 +160,22 @@ fn long_text_is_pushed_after_what_is_held(rt: HostRuntime) -> Result<(), Fail> {
         assert!(rt; writer.taken.as_slice().starts_with(b"baaa"));
     }
     Ok(())
+}
+
+#[test]
+fn a_write_without_replacement_stops_at_an_unmappable_character(rt: HostRuntime) {
+    let mut writer = StepWriter::new(rt.alloc(), &[]);
+    let mut sink = FromWrite::new(&mut writer);
+    let mut buffer = [0; 14];
+    let mut encoding = EncodeWriter::new(&mut sink, SHIFT_JIS, &mut buffer);
+    let stop = UnmappableStop {
+        character: 'é',
+        taken: 5,
+    };
+    assert!(rt; encoding.write_str_without_replacement("日é本") == Ok(Some(stop)));
+    assert!(rt; encoding.had_unmappables());
+    assert!(rt; encoding.write_str("?") == Ok(()));
+    assert!(rt; encoding.write_str_without_replacement("本") == Ok(None));
+    assert!(rt; encoding.finish() == Ok(true));
+    assert!(rt; writer.taken.as_slice() == b"\x93\xFA?\x96\x7B".as_slice());
 }

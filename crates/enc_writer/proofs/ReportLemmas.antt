@@ -1,0 +1,218 @@
+-- Calls of a writer that report unmappable characters.
+use Rattle.std.proofs.Common.{◌≡◌, ℕ, ◌+◌, Bool, true, false, not}
+use Rattle.std.proofs.Common.{◌||◌, is_some, Option, Some, None, List, [], ◌∷◌}
+use Rattle.std.proofs.Common.{◌++◌, take, drop, refl, ap, ◌∙◌, sym, append_assoc, append-nil}
+use Rattle.std.proofs.Math.Seq.{take-add}
+use Rattle.enc_units.specs.declared.encoder_result.EncoderResult.{EncoderResult}
+use Rattle.enc_units.specs.declared.encoder_result.EncoderResult.TheVariants.{InputEmpty}
+use Rattle.enc_units.specs.declared.encoder_result.EncoderResult.TheVariants.{OutputFull, Unmappable}
+use Rattle.enc_encoder.specs.Call.{EncoderStops}
+use Rattle.enc_encoder.specs.EncoderRule.{EncoderRule, RawEncoderState}
+use Rattle.enc_encoder.specs.ErrorMode.{CallInMode, Fatal}
+use Rattle.enc_encoder.specs.Steps.{Step, any_reported, step_chars}
+use Rattle.enc_encoder.specs.Text.{reference_after}
+use Rattle.enc_encoder.specs.Unmappable.{any_unmappable, report_for, reports_of}
+use Rattle.enc_encoder.proofs.LeavesLemmas.{leaves_in_mode}
+use Rattle.enc_encoder.proofs.TextLemmas.{parted}
+use Rattle.enc_encoder.proofs.UnmappableLemmas.{any_reported_is, any_unmappable-append}
+use Rattle.enc_encoder.proofs.UnmappableLemmas.{reports_are, reports_by}
+use Rattle.enc_encoder.proofs.UnmappableLemmas.{reports_in, reports_in-append, reports_of-append}
+use Rattle.enc_stream.specs.Encodings.{output_rule}
+use Rattle.enc_stream.specs.Encoder.{EncoderState, EncodesChunk, raw_state}
+use Rattle.enc_writer.specs.Sink.{AppendsPrefix}
+use Rattle.enc_writer.specs.EncodedText.{bytes_from_state}
+use Rattle.enc_writer.specs.Writing.{WriterState, PushesBytes, HasWritten}
+use Rattle.enc_writer.specs.Writing.{TakesPrefix, AppendsText, flag_after, owed_bytes}
+use Rattle.enc_writer.specs.Reporting.{ReportsText}
+use Rattle.enc_writer.proofs.SinkLemmas.{AppendsContents-none, AppendsContents-then}
+use Rattle.enc_writer.proofs.EncodingLemmas.{not_ended}
+use Rattle.enc_writer.proofs.WritingLemmas.{AppendsText-alone, or_false}
+
+-- the steps of a call, by why it stopped
+
+none_of : (new : RawEncoderState) (rest : List ℕ) (last : Bool) (room : ℕ) (done : List Step)
+    (r : EncoderResult) → EncoderStops new rest last room done r
+    → ((c : ℕ) → r ≡ Unmappable c → ⊥) → any_reported done ≡ false
+none_of new rest last room done InputEmpty stops goes_on = stops.none_reported
+none_of new rest last room done OutputFull stops goes_on = stops.none_reported
+none_of new rest last room done (Unmappable c) stops goes_on = absurd (goes_on c refl)
+
+none_in : (ps : List Step) → any_reported ps ≡ false → reports_in ps ≡ []
+none_in [] e = refl
+none_in (p ∷ ps) e =
+    let both = parted p.report (any_reported ps) e in
+    ap (λ r. reports_by r ++ reports_in ps) both.0 ∙ none_in ps both.1
+
+one_of : (new : RawEncoderState) (rest : List ℕ) (last : Bool) (room : ℕ) (done : List Step)
+    (r : EncoderResult) → EncoderStops new rest last room done r → (c : ℕ) → r ≡ Unmappable c
+    → reports_in done ≡ c ∷ []
+one_of new rest last room done InputEmpty stops c e = cc
+one_of new rest last room done OutputFull stops c e = cc
+one_of new rest last room done (Unmappable d) stops c e =
+    let same : d ≡ c = cc in
+    ap reports_in stops.then_report ∙ reports_in-append stops.before (stops.report ∷ [])
+    ∙ ap (λ t. t ++ (reports_by stops.report.report ++ []))
+    (none_in stops.before stops.none_reported)
+    ∙ append-nil (reports_by stops.report.report) ∙ ap reports_by stops.reported
+    ∙ ap (λ x. x ∷ []) same
+
+-- a text without unmappable characters has no report
+none_reports : (e : EncoderRule) (t : List ℕ) → any_unmappable e t ≡ false → reports_of e t ≡ []
+none_reports e [] none = refl
+none_reports e (c ∷ t) none = at_char (e.bytes c) (λ rest. none_reports e t rest) none
+  where
+    at_char : (b : Option (List ℕ)) → (any_unmappable e t ≡ false → reports_of e t ≡ [])
+        → (not (is_some b) || any_unmappable e t) ≡ false
+        → (report_for e c b ++ reports_of e t) ≡ []
+    at_char None later h = cc
+    at_char (Some b) later h = later h
+
+-- one call, which writes after the bytes held
+module _ (k : Option (List ℕ)) {old new : EncoderState} (had : Bool) (held written : ℕ)
+    (before after : List ℕ) where
+  pub ReportsText-call : {units_of : ℕ → List ℕ} {c : CallInMode} {left : List ℕ} → c.mode ≡ Fatal → c.last ≡ false
+      → (encodes : EncodesChunk units_of old new c) → c.wrote ≡ take written (drop held after)
+      → take held after ≡ take held before → left ≡ encodes.rest
+      → ReportsText k k (record { encoder = old; held = take held before; had_unmappables = had })
+      (record { encoder = new; held = take (held + written) after; had_unmappables = had })
+      c.src left c.result
+  ReportsText-call {c = c} {left = left} is_fatal not_last encodes wrote_is held_stay left_is =
+      let call = encodes.call in
+      let leaves = leaves_in_mode call in
+      let stops : EncoderStops (raw_state new) encodes.rest c.last c.room call.done c.result =
+      rw is_fatal at call.stops in
+      let bytes_are : take held before ++ c.wrote ≡ take (held + written) after =
+      ap (λ w. take held before ++ w) wrote_is
+      ∙ ap (λ h. h ++ take written (drop held after)) (sym held_stay)
+      ∙ sym (take-add held written after) in
+      record {
+        encoding = encodes.encoding;
+        barred = encodes.barred;
+        front = step_chars call.done;
+        reads = call.reads ∙ ap (λ t. step_chars call.done ++ t) (sym left_is);
+        mappable = λ goes_on. sym (any_reported_is leaves)
+            ∙ none_of (raw_state new) encodes.rest c.last c.room call.done c.result stops goes_on;
+        reported = λ x is. sym (reports_are leaves)
+            ∙ one_of (raw_state new) encodes.rest c.last c.room call.done c.result stops x is;
+        pushed = [];
+        taken = AppendsContents-none k;
+        owed = λ z.
+            let later = reference_after c.result ++ bytes_from_state new (left ++ z) in
+            ap (λ x. take held before ++ x) (call.text z (λ e. not_ended (sym not_last ∙ e))
+            ∙ ap (λ t. c.wrote ++ (reference_after c.result ++ bytes_from_state new (t ++ z)))
+            (sym left_is))
+            ∙ sym (append_assoc (take held before) c.wrote later)
+            ∙ ap (λ x. x ++ later) bytes_are;
+      }
+
+-- At the end of a text no character is unread.
+pub none_left : (result : EncoderResult) → result ≡ InputEmpty → {units_of : ℕ → List ℕ}
+    {old new : EncoderState} {c : CallInMode} → c.mode ≡ Fatal → c.result ≡ result
+    → (encodes : EncodesChunk units_of old new c) → encodes.rest ≡ []
+none_left result at_end {new = new} {c = c} is_fatal result_is encodes =
+    let stops : EncoderStops (raw_state new) encodes.rest c.last c.room encodes.call.done
+    InputEmpty =
+    rw (is_fatal, result_is, at_end) at encodes.call.stops in
+    stops.all_read
+
+-- no text is read, and the bytes held may be pushed
+pub ReportsText-push : {k₀ k₁ : Option (List ℕ)} {a b : WriterState} (t : List ℕ)
+    → PushesBytes k₀ k₁ a b [] → ReportsText k₀ k₁ a b t t OutputFull
+ReportsText-push {a = a} {b = b} t pushes = record {
+  encoding = ap (λ (e : EncoderState). e.encoding) pushes.encoder;
+  barred = ap (λ (e : EncoderState). e.barred) pushes.encoder;
+  front = [];
+  reads = refl;
+  mappable = λ goes_on. refl;
+  reported = λ c is. cc;
+  pushed = pushes.pushed;
+  taken = pushes.taken;
+  owed = λ z.
+      let later = bytes_from_state a.encoder (t ++ z) in
+      ap (λ x. x ++ later) (sym (append-nil a.held) ∙ pushes.bytes_kept)
+      ∙ append_assoc pushes.pushed b.held later
+      ∙ ap (λ (e : EncoderState). pushes.pushed ++ (b.held ++ bytes_from_state e (t ++ z)))
+      (sym pushes.encoder);
+}
+
+module _ {k₀ k₁ k₂ : Option (List ℕ)} {a b c : WriterState} where
+  pub ReportsText-then : {t u v : List ℕ} {r : EncoderResult} → ReportsText k₀ k₁ a b t u OutputFull → ReportsText k₁ k₂ b c u v r
+      → ReportsText k₀ k₂ a c t v r
+  ReportsText-then {v = v} {r = r} first next =
+      let rule = (raw_state a.encoder).rule in
+      let same : (raw_state b.encoder).rule ≡ rule =
+      ap (λ e. output_rule b.encoder.barred e) first.encoding
+      ∙ ap (λ l. output_rule l a.encoder.encoding) first.barred in
+      let none = first.mappable (λ x e. cc) in
+      record {
+        encoding = next.encoding ∙ first.encoding;
+        barred = next.barred ∙ first.barred;
+        front = first.front ++ next.front;
+        reads = first.reads ∙ ap (λ x. first.front ++ x) next.reads
+            ∙ sym (append_assoc first.front next.front v);
+        mappable = λ goes_on. any_unmappable-append rule first.front next.front
+            ∙ ap (λ x. x || any_unmappable rule next.front) none
+            ∙ ap (λ (e : EncoderRule). any_unmappable e next.front) (sym same)
+            ∙ next.mappable goes_on;
+        reported = λ x is. reports_of-append rule first.front next.front
+            ∙ ap (λ t. t ++ reports_of rule next.front) (none_reports rule first.front none)
+            ∙ ap (λ (e : EncoderRule). reports_of e next.front) (sym same)
+            ∙ next.reported x is;
+        pushed = first.pushed ++ next.pushed;
+        taken = AppendsContents-then k₀ k₁ k₂ first.pushed next.pushed first.taken next.taken;
+        owed = λ z. first.owed z ∙ ap (λ x. first.pushed ++ x) (next.owed z)
+            ∙ sym (append_assoc first.pushed next.pushed
+            (c.held ++ (reference_after r ++ bytes_from_state c.encoder (v ++ z))));
+      }
+
+-- a part is taken, and a push of the bytes held fails
+pub TakesPrefix-reported : {k₀ k₁ k₂ : Option (List ℕ)} {a b : WriterState} {t u : List ℕ}
+    → ReportsText k₀ k₁ a b t u OutputFull → AppendsPrefix k₁ k₂ b.held
+    → TakesPrefix k₀ k₂ a t false
+TakesPrefix-reported {k₀} {k₁} {k₂} {a} {b} {u = u} first part = record {
+  pushed = first.pushed ++ part.wrote;
+  taken = AppendsContents-then k₀ k₁ k₂ first.pushed part.wrote first.taken part.taken;
+  prefix = λ z ends.
+      let later = bytes_from_state b.encoder (u ++ z) in (
+        part.unwritten ++ later,
+        first.owed z
+            ∙ ap (λ x. first.pushed ++ x) (ap (λ x. x ++ later) part.prefix
+            ∙ append_assoc part.wrote part.unwritten later)
+            ∙ sym (append_assoc first.pushed part.wrote (part.unwritten ++ later)),
+      );
+}
+
+-- all of a text is taken
+module _ {k₀ k₁ : Option (List ℕ)} {a b : WriterState} {t : List ℕ}
+    (reports : ReportsText k₀ k₁ a b t [] InputEmpty) where
+  pub none_unmappable : any_unmappable (raw_state a.encoder).rule t ≡ false
+  none_unmappable =
+      ap (any_unmappable (raw_state a.encoder).rule) (reports.reads ∙ append-nil reports.front)
+      ∙ reports.mappable (λ c e. cc)
+
+  pub AppendsText-reported : b.had_unmappables ≡ a.had_unmappables → AppendsText k₀ k₁ a b t
+  AppendsText-reported had = AppendsText-alone (record {
+    encoding = reports.encoding;
+    barred = reports.barred;
+    pushed = reports.pushed;
+    taken = reports.taken;
+    owed = reports.owed;
+    flag = had ∙ or_false a.had_unmappables
+        ∙ ap (λ x. a.had_unmappables || x) (sym none_unmappable);
+  })
+
+-- whatever is said of unmappable characters before
+pub ReportsText-flag : {k₀ k₁ : Option (List ℕ)} {a b : WriterState} {t u : List ℕ}
+    {r : EncoderResult} (had : Bool) → ReportsText k₀ k₁ a b t u r
+    → ReportsText k₀ k₁ a (record b { had_unmappables = had }) t u r
+ReportsText-flag had reports = record {
+  encoding = reports.encoding;
+  barred = reports.barred;
+  front = reports.front;
+  reads = reports.reads;
+  mappable = reports.mappable;
+  reported = reports.reported;
+  pushed = reports.pushed;
+  taken = reports.taken;
+  owed = reports.owed;
+}

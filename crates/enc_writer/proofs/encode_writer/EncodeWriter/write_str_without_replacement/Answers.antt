@@ -1,0 +1,116 @@
+use Rattle.std.proofs.Common.{rules, ◌≡◌, ◌≤◌, ◌+◌, ◌-◌, refl, ap, sym, ◌∙◌}
+use Rattle.std.proofs.Common.{subst, chars, drop, length, arith, false, true, IsUtf8}
+use Rattle.std.proofs.Math.ListN.{length-drop}
+use Rattle.std.proofs.lemmas.List.{drop-drop}
+use Rattle.std.proofs.lemmas.Str.{IsCharBoundary-from_drop, IsUtf8-drop}
+use Rattle.enc_units.specs.declared.encoder_result.EncoderResult.TheVariants.{InputEmpty, OutputFull, Unmappable}
+use Rattle.enc_writer.specs.Writer.{state_of}
+use Rattle.enc_writer.proofs.SinkLemmas.{on_err}
+use Rattle.enc_writer.proofs.WritingLemmas.{PushesBytes-none, StopsWithin-by, StopsWithin-none}
+use Rattle.enc_writer.proofs.ReportLemmas.{ReportsText-push, ReportsText-then, ReportsText-flag}
+use Rattle.enc_writer.proofs.ReportLemmas.{AppendsText-reported, TakesPrefix-reported, none_unmappable}
+use Rattle.enc_writer.proofs.encode_writer.EncodeWriter.write_str_without_replacement.Goals as goal
+
+pub returns-then-self-clause-err : goal.returns-then-self-clause-err
+returns-then-self-clause-err g c =
+    StopsWithin-none _ (state_of c.args.self.now) (chars c.args.text.now) false
+
+pub calls-init : goal.calls-init
+calls-init g c = (
+  search rules,
+  record {
+    reports = ReportsText-push (chars c.args.text.now)
+        (PushesBytes-none _ (state_of c.args.self.now));
+    within = search rules;
+    rest_is = refl;
+    going = search rules;
+    had = refl;
+    kept = refl;
+    same_writer = refl;
+  },
+)
+
+pub returns-in_err-make_room-clause-err : goal.returns-in_err-make_room-clause-err
+returns-in_err-make_room-clause-err g c =
+    on_err c.from_residual.result _
+    (StopsWithin-by
+    (TakesPrefix-reported c.calls.invariant.1.reports c.in_err-make_room.ensures.err))
+
+pub overflow_add-taken : goal.overflow_add-taken
+overflow_add-taken g c =
+    let rest_is = ap length c.calls.invariant.1.rest_is
+    ∙ length-drop c.calls.taken c.args.text.now in
+    omega (arith, rest_is, c.encode_mappable-outcome.ensures.read)
+
+pub returns-in-InputEmpty-clause-ok : goal.returns-in-InputEmpty-clause-ok
+returns-in-InputEmpty-clause-ok g c =
+    let is : c.encode_mappable-outcome.result.0 ≡ InputEmpty = search rules in
+    AppendsText-reported (rw (c.encode_mappable-outcome.ensures.all is, is) at
+    (ReportsText-then
+    (ReportsText-then c.calls.invariant.1.reports
+    (ReportsText-push (chars c.calls.rest.now) c.in_ok-make_room.ensures.ok))
+    c.encode_mappable-outcome.ensures.part)) (search rules)
+
+pub returns-in-InputEmpty-clause-mappable : goal.returns-in-InputEmpty-clause-mappable
+returns-in-InputEmpty-clause-mappable g c =
+    let is : c.encode_mappable-outcome.result.0 ≡ InputEmpty = search rules in
+    none_unmappable (rw (c.encode_mappable-outcome.ensures.all is, is) at
+    (ReportsText-then
+    (ReportsText-then c.calls.invariant.1.reports
+    (ReportsText-push (chars c.calls.rest.now) c.in_ok-make_room.ensures.ok))
+    c.encode_mappable-outcome.ensures.part))
+
+pub returns-in-Unmappable-clause-stop : goal.returns-in-Unmappable-clause-stop
+returns-in-Unmappable-clause-stop g c =
+    let is : c.encode_mappable-outcome.result.0 ≡ Unmappable c.in-Unmappable.character =
+    search rules in
+    let read = c.encode_mappable-outcome.result.1 in
+    let unread : drop read c.calls.rest.now ≡ drop (c.calls.taken + read) c.args.text.now =
+    ap (drop read) c.calls.invariant.1.rest_is ∙ drop-drop read c.calls.taken c.args.text.now in
+    ReportsText-flag true (rw (is, unread) at
+    (ReportsText-then
+    (ReportsText-then c.calls.invariant.1.reports
+    (ReportsText-push (chars c.calls.rest.now) c.in_ok-make_room.ensures.ok))
+    c.encode_mappable-outcome.ensures.part))
+
+pub returns-in-Unmappable-clause-boundary : goal.returns-in-Unmappable-clause-boundary
+returns-in-Unmappable-clause-boundary g c =
+    let read = c.encode_mappable-outcome.result.1 in
+    let unread : drop read c.calls.rest.now ≡ drop (c.calls.taken + read) c.args.text.now =
+    ap (drop read) c.calls.invariant.1.rest_is ∙ drop-drop read c.calls.taken c.args.text.now in
+    let rest_is = ap length c.calls.invariant.1.rest_is
+    ∙ length-drop c.calls.taken c.args.text.now in
+    IsCharBoundary-from_drop c.args.text.now (c.calls.taken + read)
+    (omega (arith, rest_is, c.encode_mappable-outcome.ensures.read, c.calls.invariant.1.within))
+    (subst IsUtf8 unread
+    (IsUtf8-drop c.calls.rest.now read c.calls.invariant.0
+    c.encode_mappable-outcome.ensures.boundary))
+
+pub calls-preserved : goal.calls-preserved
+calls-preserved g c =
+    let is : c.encode_mappable-outcome.result.0 ≡ OutputFull = search rules in
+    let read = c.encode_mappable-outcome.result.1 in
+    let unread = ap chars c.split_at.ensures.back in
+    let rest_is = ap length c.calls.invariant.1.rest_is
+    ∙ length-drop c.calls.taken c.args.text.now in (
+      search rules,
+      record {
+        reports = rw unread (rw is at
+            (ReportsText-then
+            (ReportsText-then c.calls.invariant.1.reports
+            (ReportsText-push (chars c.calls.rest.now) c.in_ok-make_room.ensures.ok))
+            c.encode_mappable-outcome.ensures.part));
+        within = omega (
+          arith,
+          rest_is,
+          c.encode_mappable-outcome.ensures.read,
+          c.calls.invariant.1.within,
+        );
+        rest_is = c.split_at.ensures.back ∙ ap (drop read) c.calls.invariant.1.rest_is
+            ∙ drop-drop read c.calls.taken c.args.text.now;
+        going = search rules;
+        had = search rules;
+        kept = search rules;
+        same_writer = search rules;
+      },
+    )

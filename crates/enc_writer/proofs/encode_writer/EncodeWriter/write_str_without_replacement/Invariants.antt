@@ -1,0 +1,24 @@
+use Rattle.std.proofs.Common.{◌≡◌, ◌≤◌, chars, drop, length, false}
+use denote.Text.{Utf8}
+use denote.Shadow.{shadow}
+use Rattle.enc_units.specs.declared.encoder_result.EncoderResult.TheVariants.{OutputFull}
+use Rattle.enc_stream.specs.Encoder.{steps_left}
+use Rattle.enc_writer.specs.Reporting.{ReportsText}
+use Rattle.enc_writer.specs.Writer.{state_of}
+use Rattle.enc_writer.proofs.encode_writer.EncodeWriter.write_str_without_replacement.Given as goal
+
+abbrev pub invariant-calls : goal.invariant-calls
+invariant-calls g l = shadow (Utf8 l.rest) × record {
+  reports : ReportsText (g.W.Sink.contents l.fn.self.writer.now)
+      (g.W.Sink.contents l.self.writer.now) (state_of l.fn.self) (state_of l.self)
+      (chars l.text) (chars l.rest) OutputFull;
+  within : l.taken ≤ length l.text;
+  rest_is : l.rest ≡ drop l.taken l.text;
+  going : l.self.failed ≡ false;
+  had : l.self.had_unmappables ≡ l.fn.self.had_unmappables;
+  kept : g.W.Sink.has_failed l.self.writer.now ≡ g.W.Sink.has_failed l.fn.self.writer.now;
+  same_writer : l.self.writer.ghost_name ≡ l.fn.self.writer.ghost_name;
+}
+
+abbrev pub decreases-calls : goal.decreases-calls
+decreases-calls g l = steps_left l.self.encoder false (chars l.rest)
