@@ -70,7 +70,8 @@ none_reports e (c ∷ t) none = at_char (e.bytes c) (λ rest. none_reports e t r
 -- one call, which writes after the bytes held
 module _ (k : Option (List ℕ)) {old new : EncoderState} (had : Bool) (held written : ℕ)
     (before after : List ℕ) where
-  pub ReportsText-call : {units_of : ℕ → List ℕ} {c : CallInMode} {left : List ℕ} → c.mode ≡ Fatal → c.last ≡ false
+  pub ReportsText-call : {units_of : ℕ → List ℕ} {c : CallInMode} {left : List ℕ}
+      → c.mode ≡ Fatal → c.last ≡ false
       → (encodes : EncodesChunk units_of old new c) → c.wrote ≡ take written (drop held after)
       → take held after ≡ take held before → left ≡ encodes.rest
       → ReportsText k k (record { encoder = old; held = take held before; had_unmappables = had })
@@ -136,7 +137,8 @@ ReportsText-push {a = a} {b = b} t pushes = record {
 }
 
 module _ {k₀ k₁ k₂ : Option (List ℕ)} {a b c : WriterState} where
-  pub ReportsText-then : {t u v : List ℕ} {r : EncoderResult} → ReportsText k₀ k₁ a b t u OutputFull → ReportsText k₁ k₂ b c u v r
+  pub ReportsText-then : {t u v : List ℕ} {r : EncoderResult}
+      → ReportsText k₀ k₁ a b t u OutputFull → ReportsText k₁ k₂ b c u v r
       → ReportsText k₀ k₂ a c t v r
   ReportsText-then {v = v} {r = r} first next =
       let rule = (raw_state a.encoder).rule in
