@@ -21,12 +21,12 @@ use Rattle.enc_stream.specs.Encodings.{output_rule}
 use Rattle.enc_stream.specs.Encoder.{EncoderState, EncodesChunk, raw_state}
 use Rattle.enc_writer.specs.Sink.{AppendsPrefix}
 use Rattle.enc_writer.specs.EncodedText.{bytes_from_state}
-use Rattle.enc_writer.specs.Writing.{WriterState, PushesBytes, HasWritten}
-use Rattle.enc_writer.specs.Writing.{TakesPrefix, AppendsText, flag_after, owed_bytes}
+use Rattle.enc_writer.specs.Writing.{WriterState, PushesBytes, HasWrittenText}
+use Rattle.enc_writer.specs.Writing.{TakesPrefix, WritesText, flag_after, owed_bytes}
 use Rattle.enc_writer.specs.Reporting.{ReportsText}
 use Rattle.enc_writer.proofs.SinkLemmas.{AppendsContents-none, AppendsContents-then}
 use Rattle.enc_writer.proofs.EncodingLemmas.{not_ended}
-use Rattle.enc_writer.proofs.WritingLemmas.{AppendsText-alone, or_false}
+use Rattle.enc_writer.proofs.WritingLemmas.{WritesText-alone, or_false}
 
 -- the steps of a call, by why it stopped
 
@@ -192,8 +192,8 @@ module _ {k₀ k₁ : Option (List ℕ)} {a b : WriterState} {t : List ℕ}
       ap (any_unmappable (raw_state a.encoder).rule) (reports.reads ∙ append-nil reports.front)
       ∙ reports.mappable (λ c e. cc)
 
-  pub AppendsText-reported : b.had_unmappables ≡ a.had_unmappables → AppendsText k₀ k₁ a b t
-  AppendsText-reported had = AppendsText-alone (record {
+  pub WritesText-reported : b.had_unmappables ≡ a.had_unmappables → WritesText k₀ k₁ a b t
+  WritesText-reported had = WritesText-alone (record {
     encoding = reports.encoding;
     barred = reports.barred;
     pushed = reports.pushed;

@@ -13,8 +13,8 @@ use Rattle.enc_stream.specs.Encodings.{output_rule}
 use Rattle.enc_stream.specs.Encoder.{EncoderState, EncodesChunk, raw_state, html_mode}
 use Rattle.enc_writer.specs.Sink.{AppendsContents, AppendsPrefix}
 use Rattle.enc_writer.specs.EncodedText.{EncodesText, bytes_from_state, text_to_encode}
-use Rattle.enc_writer.specs.Writing.{WriterState, PushesBytes, HasEncoded, HasWritten, TakesPrefix}
-use Rattle.enc_writer.specs.Writing.{AppendsText, StopsWithin, EndsText, ended_writer, owed_bytes}
+use Rattle.enc_writer.specs.Writing.{WriterState, PushesBytes, HasEncoded, HasWrittenText, TakesPrefix}
+use Rattle.enc_writer.specs.Writing.{WritesText, StopsWithin, EndsText, ended_writer, owed_bytes}
 use Rattle.enc_writer.proofs.SinkLemmas.{AppendsContents-none, AppendsContents-then}
 use Rattle.enc_writer.proofs.EncodingLemmas.{not_ended, none_owed, EncodesText-none, EncodesText-call}
 use Rattle.enc_writer.proofs.EncodingLemmas.{EncodesText-then}
@@ -176,9 +176,9 @@ TakesPrefix-after {k₀} {k₁} {k₂} encoded part = record {
 
 -- Calls
 
-pub HasWritten-by : {k₀ k₁ : Option (List ℕ)} {a b : WriterState} {t : List ℕ}
-    → HasEncoded k₀ k₁ a b t [] false → HasWritten k₀ k₁ a b t
-HasWritten-by {a = a} {b = b} {t = t} encoded =
+pub HasWrittenText-by : {k₀ k₁ : Option (List ℕ)} {a b : WriterState} {t : List ℕ}
+    → HasEncoded k₀ k₁ a b t [] false → HasWrittenText k₀ k₁ a b t
+HasWrittenText-by {a = a} {b = b} {t = t} encoded =
     let all_read : encoded.encoded.front ≡ t =
     sym (append-nil encoded.encoded.front) ∙ sym encoded.encoded.reads in
     record {
@@ -192,12 +192,12 @@ HasWritten-by {a = a} {b = b} {t = t} encoded =
     }
 
 -- nothing is written
-pub HasWritten-none : (k : Option (List ℕ)) (w : WriterState) → HasWritten k k w w []
-HasWritten-none k w = HasWritten-by (HasEncoded-none k w [] false)
+pub HasWrittenText-none : (k : Option (List ℕ)) (w : WriterState) → HasWrittenText k k w w []
+HasWrittenText-none k w = HasWrittenText-by (HasEncoded-none k w [] false)
 
-pub HasWritten-then : {k₀ k₁ k₂ : Option (List ℕ)} {a b c : WriterState} {t u : List ℕ}
-    → HasWritten k₀ k₁ a b t → HasWritten k₁ k₂ b c u → HasWritten k₀ k₂ a c (t ++ u)
-HasWritten-then {k₀} {k₁} {k₂} {a} {b} {c} {t} {u} first next = record {
+pub HasWrittenText-then : {k₀ k₁ k₂ : Option (List ℕ)} {a b c : WriterState} {t u : List ℕ}
+    → HasWrittenText k₀ k₁ a b t → HasWrittenText k₁ k₂ b c u → HasWrittenText k₀ k₂ a c (t ++ u)
+HasWrittenText-then {k₀} {k₁} {k₂} {a} {b} {c} {t} {u} first next = record {
   encoding = next.encoding ∙ first.encoding;
   barred = next.barred ∙ first.barred;
   pushed = first.pushed ++ next.pushed;
@@ -217,14 +217,14 @@ HasWritten-then {k₀} {k₁} {k₂} {a} {b} {c} {t} {u} first next = record {
       ∙ ap (λ r. a.had_unmappables || r) (sym (any_unmappable-append rule t u));
 }
 
-pub AppendsText-alone : {k₀ k₁ : Option (List ℕ)} {a b : WriterState} {t : List ℕ}
-    → HasWritten k₀ k₁ a b t → AppendsText k₀ k₁ a b t
-AppendsText-alone alone =
-    record { alone = alone; after = λ k start before first. HasWritten-then first alone }
+pub WritesText-alone : {k₀ k₁ : Option (List ℕ)} {a b : WriterState} {t : List ℕ}
+    → HasWrittenText k₀ k₁ a b t → WritesText k₀ k₁ a b t
+WritesText-alone alone =
+    record { alone = alone; after = λ k start before first. HasWrittenText-then first alone }
 
-pub AppendsText-by : {k₀ k₁ : Option (List ℕ)} {a b : WriterState} {t : List ℕ}
-    → HasEncoded k₀ k₁ a b t [] false → AppendsText k₀ k₁ a b t
-AppendsText-by encoded = AppendsText-alone (HasWritten-by encoded)
+pub WritesText-by : {k₀ k₁ : Option (List ℕ)} {a b : WriterState} {t : List ℕ}
+    → HasEncoded k₀ k₁ a b t [] false → WritesText k₀ k₁ a b t
+WritesText-by encoded = WritesText-alone (HasWrittenText-by encoded)
 
 pub StopsWithin-by : {k₀ k₁ : Option (List ℕ)} {a : WriterState} {t : List ℕ} {last : Bool}
     → TakesPrefix k₀ k₁ a t last → StopsWithin k₀ k₁ a t last

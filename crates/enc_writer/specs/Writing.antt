@@ -38,7 +38,7 @@ flag_after w text = w.had_unmappables || any_unmappable (raw_state w.encoder).ru
 
 -- A writer has written `text` since it was at `start`, by what its sink had taken then and has
 -- taken now.
-pub record HasWritten (taken_before taken_after : Option (List ℕ)) (start now : WriterState)
+pub record HasWrittenText (taken_before taken_after : Option (List ℕ)) (start now : WriterState)
     (text : List ℕ) : Type 0 where
   pub encoding : now.encoder.encoding ≡ start.encoder.encoding
   pub barred : now.encoder.barred ≡ start.encoder.barred
@@ -49,12 +49,12 @@ pub record HasWritten (taken_before taken_after : Option (List ℕ)) (start now 
   pub flag : now.had_unmappables ≡ flag_after start text
 
 -- A call writes `text`, after whatever was written before it.
-pub record AppendsText (taken_before taken_after : Option (List ℕ)) (old new : WriterState)
+pub record WritesText (taken_before taken_after : Option (List ℕ)) (old new : WriterState)
     (text : List ℕ) : Type 0 where
-  pub alone : HasWritten taken_before taken_after old new text
+  pub alone : HasWrittenText taken_before taken_after old new text
   pub after : (taken : Option (List ℕ)) (start : WriterState) (before : List ℕ)
-      → HasWritten taken taken_before start old before
-      → HasWritten taken taken_after start new (before ++ text)
+      → HasWrittenText taken taken_before start old before
+      → HasWrittenText taken taken_after start new (before ++ text)
 
 -- A sink has taken a prefix of the bytes owed at `start` for `text`, whatever follows the text: if
 -- `last`, nothing.
@@ -69,14 +69,14 @@ pub record TakesPrefix (taken_before taken_after : Option (List ℕ)) (start : W
 abbrev pub StopsWithin : Option (List ℕ) → Option (List ℕ) → WriterState → List ℕ → Bool → Type 0
 StopsWithin taken_before taken_after old text last =
     (taken : Option (List ℕ)) (start : WriterState) (before : List ℕ)
-    → HasWritten taken taken_before start old before
+    → HasWrittenText taken taken_before start old before
     → TakesPrefix taken taken_after start (before ++ text) last
 
 -- A call writes the end of a text: the sink has taken all its bytes.
 abbrev pub EndsText : Option (List ℕ) → Option (List ℕ) → WriterState → Type 0
 EndsText taken_before taken_after old =
     (taken : Option (List ℕ)) (start : WriterState) (text : List ℕ)
-    → HasWritten taken taken_before start old text
+    → HasWrittenText taken taken_before start old text
     → AppendsContents taken taken_after (owed_bytes start text)
 
 -- The steps of a call: bytes follow those held, and the sink takes some of them.

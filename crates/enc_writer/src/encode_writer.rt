@@ -46,11 +46,11 @@ impl<'a, W: Sink> EncodeWriter<'a, W> {
     ghost use Rattle.enc_stream.specs.Encodings.{output_rule};
     ghost use Rattle.enc_stream.specs.Encoder.{raw_state, whole_bytes, LeavesFewerSteps};
     ghost use Rattle.enc_writer.specs.Sink.{AppendsContents, AppendsPrefix};
-    ghost use Rattle.enc_writer.specs.Writing.{AppendsText, EndsText, HasEncoded};
+    ghost use Rattle.enc_writer.specs.Writing.{WritesText, EndsText, HasEncoded};
     ghost use Rattle.enc_writer.specs.Writing.{PushesBytes, StopsWithin, TakesPrefix};
     ghost use Rattle.enc_writer.specs.Writing.{ended_writer, flag_after, fresh_writer, owed_bytes};
     ghost use Rattle.enc_writer.specs.Reporting.{ReportsText};
-    ghost use Rattle.enc_writer.specs.Writer.{state_of};
+    ghost use Rattle.enc_writer.specs.Writer.{writer_of};
 
     /// Returns a writer to `writer`, in the output encoding of `encoding`, through the buffer
     /// `output`.
@@ -60,10 +60,10 @@ impl<'a, W: Sink> EncodeWriter<'a, W> {
     /// memory. Condition: `output` has at least 14 bytes.
     pub fn new(writer: &'a mut W, encoding: Encoding, output: &'a mut [u8]) -> EncodeWriter<'a, W>
         requires room { 14 ≤ length output.old }
-        ensures fresh { state_of result ≡ fresh_writer encoding }
-        ensures owed { (text : List ℕ) → owed_bytes (state_of result) text
+        ensures fresh { writer_of result ≡ fresh_writer encoding }
+        ensures owed { (text : List ℕ) → owed_bytes (writer_of result) text
             ≡ whole_bytes [] encoding text }
-        ensures flag { (text : List ℕ) → flag_after (state_of result) text
+        ensures flag { (text : List ℕ) → flag_after (writer_of result) text
             ≡ any_unmappable (output_rule [] encoding) text }
         ensures failed { result.failed ≡ W.has_failed writer.old }
         ensures writer { result.writer.now ≡ writer.old }
@@ -85,14 +85,14 @@ impl<'a, W: Sink> EncodeWriter<'a, W> {
     fn push(&mut self, bytes: &[u8]) -> Result<(), WriteFault>
         requires going { self.old.failed ≡ false }
         ensures ok { OnOk result (PushesBytes (W.contents self.old.writer.now)
-            (W.contents self.new.writer.now) (state_of self.old) (state_of self.new) bytes.now) }
-        ensures none_held { OnOk result (state_of self.new
-            ≡ record (state_of self.old) { held = [] }) }
+            (W.contents self.new.writer.now) (writer_of self.old) (writer_of self.new) bytes.now) }
+        ensures none_held { OnOk result (writer_of self.new
+            ≡ record (writer_of self.old) { held = [] }) }
         ensures kept { OnOk result (W.has_failed self.new.writer.now
             ≡ W.has_failed self.old.writer.now) }
         ensures going { OnOk result (self.new.failed ≡ false) }
         ensures err { OnErr result (AppendsPrefix (W.contents self.old.writer.now)
-            (W.contents self.new.writer.now) ((state_of self.old).held ++ bytes.now)) }
+            (W.contents self.new.writer.now) ((writer_of self.old).held ++ bytes.now)) }
         ensures sink_failed { OnErr result (W.has_failed self.new.writer.now ≡ true) }
         ensures failed { OnErr result (self.new.failed ≡ true) }
         ensures fault { IfErr result (λ fault. fault ≡ WriteFault.Writer) }
@@ -111,12 +111,12 @@ impl<'a, W: Sink> EncodeWriter<'a, W> {
     fn push_any(&mut self, bytes: &[u8]) -> Result<(), WriteFault>
         requires going { self.old.failed ≡ false }
         ensures ok { OnOk result (PushesBytes (W.contents self.old.writer.now)
-            (W.contents self.new.writer.now) (state_of self.old) (state_of self.new) bytes.now) }
+            (W.contents self.new.writer.now) (writer_of self.old) (writer_of self.new) bytes.now) }
         ensures kept { OnOk result (W.has_failed self.new.writer.now
             ≡ W.has_failed self.old.writer.now) }
         ensures going { OnOk result (self.new.failed ≡ false) }
         ensures err { OnErr result (AppendsPrefix (W.contents self.old.writer.now)
-            (W.contents self.new.writer.now) ((state_of self.old).held ++ bytes.now)) }
+            (W.contents self.new.writer.now) ((writer_of self.old).held ++ bytes.now)) }
         ensures sink_failed { OnErr result (W.has_failed self.new.writer.now ≡ true) }
         ensures failed { OnErr result (self.new.failed ≡ true) }
         ensures fault { IfErr result (λ fault. fault ≡ WriteFault.Writer) }
@@ -132,13 +132,13 @@ impl<'a, W: Sink> EncodeWriter<'a, W> {
     fn make_room(&mut self) -> Result<(), WriteFault>
         requires going { self.old.failed ≡ false }
         ensures ok { OnOk result (PushesBytes (W.contents self.old.writer.now)
-            (W.contents self.new.writer.now) (state_of self.old) (state_of self.new) []) }
+            (W.contents self.new.writer.now) (writer_of self.old) (writer_of self.new) []) }
         ensures room { OnOk result (self.new.filled + 14 ≤ length self.new.output.now) }
         ensures kept { OnOk result (W.has_failed self.new.writer.now
             ≡ W.has_failed self.old.writer.now) }
         ensures going { OnOk result (self.new.failed ≡ false) }
         ensures err { OnErr result (AppendsPrefix (W.contents self.old.writer.now)
-            (W.contents self.new.writer.now) (state_of self.old).held) }
+            (W.contents self.new.writer.now) (writer_of self.old).held) }
         ensures sink_failed { OnErr result (W.has_failed self.new.writer.now ≡ true) }
         ensures failed { OnErr result (self.new.failed ≡ true) }
         ensures fault { IfErr result (λ fault. fault ≡ WriteFault.Writer) }
@@ -156,7 +156,7 @@ impl<'a, W: Sink> EncodeWriter<'a, W> {
         requires room { self.old.filled + 14 ≤ length self.old.output.now }
         ensures boundary { IsCharBoundary text.now result.1 }
         ensures part { HasEncoded (W.contents self.old.writer.now) (W.contents self.new.writer.now)
-            (state_of self.old) (state_of self.new) (chars text.now)
+            (writer_of self.old) (writer_of self.new) (chars text.now)
             (chars (drop result.1 text.now)) last }
         ensures all { result.0 ≡ CoderResult.InputEmpty → chars (drop result.1 text.now) ≡ [] }
         ensures ended { result.0 ≡ CoderResult.InputEmpty → last ≡ true
@@ -178,14 +178,14 @@ impl<'a, W: Sink> EncodeWriter<'a, W> {
     fn encode(&mut self, text: &str, last: bool) -> Result<(), WriteFault>
         requires going { self.old.failed ≡ false }
         ensures ok { OnOk result (HasEncoded (W.contents self.old.writer.now)
-            (W.contents self.new.writer.now) (state_of self.old) (state_of self.new)
+            (W.contents self.new.writer.now) (writer_of self.old) (writer_of self.new)
             (chars text.now) [] last) }
         ensures ended { OnOk result (last ≡ true → self.new.encoder.set ≡ Ascii) }
         ensures kept { OnOk result (W.has_failed self.new.writer.now
             ≡ W.has_failed self.old.writer.now) }
         ensures going { OnOk result (self.new.failed ≡ false) }
         ensures err { OnErr result (TakesPrefix (W.contents self.old.writer.now)
-            (W.contents self.new.writer.now) (state_of self.old) (chars text.now) last) }
+            (W.contents self.new.writer.now) (writer_of self.old) (chars text.now) last) }
         ensures sink_failed { OnErr result (W.has_failed self.new.writer.now ≡ true) }
         ensures failed { OnErr result (self.new.failed ≡ true) }
         ensures fault { IfErr result (λ fault. fault ≡ WriteFault.Writer) }
@@ -214,14 +214,14 @@ impl<'a, W: Sink> EncodeWriter<'a, W> {
     /// Errors: `Writer` if the sink failed in this call, and `Failed` in each later call. The sink
     /// has taken a prefix of the bytes of all text written, and nothing more is written.
     pub fn write_str(&mut self, text: &str) -> Result<(), WriteFault>
-        ensures ok { OnOk result (AppendsText (W.contents self.old.writer.now)
-            (W.contents self.new.writer.now) (state_of self.old) (state_of self.new)
+        ensures ok { OnOk result (WritesText (W.contents self.old.writer.now)
+            (W.contents self.new.writer.now) (writer_of self.old) (writer_of self.new)
             (chars text.now)) }
         ensures kept { OnOk result (W.has_failed self.new.writer.now
             ≡ W.has_failed self.old.writer.now) }
         ensures going { OnOk result (self.new.failed ≡ false) }
         ensures err { OnErr result (StopsWithin (W.contents self.old.writer.now)
-            (W.contents self.new.writer.now) (state_of self.old) (chars text.now) false) }
+            (W.contents self.new.writer.now) (writer_of self.old) (chars text.now) false) }
         ensures sink_failed { OnErr result (W.has_failed self.new.writer.now ≡ true) }
         ensures failed { OnErr result (self.new.failed ≡ true) }
         ensures from_then_on { IsErrOf result WriteFault.Failed ↔ self.old.failed ≡ true }
@@ -243,7 +243,7 @@ impl<'a, W: Sink> EncodeWriter<'a, W> {
         requires room { self.old.filled + 14 ≤ length self.old.output.now }
         ensures read { result.1 ≤ length text.now }
         ensures part { HasEncoded (W.contents self.old.writer.now) (W.contents self.new.writer.now)
-            (state_of self.old) (state_of self.new) (utf16_lossy_chars text.now)
+            (writer_of self.old) (writer_of self.new) (utf16_lossy_chars text.now)
             (utf16_lossy_chars (drop result.1 text.now)) false }
         ensures all { result.0 ≡ CoderResult.InputEmpty
             → utf16_lossy_chars (drop result.1 text.now) ≡ [] }
@@ -265,14 +265,14 @@ impl<'a, W: Sink> EncodeWriter<'a, W> {
     /// without its partner in `text` is U+FFFD: so are both halves of a pair that is split between
     /// two writes.
     pub fn write_utf16(&mut self, text: &[u16]) -> Result<(), WriteFault>
-        ensures ok { OnOk result (AppendsText (W.contents self.old.writer.now)
-            (W.contents self.new.writer.now) (state_of self.old) (state_of self.new)
+        ensures ok { OnOk result (WritesText (W.contents self.old.writer.now)
+            (W.contents self.new.writer.now) (writer_of self.old) (writer_of self.new)
             (utf16_lossy_chars text.now)) }
         ensures kept { OnOk result (W.has_failed self.new.writer.now
             ≡ W.has_failed self.old.writer.now) }
         ensures going { OnOk result (self.new.failed ≡ false) }
         ensures err { OnErr result (StopsWithin (W.contents self.old.writer.now)
-            (W.contents self.new.writer.now) (state_of self.old) (utf16_lossy_chars text.now)
+            (W.contents self.new.writer.now) (writer_of self.old) (utf16_lossy_chars text.now)
             false) }
         ensures sink_failed { OnErr result (W.has_failed self.new.writer.now ≡ true) }
         ensures failed { OnErr result (self.new.failed ≡ true) }
@@ -302,7 +302,7 @@ impl<'a, W: Sink> EncodeWriter<'a, W> {
         ensures boundary { IsCharBoundary text.now result.1 }
         ensures read { result.1 ≤ length text.now }
         ensures part { ReportsText (W.contents self.old.writer.now) (W.contents self.new.writer.now)
-            (state_of self.old) (state_of self.new) (chars text.now)
+            (writer_of self.old) (writer_of self.new) (chars text.now)
             (chars (drop result.1 text.now)) result.0 }
         ensures all { result.0 ≡ EncoderResult.InputEmpty → chars (drop result.1 text.now) ≡ [] }
         ensures progress { (result.0 ≡ EncoderResult.InputEmpty → ⊥) →
@@ -330,14 +330,14 @@ impl<'a, W: Sink> EncodeWriter<'a, W> {
         &mut self,
         text: &str,
     ) -> Result<Option<UnmappableStop>, WriteFault>
-        ensures ok { IfOk result (λ stop. IfNone stop (AppendsText
-            (W.contents self.old.writer.now) (W.contents self.new.writer.now) (state_of self.old)
-            (state_of self.new) (chars text.now))) }
+        ensures ok { IfOk result (λ stop. IfNone stop (WritesText
+            (W.contents self.old.writer.now) (W.contents self.new.writer.now) (writer_of self.old)
+            (writer_of self.new) (chars text.now))) }
         ensures mappable { IfOk result (λ stop. IfNone stop
             (any_unmappable (raw_state self.old.encoder).rule (chars text.now) ≡ false)) }
         ensures stop { IfOk result (λ stop. IfSome stop (λ at. ReportsText
-            (W.contents self.old.writer.now) (W.contents self.new.writer.now) (state_of self.old)
-            (state_of self.new) (chars text.now) (chars (drop at.taken text.now))
+            (W.contents self.old.writer.now) (W.contents self.new.writer.now) (writer_of self.old)
+            (writer_of self.new) (chars text.now) (chars (drop at.taken text.now))
             (EncoderResult.Unmappable at.character))) }
         ensures boundary { IfOk result (λ stop. IfSome stop
             (λ at. IsCharBoundary text.now at.taken)) }
@@ -346,7 +346,7 @@ impl<'a, W: Sink> EncodeWriter<'a, W> {
             ≡ W.has_failed self.old.writer.now) }
         ensures going { OnOk result (self.new.failed ≡ false) }
         ensures err { OnErr result (StopsWithin (W.contents self.old.writer.now)
-            (W.contents self.new.writer.now) (state_of self.old) (chars text.now) false) }
+            (W.contents self.new.writer.now) (writer_of self.old) (chars text.now) false) }
         ensures sink_failed { OnErr result (W.has_failed self.new.writer.now ≡ true) }
         ensures failed { OnErr result (self.new.failed ≡ true) }
         ensures from_then_on { IsErrOf result WriteFault.Failed ↔ self.old.failed ≡ true }
@@ -383,15 +383,15 @@ impl<'a, W: Sink> EncodeWriter<'a, W> {
     /// Errors: `Writer` if the sink failed in this call, and `Failed` in each later call. The sink
     /// has taken a prefix of the bytes of all text written, and nothing more is written.
     pub fn flush(&mut self) -> Result<(), WriteFault>
-        ensures ok { OnOk result (AppendsText (W.contents self.old.writer.now)
-            (W.contents self.new.writer.now) (state_of self.old) (state_of self.new) []) }
-        ensures none_held { OnOk result (state_of self.new
-            ≡ record (state_of self.old) { held = [] }) }
+        ensures ok { OnOk result (WritesText (W.contents self.old.writer.now)
+            (W.contents self.new.writer.now) (writer_of self.old) (writer_of self.new) []) }
+        ensures none_held { OnOk result (writer_of self.new
+            ≡ record (writer_of self.old) { held = [] }) }
         ensures kept { OnOk result (W.has_failed self.new.writer.now
             ≡ W.has_failed self.old.writer.now) }
         ensures going { OnOk result (self.new.failed ≡ false) }
         ensures err { OnErr result (StopsWithin (W.contents self.old.writer.now)
-            (W.contents self.new.writer.now) (state_of self.old) [] false) }
+            (W.contents self.new.writer.now) (writer_of self.old) [] false) }
         ensures sink_failed { OnErr result (W.has_failed self.new.writer.now ≡ true) }
         ensures failed { OnErr result (self.new.failed ≡ true) }
         ensures from_then_on { IsErrOf result WriteFault.Failed ↔ self.old.failed ≡ true }
@@ -413,14 +413,14 @@ impl<'a, W: Sink> EncodeWriter<'a, W> {
     /// has taken a prefix of the bytes of the text, and nothing more is written.
     pub fn finish(&mut self) -> Result<bool, WriteFault>
         ensures ok { OnOk result (EndsText (W.contents self.old.writer.now)
-            (W.contents self.new.writer.now) (state_of self.old)) }
+            (W.contents self.new.writer.now) (writer_of self.old)) }
         ensures flag { IfOk result (λ had. had ≡ self.old.had_unmappables) }
-        ensures ended { OnOk result (state_of self.new ≡ ended_writer (state_of self.old)) }
+        ensures ended { OnOk result (writer_of self.new ≡ ended_writer (writer_of self.old)) }
         ensures kept { OnOk result (W.has_failed self.new.writer.now
             ≡ W.has_failed self.old.writer.now) }
         ensures going { OnOk result (self.new.failed ≡ false) }
         ensures err { OnErr result (StopsWithin (W.contents self.old.writer.now)
-            (W.contents self.new.writer.now) (state_of self.old) [] true) }
+            (W.contents self.new.writer.now) (writer_of self.old) [] true) }
         ensures sink_failed { OnErr result (W.has_failed self.new.writer.now ≡ true) }
         ensures failed { OnErr result (self.new.failed ≡ true) }
         ensures from_then_on { IsErrOf result WriteFault.Failed ↔ self.old.failed ≡ true }

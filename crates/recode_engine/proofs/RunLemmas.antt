@@ -24,9 +24,9 @@ use Rattle.enc_reader.specs.Reading.{sniffing_reader, owed_sequences}
 use Rattle.enc_reader.proofs.SourceLemmas.{ConsumesRemaining-then}
 use Rattle.enc_reader.proofs.ReadingLemmas.{ReaderPlace, reader_at, ReadsOwed-none, ReadsOwed-then, handed_utf_8}
 use Rattle.enc_writer.specs.Sink.{AppendsContents}
-use Rattle.enc_writer.specs.Writing.{WriterState, HasWritten, TakesPrefix, StopsWithin, EndsText, AppendsText}
+use Rattle.enc_writer.specs.Writing.{WriterState, HasWrittenText, TakesPrefix, StopsWithin, EndsText, WritesText}
 use Rattle.enc_writer.specs.Writing.{fresh_writer, owed_bytes}
-use Rattle.enc_writer.proofs.WritingLemmas.{HasWritten-none, StopsWithin-none}
+use Rattle.enc_writer.proofs.WritingLemmas.{HasWrittenText-none, StopsWithin-none}
 use Rattle.recode_engine.specs.Run.{RunsToEnd, RunsToFault, whole_text, recoded_bytes, any_replaced}
 use Rattle.recode_engine.proofs.SourceLemmas.{all_given, none_remaining}
 
@@ -71,7 +71,7 @@ pub record HasRun (start : RunStart) (now : RunState) : Type 0 where
   pub reads : ReadsOwed start.remaining now.source.remaining (sniffing_reader start.from)
       now.source.state bytes wrote now.malformed
   pub is_exhausted : now.source.state.ended ≡ true → IsExhausted now.source.remaining
-  pub written : HasWritten start.taken now.taken (fresh_writer start.to) now.writer (chars wrote)
+  pub written : HasWrittenText start.taken now.taken (fresh_writer start.to) now.writer (chars wrote)
   pub enough : now.made + distance_to_end now.source.state ≤ 1 + 2 * length bytes
 
 pub HasRun-start : {start : RunStart} {remaining : Option (List ℕ)} {reader : ReaderState}
@@ -91,7 +91,7 @@ HasRun-start {start} all_remaining is_fresh none_taken fresh none_malformed =
       wrote = [];
       reads = ReadsOwed-none start.remaining (sniffing_reader start.from);
       is_exhausted = λ e. not_ended e;
-      written = rw chars-nil (HasWritten-none start.taken (fresh_writer start.to));
+      written = rw chars-nil (HasWrittenText-none start.taken (fresh_writer start.to));
       enough = omega arith;
     })
 
@@ -163,15 +163,15 @@ module _ {start : RunStart} {now : RunState} (next : ReaderPlace) {text : List �
 
   -- its text is written
   module _ {between : Option (List ℕ)} {mid : WriterState}
-      (writes : AppendsText now.taken between now.writer mid (chars text)) where
-    written_on : HasWritten start.taken between (fresh_writer start.to) mid
+      (writes : WritesText now.taken between now.writer mid (chars text)) where
+    written_on : HasWrittenText start.taken between (fresh_writer start.to) mid
         (chars (so_far.wrote ++ text))
     written_on = rw chars_on
         (writes.after start.taken (fresh_writer start.to) (chars so_far.wrote) so_far.written)
 
     -- and the bytes held are pushed
     pub HasRun-more : {taken : Option (List ℕ)} {writer : WriterState}
-        → AppendsText between taken mid writer [] → 0 < length text → HasRun start (record {
+        → WritesText between taken mid writer [] → 0 < length text → HasRun start (record {
           source = next;
           taken = taken;
           writer = writer;

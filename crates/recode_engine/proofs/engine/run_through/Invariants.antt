@@ -1,7 +1,7 @@
 use Rattle.std.proofs.Common.{◌≡◌, false, length}
 use Rattle.enc_reader.specs.Reader.{state_of as reader_state}
 use Rattle.enc_reader.proofs.ReadingLemmas.{reader_at}
-use Rattle.enc_writer.specs.Writer.{state_of as writer_state}
+use Rattle.enc_writer.specs.Writer.{writer_of as writer_state}
 use Rattle.recode_engine.proofs.RunLemmas.{RunStart, RunState, HasRun}
 use Rattle.recode_engine.proofs.engine.run_through.Given as goal
 

@@ -3,13 +3,13 @@ use denote.Text.{Utf8}
 use denote.Shadow.{shadow}
 use Rattle.enc_stream.specs.Encoder.{steps_left}
 use Rattle.enc_writer.specs.Writing.{HasEncoded}
-use Rattle.enc_writer.specs.Writer.{state_of}
+use Rattle.enc_writer.specs.Writer.{writer_of}
 use Rattle.enc_writer.proofs.encode_writer.EncodeWriter.encode.Given as goal
 
 abbrev pub invariant-calls : goal.invariant-calls
 invariant-calls g l = shadow (Utf8 l.rest) × record {
   encoded : HasEncoded (g.W.Sink.contents l.fn.self.writer.now)
-      (g.W.Sink.contents l.self.writer.now) (state_of l.fn.self) (state_of l.self) (chars l.text)
+      (g.W.Sink.contents l.self.writer.now) (writer_of l.fn.self) (writer_of l.self) (chars l.text)
       (chars l.rest) l.last;
   going : l.self.failed ≡ false;
   kept : g.W.Sink.has_failed l.self.writer.now ≡ g.W.Sink.has_failed l.fn.self.writer.now;

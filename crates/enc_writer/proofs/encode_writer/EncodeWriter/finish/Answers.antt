@@ -2,7 +2,7 @@ use Rattle.std.proofs.Common.{[], true, refl, ap}
 use Rattle.std.proofs.lemmas.Str.{chars-nil}
 use Rattle.enc_writer.specs.EncodedText.{text_to_encode}
 use Rattle.enc_writer.specs.Writing.{WriterState}
-use Rattle.enc_writer.specs.Writer.{state_of}
+use Rattle.enc_writer.specs.Writer.{writer_of}
 use Rattle.enc_writer.proofs.EncodingLemmas.{EncodesText-none}
 use Rattle.enc_writer.proofs.SinkLemmas.{on_err}
 use Rattle.enc_writer.proofs.WritingLemmas.{TakesPrefix-pushed, StopsWithin-by, StopsWithin-none}
@@ -10,7 +10,7 @@ use Rattle.enc_writer.proofs.WritingLemmas.{EndsText-by, flag_stays, writer_ends
 use Rattle.enc_writer.proofs.encode_writer.EncodeWriter.finish.Goals as goal
 
 pub returns-then-self-clause-err : goal.returns-then-self-clause-err
-returns-then-self-clause-err g c = StopsWithin-none _ (state_of c.args.self.now) [] true
+returns-then-self-clause-err g c = StopsWithin-none _ (writer_of c.args.self.now) [] true
 
 pub returns-in_err-encode-clause-err : goal.returns-in_err-encode-clause-err
 returns-in_err-encode-clause-err g c =

@@ -1,14 +1,14 @@
 use Rattle.std.proofs.Common.{rules, ◌≡◌, chars, drop, take, false}
 use Rattle.std.proofs.lemmas.Result.{on_ok_weaker, on_err_weaker}
-use Rattle.enc_writer.specs.Writer.{state_of}
+use Rattle.enc_writer.specs.Writer.{writer_of}
 use Rattle.enc_writer.proofs.SinkLemmas.{on_err}
 use Rattle.enc_writer.proofs.WritingLemmas.{HasEncoded-none, HasEncoded-pushed, HasEncoded-then, TakesPrefix-pushed}
-use Rattle.enc_writer.proofs.WritingLemmas.{TakesPrefix-after, AppendsText-by, StopsWithin-by, StopsWithin-none}
+use Rattle.enc_writer.proofs.WritingLemmas.{TakesPrefix-after, WritesText-by, StopsWithin-by, StopsWithin-none}
 use Rattle.enc_writer.proofs.encode_writer.EncodeWriter.write_str.Goals as goal
 
 pub returns-then-self-clause-err : goal.returns-then-self-clause-err
 returns-then-self-clause-err g c =
-    StopsWithin-none _ (state_of c.args.self.now) (chars c.args.text.now) false
+    StopsWithin-none _ (writer_of c.args.self.now) (chars c.args.text.now) false
 
 pub returns-in_err-push_any-clause-err : goal.returns-in_err-push_any-clause-err
 returns-in_err-push_any-clause-err g c =
@@ -16,7 +16,7 @@ returns-in_err-push_any-clause-err g c =
     search rules in
     on_err c.from_residual.result _
     (StopsWithin-by
-    (TakesPrefix-pushed (HasEncoded-none _ (state_of c.args.self.now) (chars c.args.text.now) false)
+    (TakesPrefix-pushed (HasEncoded-none _ (writer_of c.args.self.now) (chars c.args.text.now) false)
     c.unencoded_len-len.ensures.own (rw bytes_are at c.in_err-push_any.ensures.err)))
 
 pub returns-clause-ok : goal.returns-clause-ok
@@ -26,7 +26,7 @@ returns-clause-ok g c =
     let unread : c.split_at.result.1.now ≡ drop len c.args.text.now = search rules in
     let first = HasEncoded-pushed c.unencoded_len-len.ensures.own
     (rw bytes_are at c.in_ok-push_any.ensures.ok) in
-    on_ok_weaker c.encode.result (λ encoded. AppendsText-by (HasEncoded-then first encoded))
+    on_ok_weaker c.encode.result (λ encoded. WritesText-by (HasEncoded-then first encoded))
     (rw unread at c.encode.ensures.ok)
 
 pub returns-clause-err : goal.returns-clause-err

@@ -4,23 +4,23 @@ use Rattle.std.proofs.Math.ListN.{length-drop}
 use Rattle.std.proofs.lemmas.List.{drop-drop}
 use Rattle.std.proofs.lemmas.Str.{IsCharBoundary-from_drop, IsUtf8-drop}
 use Rattle.enc_units.specs.declared.encoder_result.EncoderResult.TheVariants.{InputEmpty, OutputFull, Unmappable}
-use Rattle.enc_writer.specs.Writer.{state_of}
+use Rattle.enc_writer.specs.Writer.{writer_of}
 use Rattle.enc_writer.proofs.SinkLemmas.{on_err}
 use Rattle.enc_writer.proofs.WritingLemmas.{PushesBytes-none, StopsWithin-by, StopsWithin-none}
 use Rattle.enc_writer.proofs.ReportLemmas.{ReportsText-push, ReportsText-then, ReportsText-flag}
-use Rattle.enc_writer.proofs.ReportLemmas.{AppendsText-reported, TakesPrefix-reported, none_unmappable}
+use Rattle.enc_writer.proofs.ReportLemmas.{WritesText-reported, TakesPrefix-reported, none_unmappable}
 use Rattle.enc_writer.proofs.encode_writer.EncodeWriter.write_str_without_replacement.Goals as goal
 
 pub returns-then-self-clause-err : goal.returns-then-self-clause-err
 returns-then-self-clause-err g c =
-    StopsWithin-none _ (state_of c.args.self.now) (chars c.args.text.now) false
+    StopsWithin-none _ (writer_of c.args.self.now) (chars c.args.text.now) false
 
 pub calls-init : goal.calls-init
 calls-init g c = (
   search rules,
   record {
     reports = ReportsText-push (chars c.args.text.now)
-        (PushesBytes-none _ (state_of c.args.self.now));
+        (PushesBytes-none _ (writer_of c.args.self.now));
     within = search rules;
     rest_is = refl;
     going = search rules;
@@ -45,7 +45,7 @@ overflow_add-taken g c =
 pub returns-in-InputEmpty-clause-ok : goal.returns-in-InputEmpty-clause-ok
 returns-in-InputEmpty-clause-ok g c =
     let is : c.encode_mappable-outcome.result.0 ≡ InputEmpty = search rules in
-    AppendsText-reported (rw (c.encode_mappable-outcome.ensures.all is, is) at
+    WritesText-reported (rw (c.encode_mappable-outcome.ensures.all is, is) at
     (ReportsText-then
     (ReportsText-then c.calls.invariant.1.reports
     (ReportsText-push (chars c.calls.rest.now) c.in_ok-make_room.ensures.ok))

@@ -1,19 +1,19 @@
 use Rattle.std.proofs.Common.{rules, ◌≡◌, refl, ap, false}
 use Rattle.std.specs.Char.Utf16.{utf16_lossy_chars}
 use Rattle.enc_units.specs.declared.coder_result.CoderResult.TheVariants.{InputEmpty}
-use Rattle.enc_writer.specs.Writer.{state_of}
+use Rattle.enc_writer.specs.Writer.{writer_of}
 use Rattle.enc_writer.proofs.SinkLemmas.{on_err}
 use Rattle.enc_writer.proofs.WritingLemmas.{HasEncoded-none, HasEncoded-push, HasEncoded-then, TakesPrefix-held}
-use Rattle.enc_writer.proofs.WritingLemmas.{AppendsText-by, StopsWithin-by, StopsWithin-none}
+use Rattle.enc_writer.proofs.WritingLemmas.{WritesText-by, StopsWithin-by, StopsWithin-none}
 use Rattle.enc_writer.proofs.encode_writer.EncodeWriter.write_utf16.Goals as goal
 
 pub returns-then-self-clause-err : goal.returns-then-self-clause-err
 returns-then-self-clause-err g c =
-    StopsWithin-none _ (state_of c.args.self.now) (utf16_lossy_chars c.args.text.now) false
+    StopsWithin-none _ (writer_of c.args.self.now) (utf16_lossy_chars c.args.text.now) false
 
 pub calls-init : goal.calls-init
 calls-init g c = record {
-  encoded = HasEncoded-none _ (state_of c.args.self.now) _ _;
+  encoded = HasEncoded-none _ (writer_of c.args.self.now) _ _;
   going = search rules;
   kept = refl;
   same_writer = refl;
@@ -27,7 +27,7 @@ returns-in_err-make_room-clause-err g c =
 pub returns-then-eq-clause-ok : goal.returns-then-eq-clause-ok
 returns-then-eq-clause-ok g c =
     let at_end : c.encode_units-outcome.result.0 ≡ InputEmpty = search rules in
-    AppendsText-by
+    WritesText-by
     (rw (c.encode_units-outcome.ensures.all at_end) at
     (HasEncoded-then c.calls.invariant.encoded
     (HasEncoded-then

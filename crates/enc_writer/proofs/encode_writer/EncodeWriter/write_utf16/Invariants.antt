@@ -2,13 +2,13 @@ use Rattle.std.proofs.Common.{◌≡◌, false}
 use Rattle.std.specs.Char.Utf16.{utf16_lossy_chars}
 use Rattle.enc_stream.specs.Encoder.{steps_left}
 use Rattle.enc_writer.specs.Writing.{HasEncoded}
-use Rattle.enc_writer.specs.Writer.{state_of}
+use Rattle.enc_writer.specs.Writer.{writer_of}
 use Rattle.enc_writer.proofs.encode_writer.EncodeWriter.write_utf16.Given as goal
 
 abbrev pub invariant-calls : goal.invariant-calls
 invariant-calls g l = record {
   encoded : HasEncoded (g.W.Sink.contents l.fn.self.writer.now)
-      (g.W.Sink.contents l.self.writer.now) (state_of l.fn.self) (state_of l.self)
+      (g.W.Sink.contents l.self.writer.now) (writer_of l.fn.self) (writer_of l.self)
       (utf16_lossy_chars l.text) (utf16_lossy_chars l.rest) false;
   going : l.self.failed ≡ false;
   kept : g.W.Sink.has_failed l.self.writer.now ≡ g.W.Sink.has_failed l.fn.self.writer.now;
