@@ -16,7 +16,8 @@ returns-in_err-push_any-clause-err g c =
     search rules in
     on_err c.from_residual.result _
     (StopsWithin-by
-    (TakesPrefix-pushed (HasEncoded-none _ (writer_of c.args.self.now) (chars c.args.text.now) false)
+    (TakesPrefix-pushed
+    (HasEncoded-none _ (writer_of c.args.self.now) (chars c.args.text.now) false)
     c.unencoded_len-len.ensures.own (rw bytes_are at c.in_err-push_any.ensures.err)))
 
 pub returns-clause-ok : goal.returns-clause-ok
