@@ -71,7 +71,7 @@ returns-in_default-write_str-clause-run g c = λ from to fresh_reader fresh_writ
     IsRecodeRun-fault c.requires.reader c.requires.writer Write refl
     (RunsToFault-writing next ran
     (HandsOut-by c.text-piece.ensures c.in-Ok.ensures.ok)
-    (rw same at when_err c.write_str.result (search rules) c.write_str.ensures.err))
+    (when_err c.write_str.result (search rules) (rw same at c.write_str.ensures.err)))
     (λ is. cc) (λ _. (search rules, search rules))
 
 pub returns-in_default-flush-clause-run : goal.returns-in_default-flush-clause-run
