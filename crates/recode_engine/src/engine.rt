@@ -96,8 +96,31 @@ fn write_all<R: Source, W: Sink>(
     Err(RecodeFault::Read)
 }
 
-/// Does [`run`] with two sides that have not failed, through buffers for the bytes read and for the
-/// bytes to write.
+/// Writes the text of a reader to a sink that has not failed, through a buffer for the bytes to
+/// write. The reader has not failed, and has handed out no malformed sequence.
+fn write_decoded<R: Source, W: Sink>(
+    decoding: &mut DecodeReader<'_, R>,
+    writer: &mut W,
+    to: Encoding,
+) -> Result<bool, RecodeFault>
+    requires reading { decoding.old.failed ≡ false }
+    requires reader { R.has_failed decoding.old.reader.now ≡ false }
+    requires writer { W.has_failed writer.old ≡ false }
+    requires no_errors { decoding.old.had_errors ≡ false }
+    ensures run { (from : Encoding) → reader_state decoding.old ≡ sniffing_reader from
+        → IsRecodeRun from to
+        (side (R.remaining decoding.old.reader.now) (R.has_failed decoding.old.reader.now))
+        (side (R.remaining decoding.new.reader.now) (R.has_failed decoding.new.reader.now))
+        (side (W.contents writer.old) (W.has_failed writer.old))
+        (side (W.contents writer.new) (W.has_failed writer.new)) result }
+    ensures same_reader { decoding.new.reader.ghost_name ≡ decoding.old.reader.ghost_name }
+{
+    let mut output = [0u8; 65536];
+    let mut encoding = EncodeWriter::new(writer, to, &mut output);
+    write_all(decoding, &mut encoding)
+}
+
+/// Does [`run`] with two sides that have not failed, through a buffer for the bytes read.
 fn run_through<R: Source, W: Sink>(
     reader: &mut R,
     writer: &mut W,
@@ -112,10 +135,8 @@ fn run_through<R: Source, W: Sink>(
         (side (W.contents writer.new) (W.has_failed writer.new)) result }
 {
     let mut input = [0u8; 65536];
-    let mut output = [0u8; 65536];
     let mut decoding = DecodeReader::new(reader, Some(from), &mut input);
-    let mut encoding = EncodeWriter::new(writer, to, &mut output);
-    write_all(&mut decoding, &mut encoding)
+    write_decoded(&mut decoding, writer, to)
 }
 
 /// Recodes a source to its end: decodes it, and writes its text to a sink in another encoding.
