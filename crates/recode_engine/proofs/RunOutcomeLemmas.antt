@@ -4,7 +4,7 @@ use Rattle.std.proofs.Common.{length, nat_eq, Option, Some, None, refl, ap, ◌�
 use Rattle.std.proofs.Common.{arith}
 use Rattle.std.proofs.lemmas.Bool.{false≢true, eqb-false}
 use Rattle.std.proofs.lemmas.Bool.Decides.{nat_tests}
-use Rattle.std.specs.Prelude.{IsErr, IsErrOf, IfSome, Ok, Err}
+use Rattle.std.specs.Prelude.{IsErr, IsErrOf, IfSome, OnErr, Ok, Err}
 use Rattle.std.specs.declared.result.Result.{Result}
 use Rattle.enc_stream.specs.declared.encoding.Encoding.{Encoding}
 use Rattle.enc_reader.specs.declared.decode_reader.ReadFault.{ReadFault}
@@ -37,15 +37,26 @@ is_readers (Ok n) e f = absurd (false≢true e)
 is_readers (Err fault.Reader) e f = refl
 is_readers (Err fault.Failed) e f = absurd (f refl)
 
--- the same, where the source, the sink and the flag are known by other names
-pub RunsToEnd-by : {from to : Encoding} {t₀ t t' k₀ k k' : Option (List ℕ)} {r replaced : Bool}
-    → t' ≡ t → k' ≡ k → replaced ≡ r → RunsToEnd from to t₀ t k₀ k r
-    → RunsToEnd from to t₀ t' k₀ k' replaced
-RunsToEnd-by source sink flag ends = rw (source, sink, flag) ends
+-- what a clause says of an error, where there is one
+pub when_err : {T E P : Type 0} (r : Result T E) → IsErr r → OnErr r P → P
+when_err (Ok x) e says = absurd (false≢true e)
+when_err (Err f) e says = says
 
-pub RunsToFault-by : {from to : Encoding} {t₀ t t' k₀ k k' : Option (List ℕ)} → t' ≡ t → k' ≡ k
-    → RunsToFault from to t₀ t k₀ k → RunsToFault from to t₀ t' k₀ k'
-RunsToFault-by source sink stops = rw (source, sink) stops
+-- the same, where the flag is known by another name
+pub RunsToEnd-by : {from to : Encoding} {t₀ t k₀ k : Option (List ℕ)} {r replaced : Bool}
+    → replaced ≡ r → RunsToEnd from to t₀ t k₀ k r → RunsToEnd from to t₀ t k₀ k replaced
+RunsToEnd-by flag ends = rw flag ends
+
+-- the same, where the source is known by other names, and where the sink is
+pub IsRecodeRun-source : {from to : Encoding} {s₀ s₁ s₂ s₃ k₀ k : Side}
+    {r : Result Bool RecodeFault} → s₂ ≡ s₀ → s₃ ≡ s₁
+    → IsRecodeRun from to s₀ s₁ k₀ k r → IsRecodeRun from to s₂ s₃ k₀ k r
+IsRecodeRun-source before after ran = rw (before, after) ran
+
+pub IsRecodeRun-sink : {from to : Encoding} {s₀ s k₀ k₁ k₂ k₃ : Side}
+    {r : Result Bool RecodeFault} → k₂ ≡ k₀ → k₃ ≡ k₁
+    → IsRecodeRun from to s₀ s k₀ k₁ r → IsRecodeRun from to s₀ s k₂ k₃ r
+IsRecodeRun-sink before after ran = rw (before, after) ran
 
 IfSome-always : (known : Option (List ℕ)) {P : List ℕ → Type 0} → ((all : List ℕ) → P all)
     → IfSome known P

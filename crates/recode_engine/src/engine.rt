@@ -3,12 +3,16 @@
 ghost use Rattle.std.specs.Prelude.{◌≡◌, false};
 ghost use Rattle.std.specs.IoError.{error_kind};
 ghost use Rattle.std.specs.declared.io.ErrorKind.TheVariants.{Other};
-ghost use Rattle.recode_engine.specs.declared.engine.RecodeFault.TheVariants.{Write};
+ghost use Rattle.enc_stream.specs.declared.encoding.Encoding.{Encoding};
+ghost use Rattle.enc_reader.specs.Reader.{state_of as reader_state};
+ghost use Rattle.enc_reader.specs.Reading.{sniffing_reader};
+ghost use Rattle.enc_writer.specs.Writer.{state_of as writer_state};
+ghost use Rattle.enc_writer.specs.Writing.{fresh_writer};
 ghost use Rattle.recode_engine.specs.Run.{IsRecodeRun, side};
 
 use enc_reader::{DecodeReader, Source};
 use enc_stream::Encoding;
-use enc_writer::{EncodeWriter, Sink, WriteFault};
+use enc_writer::{EncodeWriter, Sink};
 use std::error::Error;
 use std::{fmt, io};
 
@@ -39,14 +43,6 @@ impl fmt::Display for RecodeFault {
 
 impl Error for RecodeFault {}
 
-impl From<WriteFault> for RecodeFault {
-    ghost from_gives = { λ _ fault. fault ≡ Write };
-
-    fn from(_fault: WriteFault) -> RecodeFault {
-        RecodeFault::Write
-    }
-}
-
 impl From<RecodeFault> for io::Error {
     ghost from_gives = { λ _ e. error_kind e ≡ Other };
 
@@ -58,8 +54,73 @@ impl From<RecodeFault> for io::Error {
     }
 }
 
-/// Does [`run`] with two sides that have not failed, through three buffers: for the bytes read, for
-/// their text, and for the bytes to write.
+/// Writes the text of a reader to a writer, until it ends or a side fails. Neither has failed, and
+/// the reader has handed out no malformed sequence.
+fn write_all<R: Source, W: Sink>(
+    decoding: &mut DecodeReader<'_, R>,
+    encoding: &mut EncodeWriter<'_, W>,
+) -> Result<bool, RecodeFault>
+    requires reading { decoding.old.failed ≡ false }
+    requires writing { encoding.old.failed ≡ false }
+    requires reader { R.has_failed decoding.old.reader.now ≡ false }
+    requires writer { W.has_failed encoding.old.writer.now ≡ false }
+    requires no_errors { decoding.old.had_errors ≡ false }
+    ensures run { (from to : Encoding) → reader_state decoding.old ≡ sniffing_reader from
+        → writer_state encoding.old ≡ fresh_writer to → IsRecodeRun from to
+        (side (R.remaining decoding.old.reader.now) (R.has_failed decoding.old.reader.now))
+        (side (R.remaining decoding.new.reader.now) (R.has_failed decoding.new.reader.now))
+        (side (W.contents encoding.old.writer.now) (W.has_failed encoding.old.writer.now))
+        (side (W.contents encoding.new.writer.now) (W.has_failed encoding.new.writer.now)) result }
+    ensures same_reader { decoding.new.reader.ghost_name ≡ decoding.old.reader.ghost_name }
+    ensures same_writer { encoding.new.writer.ghost_name ≡ encoding.old.writer.ghost_name }
+{
+    let mut text = [0u8; 65536];
+    'reads: for _ in 0..u64::MAX {
+        let Ok(handed) = decoding.read_or_lend(&mut text) else {
+            return Err(RecodeFault::Read);
+        };
+        let piece = decoding.text(&text, handed);
+        if piece.is_empty() {
+            let Ok(replaced) = encoding.finish() else {
+                return Err(RecodeFault::Write);
+            };
+            return Ok(decoding.had_errors() | replaced);
+        }
+        let Ok(()) = encoding.write_str(unsafe { str::from_utf8_unchecked(piece) }) else {
+            return Err(RecodeFault::Write);
+        };
+        let Ok(()) = encoding.flush() else {
+            return Err(RecodeFault::Write);
+        };
+    }
+    Err(RecodeFault::Read)
+}
+
+/// Writes the text of a reader to a sink that has not failed, through a buffer for the bytes to
+/// write. The reader has not failed, and has handed out no malformed sequence.
+fn write_decoded<R: Source, W: Sink>(
+    decoding: &mut DecodeReader<'_, R>,
+    writer: &mut W,
+    to: Encoding,
+) -> Result<bool, RecodeFault>
+    requires reading { decoding.old.failed ≡ false }
+    requires reader { R.has_failed decoding.old.reader.now ≡ false }
+    requires writer { W.has_failed writer.old ≡ false }
+    requires no_errors { decoding.old.had_errors ≡ false }
+    ensures run { (from : Encoding) → reader_state decoding.old ≡ sniffing_reader from
+        → IsRecodeRun from to
+        (side (R.remaining decoding.old.reader.now) (R.has_failed decoding.old.reader.now))
+        (side (R.remaining decoding.new.reader.now) (R.has_failed decoding.new.reader.now))
+        (side (W.contents writer.old) (W.has_failed writer.old))
+        (side (W.contents writer.new) (W.has_failed writer.new)) result }
+    ensures same_reader { decoding.new.reader.ghost_name ≡ decoding.old.reader.ghost_name }
+{
+    let mut output = [0u8; 65536];
+    let mut encoding = EncodeWriter::new(writer, to, &mut output);
+    write_all(decoding, &mut encoding)
+}
+
+/// Does [`run`] with two sides that have not failed, through a buffer for the bytes read.
 fn run_through<R: Source, W: Sink>(
     reader: &mut R,
     writer: &mut W,
@@ -74,23 +135,8 @@ fn run_through<R: Source, W: Sink>(
         (side (W.contents writer.new) (W.has_failed writer.new)) result }
 {
     let mut input = [0u8; 65536];
-    let mut text = [0u8; 65536];
-    let mut output = [0u8; 65536];
     let mut decoding = DecodeReader::new(reader, Some(from), &mut input);
-    let mut encoding = EncodeWriter::new(writer, to, &mut output);
-    'reads: for _ in 0..u64::MAX {
-        let Ok(handed) = decoding.read_or_lend(&mut text) else {
-            return Err(RecodeFault::Read);
-        };
-        let piece = decoding.text(&text, handed);
-        if piece.is_empty() {
-            let replaced = encoding.finish()?;
-            return Ok(decoding.had_errors() | replaced);
-        }
-        encoding.write_str(unsafe { str::from_utf8_unchecked(piece) })?;
-        encoding.flush()?;
-    }
-    Err(RecodeFault::Read)
+    write_decoded(&mut decoding, writer, to)
 }
 
 /// Recodes a source to its end: decodes it, and writes its text to a sink in another encoding.

@@ -1,0 +1,115 @@
+use Rattle.std.proofs.Common.{refl, rules, ◌≡◌, ◌<◌, ◌∙◌, sym, length, true, false, []}
+use Rattle.std.proofs.lemmas.Bool.{false≢true}
+use Rattle.enc_reader.specs.Reader.{state_of}
+use Rattle.enc_reader.proofs.ReadingLemmas.{reader_at}
+use Rattle.recode_engine.specs.declared.engine.RecodeFault.TheVariants.{Read, Write}
+use Rattle.recode_engine.proofs.RunLemmas.{has_failed-between, has_failed-reading, HasRun-start, HasRun-more}
+use Rattle.recode_engine.proofs.RunLemmas.{RunsToEnd-last, RunsToFault-between, RunsToFault-writing}
+use Rattle.recode_engine.proofs.RunLemmas.{RunsToFault-pushing, RunsToFault-ending, RunsToFault-reading}
+use Rattle.recode_engine.proofs.RunOutcomeLemmas.{HandsOut-by, IsRecodeRun-ok, IsRecodeRun-fault}
+use Rattle.recode_engine.proofs.RunOutcomeLemmas.{RunsToEnd-by, when_err, is_readers, no_text, some_text}
+use Rattle.recode_engine.proofs.engine.write_all.Goals as goal
+
+pub reads-init : goal.reads-init
+reads-init g c = record {
+  ran = λ from to fresh_reader fresh_writer.
+      HasRun-start refl fresh_reader refl fresh_writer c.requires.no_errors;
+  text_room = search rules;
+  reading = search rules;
+  writing = search rules;
+  reader_kept = refl;
+  writer_kept = refl;
+  same_reader = refl;
+  same_writer = refl;
+}
+
+pub returns-in_default-clause-run : goal.returns-in_default-clause-run
+returns-in_default-clause-run g c = λ from to fresh_reader fresh_writer.
+    let next = reader_at (g.R.Source.remaining c.read_or_lend.new.self.reader.now)
+    (state_of c.read_or_lend.new.self) in
+    let invariant = c.reads.invariant in
+    let ran = invariant.ran from to fresh_reader fresh_writer in
+    let fault = is_readers c.read_or_lend.result (search rules)
+    (λ f. false≢true (sym invariant.reading ∙ c.read_or_lend.ensures.from_then_on.0 f)) in
+    let fails = c.read_or_lend.ensures.reader_fault fault in
+    IsRecodeRun-fault c.requires.reader c.requires.writer Read refl
+    (RunsToFault-reading ran next fails)
+    (λ _. (has_failed-reading ran next fails, invariant.writer_kept)) (λ is. cc)
+
+pub returns-in_default-finish-clause-run : goal.returns-in_default-finish-clause-run
+returns-in_default-finish-clause-run g c = λ from to fresh_reader fresh_writer.
+    let next = reader_at (g.R.Source.remaining c.read_or_lend.new.self.reader.now)
+    (state_of c.read_or_lend.new.self) in
+    let ran = c.reads.invariant.ran from to fresh_reader fresh_writer in
+    let none : c.text-piece.result.now ≡ [] = no_text _ (search rules) in
+    IsRecodeRun-fault c.requires.reader c.requires.writer Write refl
+    (RunsToFault-ending next ran
+    (HandsOut-by c.text-piece.ensures c.in-Ok.ensures.ok)
+    (c.in-Ok.ensures.end (no_text _ (search rules))) none
+    (when_err c.finish.result (search rules) c.finish.ensures.err))
+    (λ is. cc) (λ _. (search rules, search rules))
+
+pub returns-then-is_empty-clause-run : goal.returns-then-is_empty-clause-run
+returns-then-is_empty-clause-run g c = λ from to fresh_reader fresh_writer.
+    let next = reader_at (g.R.Source.remaining c.read_or_lend.new.self.reader.now)
+    (state_of c.read_or_lend.new.self) in
+    let ran = c.reads.invariant.ran from to fresh_reader fresh_writer in
+    let none : c.text-piece.result.now ≡ [] = no_text _ (search rules) in
+    IsRecodeRun-ok c.requires.reader c.requires.writer refl
+    (RunsToEnd-by (search rules)
+    (RunsToEnd-last next ran
+    (HandsOut-by c.text-piece.ensures c.in-Ok.ensures.ok)
+    (c.in-Ok.ensures.end (no_text _ (search rules))) none c.in-Ok-finish.ensures.ok))
+    (search rules) (search rules)
+
+pub returns-in_default-write_str-clause-run : goal.returns-in_default-write_str-clause-run
+returns-in_default-write_str-clause-run g c = λ from to fresh_reader fresh_writer.
+    let next = reader_at (g.R.Source.remaining c.read_or_lend.new.self.reader.now)
+    (state_of c.read_or_lend.new.self) in
+    let ran = c.reads.invariant.ran from to fresh_reader fresh_writer in
+    let same : c.from_utf8_unchecked.result.now ≡ c.text-piece.result.now = search rules in
+    IsRecodeRun-fault c.requires.reader c.requires.writer Write refl
+    (RunsToFault-writing next ran
+    (HandsOut-by c.text-piece.ensures c.in-Ok.ensures.ok)
+    (when_err c.write_str.result (search rules) (rw same at c.write_str.ensures.err)))
+    (λ is. cc) (λ _. (search rules, search rules))
+
+pub returns-in_default-flush-clause-run : goal.returns-in_default-flush-clause-run
+returns-in_default-flush-clause-run g c = λ from to fresh_reader fresh_writer.
+    let next = reader_at (g.R.Source.remaining c.read_or_lend.new.self.reader.now)
+    (state_of c.read_or_lend.new.self) in
+    let ran = c.reads.invariant.ran from to fresh_reader fresh_writer in
+    let same : c.from_utf8_unchecked.result.now ≡ c.text-piece.result.now = search rules in
+    IsRecodeRun-fault c.requires.reader c.requires.writer Write refl
+    (RunsToFault-pushing next ran
+    (HandsOut-by c.text-piece.ensures c.in-Ok.ensures.ok)
+    (rw same at c.in-Ok-write_str.ensures.ok)
+    (when_err c.flush.result (search rules) c.flush.ensures.err))
+    (λ is. cc) (λ _. (search rules, search rules))
+
+pub reads-preserved : goal.reads-preserved
+reads-preserved g c =
+    let next = reader_at (g.R.Source.remaining c.read_or_lend.new.self.reader.now)
+    (state_of c.read_or_lend.new.self) in
+    let same : c.from_utf8_unchecked.result.now ≡ c.text-piece.result.now = search rules in
+    let some : 0 < length c.text-piece.result.now = some_text _ (search rules) in
+    record {
+      ran = λ from to fresh_reader fresh_writer.
+          HasRun-more next (c.reads.invariant.ran from to fresh_reader fresh_writer)
+          (HandsOut-by c.text-piece.ensures c.in-Ok.ensures.ok)
+          (rw same at c.in-Ok-write_str.ensures.ok) c.in-Ok-flush.ensures.ok some;
+      text_room = search rules;
+      reading = search rules;
+      writing = search rules;
+      reader_kept = search rules;
+      writer_kept = search rules;
+      same_reader = search rules;
+      same_writer = search rules;
+    }
+
+pub returns-clause-run : goal.returns-clause-run
+returns-clause-run g c = λ from to fresh_reader fresh_writer.
+    let invariant = c.reads.invariant in
+    let ran = invariant.ran from to fresh_reader fresh_writer in
+    IsRecodeRun-fault c.requires.reader c.requires.writer Read refl (RunsToFault-between ran)
+    (λ _. (has_failed-between ran _ (search rules), invariant.writer_kept)) (λ is. cc)
