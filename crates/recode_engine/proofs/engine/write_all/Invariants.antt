@@ -20,11 +20,11 @@ invariant-reads g l =
     record {
       ran : (from to : Encoding) → reader_state l.fn.decoding ≡ sniffing_reader from
           → writer_state l.fn.encoding ≡ fresh_writer to → HasRun (record {
-        from = from;
-        to = to;
-        remaining = g.R.Source.remaining l.fn.decoding.reader.now;
-        taken = g.W.Sink.contents l.fn.encoding.writer.now;
-      }) now;
+            from = from;
+            to = to;
+            remaining = g.R.Source.remaining l.fn.decoding.reader.now;
+            taken = g.W.Sink.contents l.fn.encoding.writer.now;
+          }) now;
       text_room : length l.text ≡ 65536;
       reading : l.decoding.failed ≡ false;
       writing : l.encoding.failed ≡ false;
