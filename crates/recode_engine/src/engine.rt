@@ -117,7 +117,9 @@ fn write_decoded<R: Source, W: Sink>(
 {
     let mut output = [0u8; 65536];
     let mut encoding = EncodeWriter::new(writer, to, &mut output);
-    write_all(decoding, &mut encoding)
+    let outcome = write_all(decoding, &mut encoding);
+    let _sink = encoding.into_sink();
+    outcome
 }
 
 /// Does [`run`] with two sides that have not failed, through a buffer for the bytes read.
