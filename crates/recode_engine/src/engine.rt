@@ -118,6 +118,7 @@ fn write_decoded<R: Source, W: Sink>(
     let mut output = [0u8; 65536];
     let mut encoding = EncodeWriter::new(writer, to, &mut output);
     let outcome = write_all(decoding, &mut encoding);
+    // What the sink has taken is known by the reference that comes back.
     let _sink = encoding.into_sink();
     outcome
 }
