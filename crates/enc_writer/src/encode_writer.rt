@@ -435,6 +435,15 @@ impl<'a, W: Sink> EncodeWriter<'a, W> {
         Ok(self.had_unmappables)
     }
 
+    /// Ends the writer, and returns the sink. The bytes held stay unwritten.
+    pub fn into_sink(self) -> &'a mut W
+        ensures sink { result.now ≡ self.entry.writer.now }
+        ensures same_writer { result.ghost_name ≡ self.entry.writer.ghost_name }
+    {
+        let EncodeWriter { writer, .. } = self;
+        writer
+    }
+
     /// Returns the encoding that it writes, which is an output encoding.
     pub fn encoding(&self) -> Encoding
         ensures { result ≡ self.now.encoder.encoding }

@@ -6,7 +6,7 @@ ghost use Rattle.std.specs.declared.io.ErrorKind.TheVariants.{Other};
 ghost use Rattle.enc_stream.specs.declared.encoding.Encoding.{Encoding};
 ghost use Rattle.enc_reader.specs.Reader.{state_of as reader_state};
 ghost use Rattle.enc_reader.specs.Reading.{sniffing_reader};
-ghost use Rattle.enc_writer.specs.Writer.{state_of as writer_state};
+ghost use Rattle.enc_writer.specs.Writer.{writer_of as writer_state};
 ghost use Rattle.enc_writer.specs.Writing.{fresh_writer};
 ghost use Rattle.recode_engine.specs.Run.{IsRecodeRun, side};
 
@@ -117,7 +117,10 @@ fn write_decoded<R: Source, W: Sink>(
 {
     let mut output = [0u8; 65536];
     let mut encoding = EncodeWriter::new(writer, to, &mut output);
-    write_all(decoding, &mut encoding)
+    let outcome = write_all(decoding, &mut encoding);
+    // What the sink has taken is known by the reference that comes back.
+    let _sink = encoding.into_sink();
+    outcome
 }
 
 /// Does [`run`] with two sides that have not failed, through a buffer for the bytes read.

@@ -3,9 +3,9 @@ use Rattle.enc_reader.specs.Reader.{state_of as reader_state}
 use Rattle.enc_reader.specs.Reading.{sniffing_reader}
 use Rattle.enc_reader.proofs.ReadingLemmas.{reader_at}
 use Rattle.enc_stream.specs.declared.encoding.Encoding.{Encoding}
-use Rattle.enc_writer.specs.Writer.{state_of as writer_state}
+use Rattle.enc_writer.specs.Writer.{writer_of as writer_state}
 use Rattle.enc_writer.specs.Writing.{fresh_writer}
-use Rattle.recode_engine.proofs.RunLemmas.{RunStart, RunState, HasRun}
+use Rattle.recode_engine.proofs.RunLemmas.{RunState, HasRun}
 use Rattle.recode_engine.proofs.engine.write_all.Given as goal
 
 abbrev pub invariant-reads : goal.invariant-reads
@@ -20,11 +20,11 @@ invariant-reads g l =
     record {
       ran : (from to : Encoding) → reader_state l.fn.decoding ≡ sniffing_reader from
           → writer_state l.fn.encoding ≡ fresh_writer to → HasRun (record {
-        from = from;
-        to = to;
-        remaining = g.R.Source.remaining l.fn.decoding.reader.now;
-        taken = g.W.Sink.contents l.fn.encoding.writer.now;
-      }) now;
+            from = from;
+            to = to;
+            remaining = g.R.Source.remaining l.fn.decoding.reader.now;
+            taken = g.W.Sink.contents l.fn.encoding.writer.now;
+          }) now;
       text_room : length l.text ≡ 65536;
       reading : l.decoding.failed ≡ false;
       writing : l.encoding.failed ≡ false;
