@@ -5,7 +5,7 @@ use Rattle.enc_reader.proofs.ReadingLemmas.{reader_at}
 use Rattle.enc_stream.specs.declared.encoding.Encoding.{Encoding}
 use Rattle.enc_writer.specs.Writer.{state_of as writer_state}
 use Rattle.enc_writer.specs.Writing.{fresh_writer}
-use Rattle.recode_engine.proofs.RunLemmas.{RunStart, RunState, HasRun}
+use Rattle.recode_engine.proofs.RunLemmas.{RunState, HasRun}
 use Rattle.recode_engine.proofs.engine.write_all.Given as goal
 
 abbrev pub invariant-reads : goal.invariant-reads
