@@ -100,7 +100,8 @@ owed_is : (from to : Encoding) (bytes : List ℕ)
     → recoded_bytes from to bytes
     ≡ owed_bytes (fresh_writer to) (sequence_text (owed_sequences (sniffing_reader from) bytes))
 owed_is from to bytes =
-    ap (λ (rule : EncoderRule). bytes_of_text rule Ascii (with_references rule (whole_text from bytes)))
+    ap (λ (rule : EncoderRule). bytes_of_text rule Ascii
+    (with_references rule (whole_text from bytes)))
     (sym (output_rule_is [] to))
     ∙ ap (λ ss. owed_bytes (fresh_writer to) (sequence_text ss)) (fresh_sequences Sniff from bytes)
 
