@@ -71,7 +71,8 @@ pub record HasRun (start : RunStart) (now : RunState) : Type 0 where
   pub reads : ReadsOwed start.remaining now.source.remaining (sniffing_reader start.from)
       now.source.state bytes wrote now.malformed
   pub is_exhausted : now.source.state.ended ≡ true → IsExhausted now.source.remaining
-  pub written : HasWrittenText start.taken now.taken (fresh_writer start.to) now.writer (chars wrote)
+  pub written : HasWrittenText start.taken now.taken (fresh_writer start.to) now.writer
+      (chars wrote)
   pub enough : now.made + distance_to_end now.source.state ≤ 1 + 2 * length bytes
 
 pub HasRun-start : {start : RunStart} {remaining : Option (List ℕ)} {reader : ReaderState}

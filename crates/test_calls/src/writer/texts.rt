@@ -1,6 +1,6 @@
 //! Texts in several writes, and their bytes. Those of mappable characters are of Python's codecs.
 
-use enc_writer::{EncodeWriter, FromWrite, UnmappableStop};
+use enc_writer::{EncodeWriter, FromWrite, Sink, UnmappableStop};
 use encoding_rs::*;
 use std::alloc::Global;
 use std::test::Fail;
@@ -178,4 +178,15 @@ fn a_write_without_replacement_stops_at_an_unmappable_character(rt: HostRuntime)
     assert!(rt; encoding.write_str_without_replacement("本") == Ok(None));
     assert!(rt; encoding.finish() == Ok(true));
     assert!(rt; writer.taken.as_slice() == b"\x93\xFA?\x96\x7B".as_slice());
+}
+
+#[test]
+fn the_sink_is_returned_without_the_bytes_held(rt: HostRuntime) {
+    let mut writer = StepWriter::new(rt.alloc(), &[ALL_BYTES]);
+    let mut sink = FromWrite::new(&mut writer);
+    let mut buffer = [0; 14];
+    let mut encoding = EncodeWriter::new(&mut sink, WINDOWS_1252, &mut buffer);
+    assert!(rt; encoding.write_str("é").is_ok());
+    assert!(rt; !encoding.into_sink().failed());
+    assert!(rt; writer.taken.is_empty());
 }
