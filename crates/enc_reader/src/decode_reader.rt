@@ -111,7 +111,7 @@ fn decode_unread(
     dst: &mut [u8],
     last: bool,
 ) -> CallOutcome
-    requires going { has_finished decoder.old ≡ false }
+    requires unfinished { has_finished decoder.old ≡ false }
     requires before { unread.at ≤ unread.filled }
     requires within { unread.filled ≤ length input.old }
     ensures call { AnswersDecode encode_utf8 4 decoder.old decoder.new (record {
@@ -265,7 +265,7 @@ impl<'a, R: Source> DecodeReader<'a, R> {
         encoding: Option<Encoding>,
         input: &'a mut [u8],
     ) -> DecodeReader<'a, R>
-        requires { 0 < length input.old }
+        requires buffer { 0 < length input.old }
         ensures fresh { state_of result ≡ sniffing_reader (unwrap_or encoding UTF_8) }
         ensures owed { (z : List ℕ) → owed_sequences (state_of result) z ≡ whole_sequences Sniff
             (unwrap_or encoding UTF_8) z }
@@ -289,14 +289,14 @@ impl<'a, R: Source> DecodeReader<'a, R> {
     /// It decodes by `encoding`. With `Sniff` a byte order mark overrides it. With `Remove` only
     /// the byte order mark of `encoding` is looked for, and with `Off` none is. One that is found
     /// is no part of the text. Nothing is read yet. If the source has failed, so has the reader.
-    /// Takes no memory. Condition: `input` is not empty.
+    /// Condition: `input` is not empty.
     pub fn with_bom_handling(
         reader: &'a mut R,
         encoding: Encoding,
         handling: BomHandling,
         input: &'a mut [u8],
     ) -> DecodeReader<'a, R>
-        requires { 0 < length input.old }
+        requires buffer { 0 < length input.old }
         ensures fresh { state_of result ≡ fresh_reader handling encoding }
         ensures owed { (z : List ℕ) → owed_sequences (state_of result) z
             ≡ whole_sequences handling encoding z }
@@ -414,7 +414,7 @@ impl<'a, R: Source> DecodeReader<'a, R> {
     /// assert!(rt; reader.read_str(&mut text) == Ok(0));
     /// ```
     pub fn read_str(&mut self, dst: &mut [u8]) -> Result<usize, ReadFault>
-        requires { 4 ≤ length dst.old }
+        requires room { 4 ≤ length dst.old }
         ensures ok { IfOk result (λ n. HandsOut (R.remaining self.old.reader.now)
             (R.remaining self.new.reader.now) (state_of self.old) (state_of self.new)
             (take n dst.new) self.old.had_errors self.new.had_errors) }
@@ -540,7 +540,7 @@ impl<'a, R: Source> DecodeReader<'a, R> {
     /// text, until the next read. It is empty only at the end. At least 4096 bytes are lent; `dst`
     /// is unchanged then. Errors are those of `read_str`. Condition: `dst` has at least four bytes.
     pub fn read_or_lend(&mut self, dst: &mut [u8]) -> Result<HandedText, ReadFault>
-        requires { 4 ≤ length dst.old }
+        requires room { 4 ≤ length dst.old }
         ensures ok { IfOk result (λ handed. HandsOut (R.remaining self.old.reader.now)
             (R.remaining self.new.reader.now) (state_of self.old) (state_of self.new)
             (handed_text self.new dst.new handed) self.old.had_errors self.new.had_errors) }
@@ -588,7 +588,7 @@ impl<'a, R: Source> DecodeReader<'a, R> {
     ///
     /// Condition: there was no read, and no write to `dst`, since.
     pub fn text<'b>(&'b self, dst: &'b [u8], handed: HandedText) -> &'b [u8]
-        requires { IsAtHand self.now dst.now handed }
+        requires at_hand { IsAtHand self.now dst.now handed }
         ensures { result.now ≡ handed_text self.now dst.now handed }
     {
         if handed.lent {

@@ -42,10 +42,9 @@ impl<'a, R: Source> DecodedText<'a, R> {
 
     /// Returns the text that `reader` still hands out, through the buffer `text`.
     ///
-    /// Nothing is read yet, and nothing is held. Takes no memory. Condition: `text` has at least
-    /// four bytes.
+    /// Nothing is read yet, and nothing is held. Condition: `text` has at least four bytes.
     pub fn new(reader: DecodeReader<'a, R>, text: &'a mut [u8]) -> DecodedText<'a, R>
-        requires { 4 ≤ length text.old }
+        requires room { 4 ≤ length text.old }
         ensures reader { result.reader ≡ reader.entry }
         ensures none_held { (text_state_of result).held ≡ [] }
     {

@@ -89,7 +89,7 @@ impl<R: Read> FromRead<R> {
     /// Takes the error of the reader for which the source has failed.
     ///
     /// `None` if it has not failed, or if the error was taken before. The source stays failed, and
-    /// the reader as it is. Takes no memory.
+    /// the reader as it is.
     pub fn take_error(&mut self) -> Option<io::Error>
         ensures error { result ≡ self.old.error }
         ensures none { self.old.failed ≡ false → result ≡ None }

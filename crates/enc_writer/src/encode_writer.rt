@@ -56,8 +56,8 @@ impl<'a, W: Sink> EncodeWriter<'a, W> {
     /// `output`.
     ///
     /// The output encoding is UTF-8 for UTF-16BE, UTF-16LE and replacement, and otherwise
-    /// `encoding`. Nothing is written yet. If the sink has failed, so has the writer. Takes no
-    /// memory. Condition: `output` has at least 14 bytes.
+    /// `encoding`. Nothing is written yet. If the sink has failed, so has the writer. Condition:
+    /// `output` has at least 14 bytes.
     pub fn new(writer: &'a mut W, encoding: Encoding, output: &'a mut [u8]) -> EncodeWriter<'a, W>
         requires room { 14 ≤ length output.old }
         ensures fresh { writer_of result ≡ fresh_writer encoding }
@@ -208,8 +208,7 @@ impl<'a, W: Sink> EncodeWriter<'a, W> {
     /// Its bytes are collected in the buffer, which is pushed when fewer than 14 bytes of it are
     /// free: so a short text may be no push. Long text is pushed without being encoded, after the
     /// bytes held, if it is its own bytes: in UTF-8 a text of at least 4096 bytes, and in other
-    /// encodings that have ASCII as itself at least 4096 bytes of ASCII at its start. Takes no
-    /// memory.
+    /// encodings that have ASCII as itself at least 4096 bytes of ASCII at its start.
     ///
     /// Errors: `Writer` if the sink failed in this call, and `Failed` in each later call. The sink
     /// has taken a prefix of the bytes of all text written, and nothing more is written.

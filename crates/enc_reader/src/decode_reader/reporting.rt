@@ -67,7 +67,7 @@ fn report_unread(
     dst: &mut [u8],
     last: bool,
 ) -> ReportingOutcome
-    requires going { has_finished decoder.old ≡ false }
+    requires unfinished { has_finished decoder.old ≡ false }
     requires before { unread.at ≤ unread.filled }
     requires within { unread.filled ≤ length input.old }
     ensures call { AnswersDecode encode_utf8 4 decoder.old decoder.new (record {
@@ -197,13 +197,13 @@ impl<'a, R: Source> DecodeReader<'a, R> {
     /// Every malformed sequence of the input is reported in order, except those that other reads
     /// replace, which may come between. [`DecodeReader::had_errors`] is true after a report too.
     /// The source is read only while this read has nothing to return, so the text may be shorter
-    /// than the room. The bytes of `dst` after the text are unchanged. Takes no memory. Condition:
-    /// `dst` has at least four bytes.
+    /// than the room. The bytes of `dst` after the text are unchanged. Condition: `dst` has at least
+    /// four bytes.
     ///
     /// Errors write nothing: `Reader` if the source failed in this read, and `Failed` in each later
     /// read.
     pub fn read_str_without_replacement(&mut self, dst: &mut [u8]) -> Result<ReadStop, ReadFault>
-        requires { 4 ≤ length dst.old }
+        requires room { 4 ≤ length dst.old }
         ensures ok { IfOk result (λ stop. ReportsFaults (R.remaining self.old.reader.now)
             (R.remaining self.new.reader.now) (state_of self.old) (state_of self.new)
             self.old.given self.new.given (take (written_of stop) dst.new ++ replacement_of stop)
