@@ -197,8 +197,8 @@ impl<'a, R: Source> DecodeReader<'a, R> {
     /// Every malformed sequence of the input is reported in order, except those that other reads
     /// replace, which may come between. [`DecodeReader::had_errors`] is true after a report too.
     /// The source is read only while this read has nothing to return, so the text may be shorter
-    /// than the room. The bytes of `dst` after the text are unchanged. Condition: `dst` has at least
-    /// four bytes.
+    /// than the room. The bytes of `dst` after the text are unchanged. Condition: `dst` has at
+    /// least four bytes.
     ///
     /// Errors write nothing: `Reader` if the source failed in this read, and `Failed` in each later
     /// read.
