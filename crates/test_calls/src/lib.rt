@@ -1,6 +1,6 @@
 //! Tests of `encoding_rs`: names, labels, properties and byte order marks of all encodings,
-//! outputs, length queries, one-shot calls and runs; of `enc_reader`, `enc_writer` and
-//! `recode_engine`. `test_codecs` tests each decoder and encoder.
+//! outputs, length queries, one-shot calls and runs; of `enc_reader` and of `recode_engine`.
+//! `test_writer` tests `enc_writer`, and `test_codecs` each decoder and encoder.
 //!
 //! Expected values come from outside, as each table says: from examples of the Encoding Standard,
 //! from Unicode's tables, and from other converters.
@@ -35,4 +35,3 @@ mod recode;
 #[cfg(test)]
 mod runs;
 #[cfg(test)]
-mod writer;
