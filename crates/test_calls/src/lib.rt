@@ -34,4 +34,3 @@ mod reader;
 mod recode;
 #[cfg(test)]
 mod runs;
-#[cfg(test)]

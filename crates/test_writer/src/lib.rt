@@ -2,6 +2,9 @@
 //! the errors that a sink keeps.
 #![tactic(auto)]
 
+#[cfg(test)]
 mod faults;
+#[cfg(test)]
 mod sinks;
+#[cfg(test)]
 mod texts;
