@@ -2,7 +2,9 @@
 
 use enc_writer::{EncodeWriter, FromWrite, Sink};
 use encoding_rs::SHIFT_JIS;
+use std::alloc::Global;
 use std::io::ErrorKind;
+use std::process::Abort;
 use std::test::Fail;
 use test_support::devices::{ALL_BYTES, BYTE, StepWriter};
 use test_support::recoding::{FAULT, INTERRUPTED, NOTHING};
@@ -52,19 +54,26 @@ fn a_sink_gives_its_writer_back(rt: HostRuntime) {
     assert!(rt; (writer.calls, writer.taken.as_slice()) == (1, b"ab".as_slice()));
 }
 
-#[test]
-fn a_sink_and_a_writer_are_printed(rt: HostRuntime) -> Result<(), Fail> {
-    let mut sink = FromWrite::new(StepWriter::new(rt.alloc(), &[]));
-    let text = format!(in rt.alloc(); "{sink:?}")?;
-    assert!(rt; text.as_str() == "FromWrite { failed: false, error: None, .. }");
+/// Prints a writer that holds a reference.
+fn print_a_writer<S: Sink>(rt: &impl Abort, alloc: Global, sink: &mut S) -> Result<(), Fail> {
     let mut buffer = [0; 14];
-    let mut encoding = EncodeWriter::new(&mut sink, SHIFT_JIS, &mut buffer);
+    let mut encoding = EncodeWriter::new(sink, SHIFT_JIS, &mut buffer);
     assert!(rt; encoding.write_str("é") == Ok(()));
-    let text = format!(in rt.alloc(); "{encoding:?}")?;
+    let text = format!(in alloc; "{encoding:?}")?;
     assert!(rt; text.as_str().starts_with("EncodeWriter { encoding: "));
     assert!(rt;
         text.as_str()
             .ends_with("held: 6, failed: false, had_unmappables: true, .. }")
     );
     Ok(())
+}
+
+#[test]
+fn a_sink_and_a_writer_are_printed(rt: HostRuntime) -> Result<(), Fail> {
+    let steps = [BYTE];
+    let mut writer = StepWriter::new(rt.alloc(), &steps);
+    let mut sink = FromWrite::new(&mut writer);
+    let text = format!(in rt.alloc(); "{sink:?}")?;
+    assert!(rt; text.as_str() == "FromWrite { failed: false, error: None, .. }");
+    print_a_writer(&rt, rt.alloc(), &mut sink)
 }

@@ -3,6 +3,7 @@
 use enc_writer::{EncodeWriter, FromWrite, Sink, UnmappableStop};
 use encoding_rs::*;
 use std::alloc::Global;
+use std::process::Abort;
 use std::test::Fail;
 use test_support::devices::{ALL_BYTES, BYTE, Step, StepWriter};
 
@@ -29,19 +30,16 @@ const ROWS: &[Row] = &[
     (UTF_8, &[], b"", false),
 ];
 
-/// Writes texts through a buffer to a writer that is driven by its steps.
-fn write_texts(
-    alloc: Global,
+/// Writes texts through a buffer. Returns whether a character was unmappable.
+fn write_all<S: Sink>(
     (encoding, texts): (Encoding, &[&str]),
-    steps: &[Step],
+    sink: &mut S,
     buffer: &mut [u8],
-) -> Result<(bool, Vec<u8>), Fail> {
+) -> Result<bool, Fail> {
     if buffer.len() < 14 {
         return Err("too short a buffer".into());
     }
-    let mut writer = StepWriter::new(alloc, steps);
-    let mut sink = FromWrite::new(&mut writer);
-    let mut encoding = EncodeWriter::new(&mut sink, encoding, buffer);
+    let mut encoding = EncodeWriter::new(sink, encoding, buffer);
     for text in texts {
         if encoding.write_str(*text).is_err() {
             return Err("a write failed".into());
@@ -53,7 +51,7 @@ fn write_texts(
     if had != encoding.had_unmappables() {
         return Err("another flag".into());
     }
-    Ok((had, writer.taken))
+    Ok(had)
 }
 
 #[test]
@@ -62,47 +60,60 @@ fn writes_are_one_text(rt: HostRuntime) -> Result<(), Fail> {
         for step in [ALL_BYTES, BYTE, Step::Move(3)] {
             for len in [14, 15, 64] {
                 let mut buffer = [0; 64];
-                let got = write_texts(
-                    rt.alloc(),
-                    (*encoding, *texts),
-                    &[step],
-                    &mut buffer[..len],
-                )?;
-                assert!(rt; got.0 == *had && got.1.as_slice() == *want, "of {want:?}");
+                let steps = [step];
+                let mut writer = StepWriter::new(rt.alloc(), &steps);
+                let mut sink = FromWrite::new(&mut writer);
+                let got = write_all((*encoding, *texts), &mut sink, &mut buffer[..len])?;
+                assert!(rt;
+                    got == *had && writer.taken.as_slice() == *want,
+                    "of {want:?}"
+                );
             }
         }
     }
     Ok(())
 }
 
-#[test]
-fn short_texts_are_no_push_before_the_end(rt: HostRuntime) {
-    let mut writer = StepWriter::new(rt.alloc(), &[]);
-    let mut sink = FromWrite::new(&mut writer);
+/// Writes short texts, and flushes between them.
+fn write_short_texts<S: Sink>(rt: &impl Abort, sink: &mut S) {
     let mut buffer = [0; 64];
-    let mut encoding = EncodeWriter::new(&mut sink, ISO_2022_JP, &mut buffer);
+    let mut encoding = EncodeWriter::new(sink, ISO_2022_JP, &mut buffer);
     assert!(rt; encoding.encoding() == ISO_2022_JP);
     assert!(rt; encoding.write_str("日") == Ok(()));
     assert!(rt; encoding.write_str("本") == Ok(()));
     assert!(rt; encoding.flush() == Ok(()));
     assert!(rt; encoding.write_str("日") == Ok(()));
     assert!(rt; encoding.finish() == Ok(false));
-    // a push for each flush and for the end, and the next text begins anew
     assert!(rt; encoding.write_str("日") == Ok(()));
     assert!(rt; encoding.finish() == Ok(false));
+}
+
+#[test]
+fn short_texts_are_no_push_before_the_end(rt: HostRuntime) {
+    let steps = [ALL_BYTES];
+    let mut writer = StepWriter::new(rt.alloc(), &steps);
+    let mut sink = FromWrite::new(&mut writer);
+    write_short_texts(&rt, &mut sink);
+    // a push for each flush and for the end, and the next text begins anew
     assert!(rt; writer.calls == 3 && writer.empty_calls == 0);
     assert!(rt; writer.taken.as_slice() == b"\x1B$BF|K\\F|\x1B(B\x1B$BF|\x1B(B".as_slice());
 }
 
-#[test]
-fn a_flush_adds_no_escape_sequence(rt: HostRuntime) {
-    let mut writer = StepWriter::new(rt.alloc(), &[]);
-    let mut sink = FromWrite::new(&mut writer);
+/// Flushes twice in the midst of a text.
+fn flush_twice<S: Sink>(rt: &impl Abort, sink: &mut S) {
     let mut buffer = [0; 64];
-    let mut encoding = EncodeWriter::new(&mut sink, ISO_2022_JP, &mut buffer);
+    let mut encoding = EncodeWriter::new(sink, ISO_2022_JP, &mut buffer);
     assert!(rt; encoding.write_str("日") == Ok(()));
     assert!(rt; encoding.flush() == Ok(()));
     assert!(rt; encoding.flush() == Ok(()));
+}
+
+#[test]
+fn a_flush_adds_no_escape_sequence(rt: HostRuntime) {
+    let steps = [ALL_BYTES];
+    let mut writer = StepWriter::new(rt.alloc(), &steps);
+    let mut sink = FromWrite::new(&mut writer);
+    flush_twice(&rt, &mut sink);
     assert!(rt; writer.calls == 1);
     assert!(rt; writer.taken.as_slice() == b"\x1B$BF|".as_slice());
 }
@@ -110,12 +121,10 @@ fn a_flush_adds_no_escape_sequence(rt: HostRuntime) {
 /// U+1F4A9 in UTF-16.
 const PAIR: [u16; 2] = [0xD83D, 0xDCA9];
 
-#[test]
-fn writes_utf_16(rt: HostRuntime) {
-    let mut writer = StepWriter::new(rt.alloc(), &[]);
-    let mut sink = FromWrite::new(&mut writer);
+/// Writes texts in UTF-16, and one in UTF-8.
+fn write_units<S: Sink>(rt: &impl Abort, sink: &mut S) {
     let mut buffer = [0; 14];
-    let mut encoding = EncodeWriter::new(&mut sink, GB18030, &mut buffer);
+    let mut encoding = EncodeWriter::new(sink, GB18030, &mut buffer);
     assert!(rt; encoding.write_utf16(&[0x61, 0x20AC]) == Ok(()));
     assert!(rt; encoding.write_utf16(&PAIR) == Ok(()));
     // both halves of a pair that is split between two writes are U+FFFD
@@ -123,22 +132,45 @@ fn writes_utf_16(rt: HostRuntime) {
     assert!(rt; encoding.write_utf16(&PAIR[1..]) == Ok(()));
     assert!(rt; encoding.write_str("é") == Ok(()));
     assert!(rt; encoding.finish() == Ok(false));
+}
+
+#[test]
+fn writes_utf_16(rt: HostRuntime) {
+    let steps = [ALL_BYTES];
+    let mut writer = StepWriter::new(rt.alloc(), &steps);
+    let mut sink = FromWrite::new(&mut writer);
+    write_units(&rt, &mut sink);
     assert!(rt;
         writer.taken.as_slice()
             == b"a\xA2\xE3\x94\x39\xDA\x33\x84\x31\xA4\x37\x84\x31\xA4\x37\xA8\xA6".as_slice()
     );
 }
 
-#[test]
-fn writes_references_in_utf_16(rt: HostRuntime) {
-    let mut writer = StepWriter::new(rt.alloc(), &[BYTE]);
-    let mut sink = FromWrite::new(&mut writer);
+/// Writes texts in UTF-16 with unmappable characters.
+fn write_references<S: Sink>(rt: &impl Abort, sink: &mut S) {
     let mut buffer = [0; 14];
-    let mut encoding = EncodeWriter::new(&mut sink, SHIFT_JIS, &mut buffer);
+    let mut encoding = EncodeWriter::new(sink, SHIFT_JIS, &mut buffer);
     assert!(rt; encoding.write_utf16(&PAIR) == Ok(()));
     assert!(rt; encoding.write_utf16(&[0xD83D, 0x65E5]) == Ok(()));
     assert!(rt; encoding.finish() == Ok(true));
+}
+
+#[test]
+fn writes_references_in_utf_16(rt: HostRuntime) {
+    let steps = [BYTE];
+    let mut writer = StepWriter::new(rt.alloc(), &steps);
+    let mut sink = FromWrite::new(&mut writer);
+    write_references(&rt, &mut sink);
     assert!(rt; writer.taken.as_slice() == b"&#128169;&#65533;\x93\xFA".as_slice());
+}
+
+/// Writes a short text and a long one.
+fn write_long_text<S: Sink>(rt: &impl Abort, to: Encoding, long: &str, sink: &mut S) {
+    let mut buffer = [0; 64];
+    let mut encoding = EncodeWriter::new(sink, to, &mut buffer);
+    assert!(rt; encoding.write_str("b") == Ok(()));
+    assert!(rt; encoding.write_str(long) == Ok(()));
+    assert!(rt; encoding.finish() == Ok(false));
 }
 
 #[test]
@@ -148,13 +180,10 @@ fn long_text_is_pushed_after_what_is_held(rt: HostRuntime) -> Result<(), Fail> {
         for _ in 0..5000 {
             long.push('a')?;
         }
-        let mut writer = StepWriter::new(rt.alloc(), &[]);
+        let steps = [ALL_BYTES];
+        let mut writer = StepWriter::new(rt.alloc(), &steps);
         let mut sink = FromWrite::new(&mut writer);
-        let mut buffer = [0; 64];
-        let mut encoding = EncodeWriter::new(&mut sink, to, &mut buffer);
-        assert!(rt; encoding.write_str("b") == Ok(()));
-        assert!(rt; encoding.write_str(long.as_str()) == Ok(()));
-        assert!(rt; encoding.finish() == Ok(false));
+        write_long_text(&rt, to, long.as_str(), &mut sink);
         // one push of the byte held, and one of the long text
         assert!(rt; (writer.calls, writer.taken.len()) == (2, 5001));
         assert!(rt; writer.taken.as_slice().starts_with(b"baaa"));
@@ -162,12 +191,10 @@ fn long_text_is_pushed_after_what_is_held(rt: HostRuntime) -> Result<(), Fail> {
     Ok(())
 }
 
-#[test]
-fn a_write_without_replacement_stops_at_an_unmappable_character(rt: HostRuntime) {
-    let mut writer = StepWriter::new(rt.alloc(), &[]);
-    let mut sink = FromWrite::new(&mut writer);
+/// Writes up to an unmappable character, another in its place, and the rest.
+fn write_mappable<S: Sink>(rt: &impl Abort, sink: &mut S) {
     let mut buffer = [0; 14];
-    let mut encoding = EncodeWriter::new(&mut sink, SHIFT_JIS, &mut buffer);
+    let mut encoding = EncodeWriter::new(sink, SHIFT_JIS, &mut buffer);
     let stop = UnmappableStop {
         character: 'é',
         taken: 5,
@@ -177,16 +204,30 @@ fn a_write_without_replacement_stops_at_an_unmappable_character(rt: HostRuntime)
     assert!(rt; encoding.write_str("?") == Ok(()));
     assert!(rt; encoding.write_str_without_replacement("本") == Ok(None));
     assert!(rt; encoding.finish() == Ok(true));
+}
+
+#[test]
+fn a_write_without_replacement_stops_at_an_unmappable_character(rt: HostRuntime) {
+    let steps = [ALL_BYTES];
+    let mut writer = StepWriter::new(rt.alloc(), &steps);
+    let mut sink = FromWrite::new(&mut writer);
+    write_mappable(&rt, &mut sink);
     assert!(rt; writer.taken.as_slice() == b"\x93\xFA?\x96\x7B".as_slice());
+}
+
+/// Writes a text, and takes the sink back before it is pushed.
+fn take_the_sink_back<S: Sink>(rt: &impl Abort, sink: &mut S) {
+    let mut buffer = [0; 14];
+    let mut encoding = EncodeWriter::new(sink, WINDOWS_1252, &mut buffer);
+    assert!(rt; encoding.write_str("é").is_ok());
+    assert!(rt; !encoding.into_sink().failed());
 }
 
 #[test]
 fn the_sink_is_returned_without_the_bytes_held(rt: HostRuntime) {
-    let mut writer = StepWriter::new(rt.alloc(), &[ALL_BYTES]);
+    let steps = [ALL_BYTES];
+    let mut writer = StepWriter::new(rt.alloc(), &steps);
     let mut sink = FromWrite::new(&mut writer);
-    let mut buffer = [0; 14];
-    let mut encoding = EncodeWriter::new(&mut sink, WINDOWS_1252, &mut buffer);
-    assert!(rt; encoding.write_str("é").is_ok());
-    assert!(rt; !encoding.into_sink().failed());
+    take_the_sink_back(&rt, &mut sink);
     assert!(rt; writer.taken.is_empty());
 }
