@@ -3,6 +3,7 @@
 use enc_writer::{EncodeWriter, FromWrite, Sink};
 use encoding_rs::SHIFT_JIS;
 use std::alloc::Global;
+use std::fmt::Debug;
 use std::io::ErrorKind;
 use std::process::Abort;
 use std::test::Fail;
@@ -54,12 +55,17 @@ fn a_sink_gives_its_writer_back(rt: HostRuntime) {
     assert!(rt; (writer.calls, writer.taken.as_slice()) == (1, b"ab".as_slice()));
 }
 
+/// Returns what `Debug` writes.
+fn printed<T: Debug>(alloc: Global, value: &T) -> Result<String, Fail> {
+    Ok(format!(in alloc; "{value:?}")?)
+}
+
 /// Prints a writer that holds a reference.
 fn print_a_writer<S: Sink>(rt: &impl Abort, alloc: Global, sink: &mut S) -> Result<(), Fail> {
     let mut buffer = [0; 14];
     let mut encoding = EncodeWriter::new(sink, SHIFT_JIS, &mut buffer);
     assert!(rt; encoding.write_str("é") == Ok(()));
-    let text = format!(in alloc; "{encoding:?}")?;
+    let text = printed(alloc, &encoding)?;
     assert!(rt; text.as_str().starts_with("EncodeWriter { encoding: "));
     assert!(rt;
         text.as_str()
@@ -73,7 +79,7 @@ fn a_sink_and_a_writer_are_printed(rt: HostRuntime) -> Result<(), Fail> {
     let steps = [BYTE];
     let mut writer = StepWriter::new(rt.alloc(), &steps);
     let mut sink = FromWrite::new(&mut writer);
-    let text = format!(in rt.alloc(); "{sink:?}")?;
+    let text = printed(rt.alloc(), &sink)?;
     assert!(rt; text.as_str() == "FromWrite { failed: false, error: None, .. }");
     print_a_writer(&rt, rt.alloc(), &mut sink)
 }
