@@ -48,8 +48,8 @@ def parameters(text, at):
 
 
 def long_heads(text):
-    """The places of functions that have too many parameters."""
-    found = []
+    """The places of functions that have too many parameters, and of conditions without a name."""
+    found = [(it.start(), "a condition without a name") for it in re.finditer(r"^ *requires \{", text, re.M)]
     for it in FUNCTION.finditer(text):
         inner, parts = None, text[it.end():end_of_group(text, it.end()) - 1].replace("->", "")
         while parts != inner:

@@ -84,7 +84,7 @@ pub(crate) fn to_utf16(decoder: &mut Decoder, src: &[u8], dst: &mut [u16]) -> u6
 /// Encodes a piece of UTF-8.
 #[inline(never)]
 pub(crate) fn from_utf8(encoder: &mut Encoder, src: &str, dst: &mut [u8]) -> u64
-    requires { 14 ≤ length dst.old }
+    requires room { 14 ≤ length dst.old }
 {
     let mut unread = src;
     let mut given = Given::new();
@@ -104,7 +104,7 @@ pub(crate) fn from_utf8(encoder: &mut Encoder, src: &str, dst: &mut [u8]) -> u64
 /// Encodes a piece of UTF-16.
 #[inline(never)]
 pub(crate) fn from_utf16(encoder: &mut Encoder, src: &[u16], dst: &mut [u8]) -> u64
-    requires { 14 ≤ length dst.old }
+    requires room { 14 ≤ length dst.old }
 {
     let mut unread = src;
     let mut given = Given::new();

@@ -97,7 +97,7 @@ fn decoded_length(decoder: &Decoder, call: Call) -> usize
 
 /// Writes the units that a decoder has written.
 fn write_text<W: Write>(out: &mut W, buffers: &Buffers, call: Call, len: usize) -> io::Result<()>
-    requires { len ≤ 4096 }
+    requires bound { len ≤ 4096 }
 {
     if call.utf16 {
         write_units(out, &buffers.units[..len])

@@ -112,7 +112,7 @@ pub trait ByteCodec: Copy {
     /// be `None` for any other too.
     #[inline(always)]
     fn replaced_char(self, src: &[u8], at: usize) -> Option<(char, usize)>
-        requires { at < length src.now }
+        requires within { at < length src.now }
         ensures some { IfSome result (λ p. 0 < p.1) }
         ensures within { IfSome result (λ p. p.1 ≤ length (drop at src.now)) }
         ensures first { IfSome result

@@ -26,7 +26,7 @@ fn shows_itself<C: Copy>(shown: Emission<C>, byte: u8) -> bool
 /// Returns the length of a prefix of bytes that are the characters with their numbers, each a
 /// sequence by itself.
 fn latin1_len<C: ByteCodec>(codec: C, bytes: &[u8]) -> usize
-    requires { (C.state codec).pending ≡ [] }
+    requires none_pending { (C.state codec).pending ≡ [] }
     ensures { IsLatin1Prefix (remainder_of (C.state codec)).sequences bytes.now result }
 {
     let mut state = codec;

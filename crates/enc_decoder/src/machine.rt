@@ -39,7 +39,7 @@ fn is_at_lone_fault<C: ByteCodec>(codec: C, src: &[u8], read: usize) -> bool
 /// Returns the next event: a sequence that the pending bytes, the next byte or the end determines,
 /// a byte to hold, or nothing.
 fn what_comes<C: ByteCodec>(codec: C, src: &[u8], read: usize, last: bool) -> NextEvent<C>
-    requires { read ≤ length src.now }
+    requires read { read ≤ length src.now }
     ensures { IsNextEvent C.state codec src.now read last result }
 {
     if is_at_lone_fault(codec, src, read) {

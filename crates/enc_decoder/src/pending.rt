@@ -52,7 +52,7 @@ impl Pending {
 
     /// Returns these bytes with one more. Condition: there are at most two.
     pub fn with(self, byte: u8) -> Pending
-        requires { length (bytes_of_pending self) < 3 }
+        requires few { length (bytes_of_pending self) < 3 }
         ensures { bytes_of_pending result ≡ bytes_of_pending self ++ byte ∷ [] }
     {
         match self {

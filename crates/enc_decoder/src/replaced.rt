@@ -16,7 +16,7 @@ const CALM: usize = 16;
 /// it stays small.
 #[inline(never)]
 fn replace_some<C: ByteCodec, U: Units>(codec: C, src: &[u8], out: &mut U) -> usize
-    requires { (C.state codec).pending ≡ [] }
+    requires none_pending { (C.state codec).pending ≡ [] }
     ensures { TakesSequences U.units_of (C.state codec) (C.state codec) src.now result
         (U.output out.old) (U.output out.new) }
 {

@@ -28,7 +28,7 @@ pub(crate) fn step_first(set: CharacterSet, byte: u8) -> HandlerResult<Iso2022Jp
 
 /// Returns the effect of the byte after a lead byte.
 pub(crate) fn step_trail(set: CharacterSet, lead: u8, byte: u8) -> HandlerResult<Iso2022JpDecoder>
-    requires { CanHold set (Option.Some (Held.Lead lead)) }
+    requires holds { CanHold set (Option.Some (Held.Lead lead)) }
     ensures { HandlesByte iso_2022_jp_state (state_with_held set (Option.Some (Held.Lead lead)))
         byte result }
 {

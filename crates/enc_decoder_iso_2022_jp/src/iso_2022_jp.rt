@@ -73,7 +73,7 @@ impl Iso2022JpDecoder {
 
 /// Returns the state in a character set with these pending bytes.
 pub(crate) fn with_held(set: CharacterSet, held: Option<Held>) -> Iso2022JpDecoder
-    requires { CanHold set held }
+    requires holds { CanHold set held }
     ensures { result ≡ state_with_held set held }
 {
     Iso2022JpDecoder { set, held }

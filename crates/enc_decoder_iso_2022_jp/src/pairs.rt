@@ -15,7 +15,7 @@ use std::simd::prelude::*;
 /// Returns the character of a lead byte and the byte after it.
 #[tactic(auto, unfolding(crate::specs::Iso2022Jp::two_byte_char))]
 pub(crate) fn char_of_pair(lead: u8, byte: u8) -> Option<char>
-    requires { in_jis0208 lead ≡ true }
+    requires lead { in_jis0208 lead ≡ true }
     ensures { result ≡ two_byte_char lead byte }
 {
     if !is_jis0208_byte(byte) {

@@ -95,7 +95,7 @@ pub(crate) fn take_escape<U: Units>(
     src: &[u8],
     out: &mut U,
 ) -> (Iso2022JpDecoder, usize)
-    requires { decoder.held ≡ Option.None }
+    requires none_held { decoder.held ≡ Option.None }
     ensures run { TakesRun U.units_of iso_2022_jp_state decoder result.0 src.now result.1
         (U.output out.old) (U.output out.new) }
     ensures none_held { result.0.held ≡ Option.None }

@@ -38,7 +38,7 @@ pub(crate) fn show_char(
 /// Returns an escape sequence that is skipped, since no other one directly follows. The byte that
 /// determines it stays unread.
 fn skip_escape(escape: Escape, held: Option<Held>) -> Emission<Iso2022JpDecoder>
-    requires { CanHold (escape_set escape) held }
+    requires holds { CanHold (escape_set escape) held }
     ensures { result ≡ record {
       text = Text.Nothing;
       kind = Kind.Skipped;
@@ -92,7 +92,7 @@ fn give_back(set: CharacterSet, intermediate: Intermediate) -> Held
 
 /// Returns the sequence that the pending bytes begin with, if the following bytes cut them off.
 pub(crate) fn cut_off(set: CharacterSet, held: Held) -> Emission<Iso2022JpDecoder>
-    requires { CanHold set (Option.Some held) }
+    requires holds { CanHold set (Option.Some held) }
     ensures comes { IsNextSequence iso_2022_jp_state (state_with_held set (Option.Some held))
         (CutsOffHeld held) [] result }
     ensures before { result.takes_byte ≡ false }
@@ -146,7 +146,7 @@ fn cut_off_started(
 
 /// Returns the sequence that pending bytes determine by themselves: only a restored byte does.
 pub(crate) fn show_given_back(set: CharacterSet, held: Held) -> Option<Emission<Iso2022JpDecoder>>
-    requires { CanHold set (Option.Some held) }
+    requires holds { CanHold set (Option.Some held) }
     ensures { IsNextOfPending iso_2022_jp_state (state_with_held set (Option.Some held)) result }
 {
     match held {

@@ -35,7 +35,7 @@ pub trait DoubleByte: Copy {
 
     /// Returns the text of a lead byte with the byte after it.
     fn pair(lead: u8, trail: u8) -> Option<Text>
-        requires { leads lead ≡ true }
+        requires lead { leads lead ≡ true }
         ensures { result ≡ pairs lead trail };
 
     /// The index in which pairs are looked up.
@@ -81,7 +81,7 @@ pub fn classify_first(leads: bool, single: Option<char>) -> Prefix
 ///
 /// If they have none, an ASCII byte is restored.
 pub fn classify_trail(before: u8, byte: u8, text: Option<Text>) -> Prefix
-    requires { before < 4 }
+    requires bound { before < 4 }
     ensures { result ≡ trail_prefix before byte text }
 {
     match text {

@@ -76,7 +76,7 @@ fn pair(lead: u8, trail: u8) -> Option<char>
 
 /// Returns the character of 8F and two bytes. The first of these is one of two.
 fn triple(lead: u8, trail: u8) -> Option<char>
-    requires { euc lead ≡ true }
+    requires lead { euc lead ≡ true }
     ensures { result ≡ euc_jp_triple_char lead trail }
 {
     if is_euc_byte(trail) {

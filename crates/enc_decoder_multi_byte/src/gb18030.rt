@@ -59,7 +59,7 @@ fn single(byte: u8) -> Option<char>
 
 /// Returns the character of two bytes.
 fn pair(lead: u8, trail: u8) -> Option<char>
-    requires { is_gb18030_lead lead ≡ true }
+    requires lead { is_gb18030_lead lead ≡ true }
     ensures { result ≡ gb18030_pair_char lead trail }
 {
     if !is_trail(trail) {
@@ -96,7 +96,7 @@ fn pointer(first: u8, second: u8, third: u8, fourth: u8) -> u32
 
 /// Classifies the byte after a lead byte.
 fn read_second(lead: u8, byte: u8) -> Prefix
-    requires { is_gb18030_lead lead ≡ true }
+    requires lead { is_gb18030_lead lead ≡ true }
     ensures { result ≡ gb18030_prefix (lead ∷ byte ∷ []) }
 {
     if is_digit(byte) {

@@ -6,7 +6,7 @@ ghost use Rattle.enc_decoder_multi_byte.specs.Katakana.{katakana_of_byte as kata
 
 /// Returns the half-width katakana of a byte from A1 to DF.
 pub fn katakana(byte: u8) -> char
-    requires { is_katakana_byte byte ≡ true }
+    requires katakana { is_katakana_byte byte ≡ true }
     ensures { result ≡ katakana_of byte }
 {
     char::from_u32(0xFF61 + (byte as u32 - 0xA1)).unwrap()

@@ -40,7 +40,7 @@ pub trait MultiByte: Copy {
 
     /// Returns the kind of an incomplete prefix with one byte more.
     fn classify(pending: Pending, byte: u8) -> Prefix
-        requires { AreIncomplete prefix [] (bytes_of_pending pending) }
+        requires incomplete { AreIncomplete prefix [] (bytes_of_pending pending) }
         ensures { result ≡ prefix (bytes_of_pending pending ++ byte ∷ []) };
 
     /// Returns how many characters of a run are written one by one: more than most runs of random

@@ -78,7 +78,7 @@ fn well_formed_tail_len(lead: u8, after: &[u8]) -> u8
 
 /// Returns the character of a well-formed sequence.
 fn character_of(lead: u8, after: &[u8]) -> char
-    requires { reach_of lead after.now + 1 ≡ len_by_lead lead }
+    requires whole { reach_of lead after.now + 1 ≡ len_by_lead lead }
     ensures { result ≡ scalar_of (lead ∷ take (reach_of lead after.now) after.now) }
 {
     match sequence_len(lead) {
@@ -91,7 +91,7 @@ fn character_of(lead: u8, after: &[u8]) -> char
 
 /// Returns the sequence at the front, by the rule.
 fn first_sequence(rest: &[u8]) -> Found
-    requires { 0 < length rest.now }
+    requires some { 0 < length rest.now }
     ensures len { result.len ≡ (utf_8_rule 0 (slice_index rest.now 0) (drop 1 rest.now)).more + 1 }
     ensures character { (utf_8_rule 0 (slice_index rest.now 0) (drop 1 rest.now)).text
         ≡ result.character ∷ [] }

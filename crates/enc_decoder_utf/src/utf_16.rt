@@ -160,7 +160,7 @@ fn step_second(big_endian: bool, first: u8, byte: u8) -> HandlerResult<Utf16Deco
 }
 
 fn step_third(big_endian: bool, first: u8, second: u8, byte: u8) -> HandlerResult<Utf16Decoder>
-    requires { IsTrue (begins_with_lead big_endian (Pending.Two first second)) }
+    requires lead { IsTrue (begins_with_lead big_endian (Pending.Two first second)) }
     ensures { HandlesByte utf_16_state (with_pending big_endian (Pending.Two first second)) byte
         result }
 {
@@ -178,7 +178,7 @@ fn step_fourth(
     third: u8,
     byte: u8,
 ) -> HandlerResult<Utf16Decoder>
-    requires { IsTrue (begins_with_lead big_endian (Pending.Three first second third)) }
+    requires lead { IsTrue (begins_with_lead big_endian (Pending.Three first second third)) }
     ensures { HandlesByte utf_16_state (with_pending big_endian (Pending.Three first second third))
         byte result }
 {

@@ -183,7 +183,7 @@ fn step_first(byte: u8) -> HandlerResult<Utf8Decoder>
 }
 
 fn step_second(first: u8, byte: u8) -> HandlerResult<Utf8Decoder>
-    requires { IsTrue (is_incomplete (Pending.One first)) }
+    requires incomplete { IsTrue (is_incomplete (Pending.One first)) }
     ensures { HandlesByte utf_8_state (Pending.One first) byte result }
 {
     if !is_second_byte(first, byte) {
@@ -198,7 +198,7 @@ fn step_second(first: u8, byte: u8) -> HandlerResult<Utf8Decoder>
 }
 
 fn step_third(first: u8, second: u8, byte: u8) -> HandlerResult<Utf8Decoder>
-    requires { IsTrue (is_incomplete (Pending.Two first second)) }
+    requires incomplete { IsTrue (is_incomplete (Pending.Two first second)) }
     ensures { HandlesByte utf_8_state (Pending.Two first second) byte result }
 {
     if !is_continuation(byte) {
@@ -213,7 +213,7 @@ fn step_third(first: u8, second: u8, byte: u8) -> HandlerResult<Utf8Decoder>
 }
 
 fn step_fourth(first: u8, second: u8, third: u8, byte: u8) -> HandlerResult<Utf8Decoder>
-    requires { IsTrue (is_incomplete (Pending.Three first second third)) }
+    requires incomplete { IsTrue (is_incomplete (Pending.Three first second third)) }
     ensures { HandlesByte utf_8_state (Pending.Three first second third) byte result }
 {
     if !is_continuation(byte) {

@@ -1,18 +1,21 @@
 -- Steps report the unmappable characters among those that they read, each as its reported
 -- character.
 use Rattle.std.proofs.Common.{◌≡◌, ℕ, Bool, true, false, not, ◌||◌, Option, Some, None, is_some, List, [], ◌∷◌, ◌++◌}
-use Rattle.std.proofs.Common.{refl, ap, ◌∙◌, sym, if◌then◌else◌}
+use Rattle.std.proofs.Common.{refl, ap, ◌∙◌, sym, if◌then◌else◌, append-nil}
 use Rattle.std.proofs.lemmas.List.{append_cancel_right}
+use Rattle.enc_units.specs.declared.encoder_result.EncoderResult.TheVariants.{Unmappable}
 use Rattle.enc_encoder.specs.declared.character_set.CharacterSet.{CharacterSet}
 use Rattle.enc_encoder.specs.declared.character_set.CharacterSet.TheVariants.{Ascii}
 use Rattle.enc_encoder.specs.EncoderRule.{EncoderRule, RawEncoderState, set_for}
 use Rattle.enc_encoder.specs.Steps.{Step, steps_of, steps_from_state, step_chars, any_reported, escape_steps_before}
 use Rattle.enc_encoder.specs.Steps.{escape_step, char_step, first_written_char, steps_at_end}
+use Rattle.enc_encoder.specs.Call.{EncoderStops}
 use Rattle.enc_encoder.specs.Writes.{Leaves}
 use Rattle.enc_encoder.specs.ErrorMode.{CallInMode, IsCallInMode, Html, MapsEveryCharacter}
 use Rattle.std.proofs.Math.Bool.{or_assoc}
 use Rattle.enc_encoder.proofs.StepLemmas.{joined-append}
 use Rattle.enc_encoder.proofs.LeavesLemmas.{leaves_in_mode}
+use Rattle.enc_encoder.proofs.TextLemmas.{parted}
 use Rattle.enc_encoder.specs.Unmappable.{any_unmappable, report_for, reports_of}
 
 abbrev pub reports_by : Option ℕ → List ℕ
@@ -77,11 +80,11 @@ reports_are {last} {old} {new} {src} {rest} {done} leaves =
 
 -- whether there is one
 
-abbrev some_in : List ℕ → Bool
+abbrev pub some_in : List ℕ → Bool
 some_in [] = false
 some_in (c ∷ t) = true
 
-any_in : (ps : List Step) → any_reported ps ≡ some_in (reports_in ps)
+pub any_in : (ps : List Step) → any_reported ps ≡ some_in (reports_in ps)
 any_in [] = refl
 any_in (p ∷ ps) = rw (any_in ps) (elim p.report as (λ r. (is_some r || some_in (reports_in ps))
     ≡ some_in (reports_by r ++ reports_in ps)) [ None ↦ refl | Some c ↦ refl ])
@@ -97,6 +100,23 @@ pub any_reported_is : {last : Bool} {old new : RawEncoderState} {src rest : List
     → any_reported done ≡ any_unmappable old.rule (step_chars done)
 any_reported_is {old = old} {done = done} leaves =
     any_in done ∙ ap some_in (reports_are leaves) ∙ sym (any_of old.rule (step_chars done))
+
+-- the character that a call without replacement reports
+
+pub none_in : (ps : List Step) → any_reported ps ≡ false → reports_in ps ≡ []
+none_in [] e = refl
+none_in (p ∷ ps) e =
+    let both = parted p.report (any_reported ps) e in
+    ap (λ r. reports_by r ++ reports_in ps) both.0 ∙ none_in ps both.1
+
+pub one_in : (new : RawEncoderState) (rest : List ℕ) (last : Bool) (room : ℕ) {c : ℕ}
+    {done : List Step} → EncoderStops new rest last room done (Unmappable c)
+    → reports_in done ≡ c ∷ []
+one_in new rest last room stops =
+    ap reports_in stops.then_report ∙ reports_in-append stops.before (stops.report ∷ [])
+    ∙ ap (λ t. t ++ (reports_by stops.report.report ++ []))
+    (none_in stops.before stops.none_reported)
+    ∙ append-nil (reports_by stops.report.report) ∙ ap reports_by stops.reported
 
 -- whether a call writes a reference
 pub replaced_is : {units_of : ℕ → List ℕ} {old new : RawEncoderState} {rest : List ℕ}

@@ -19,7 +19,7 @@ pub trait CharEncoder: Copy {
     /// The run need not be maximal: by default it is empty.
     #[inline(always)]
     fn write_run<C: Chars>(self, src: &mut C, dst: &mut [u8], from: usize) -> usize
-        requires { from ≤ length dst.old }
+        requires room { from ≤ length dst.old }
         ensures { WritesRun (state self) (C.rest src.old) (C.rest src.new) dst.old dst.new from
             result }
     {

@@ -45,7 +45,7 @@ fn what_comes<E: CharEncoder, C: Chars>(encoder: E, src: &C, last: bool) -> Opti
 /// do not fit.
 #[inline(always)]
 fn put(dst: &mut [u8], written: usize, bytes: Bytes) -> bool
-    requires { written ≤ length dst.old }
+    requires room { written ≤ length dst.old }
     ensures count { bytes.len ≡ length (byte_list bytes) }
     ensures fits { IsTrue result → written + length (byte_list bytes) ≤ length dst.old }
     ensures full { IsFalse result → length dst.old < written + length (byte_list bytes) }
@@ -87,7 +87,7 @@ pub fn run<E: CharEncoder, C: Chars>(
     dst: &mut [u8],
     last: bool,
 ) -> EncoderStop
-    requires { IsLawfulEncoderRule (E.state encoder.old).rule }
+    requires lawful { IsLawfulEncoderRule (E.state encoder.old).rule }
     ensures { EncoderCallInto C.units_of last
         (place (E.state encoder.old) (C.rest src.old) dst.old 0)
         (place (E.state encoder.new) (C.rest src.new) dst.new result.written)

@@ -75,7 +75,7 @@ fn with_five_digits(number: u32) -> [u8; 8]
 /// Returns its length in bytes. The number of nearly every character has four or five digits: their
 /// references are stored as a whole.
 pub fn put_reference(c: char, dst: &mut [u8], written: usize) -> usize
-    requires { written + 10 ≤ length dst.old }
+    requires room { written + 10 ≤ length dst.old }
     ensures len { result ≡ length (reference_to c) }
     ensures bound { result ≤ 10 }
     ensures onto { dst.new ≡ take written dst.old

@@ -43,7 +43,7 @@ pub fn encode_in_mode<E: RawEncoder, C: Chars>(
     last: bool,
     mode: ErrorMode,
 ) -> EncoderOutcome
-    requires { mode ≡ HtmlOfMappable → MapsEveryCharacter (E.state encoder.old).rule }
+    requires mappable { mode ≡ HtmlOfMappable → MapsEveryCharacter (E.state encoder.old).rule }
     ensures within { result.written ≤ length dst.old }
     ensures rest { drop result.written dst.new ≡ drop result.written dst.old }
     ensures call { EncoderCallInMode C.units_of (mode_of mode)

@@ -27,7 +27,7 @@ pub trait Repertoire: Copy {
 
     /// Returns the bytes of a character beyond ASCII, or `None` if it is unmappable.
     fn bytes_beyond_ascii(self, c: char) -> Option<Bytes>
-        requires { 0x80 ≤ c }
+        requires beyond_ascii { 0x80 ≤ c }
         ensures { AreBytesOf (bytes_for self c) result };
 
     /// Returns whether every character is written as its UTF-8, or false, as it does by default.
@@ -51,7 +51,7 @@ pub trait Repertoire: Copy {
     /// byte, or 0, as it does by default. U+07FF has none.
     #[inline(always)]
     fn unit_byte(self, unit: u16) -> u8
-        requires { unit < 0x800 }
+        requires bound { unit < 0x800 }
         ensures bytes { 0 < result → bytes_for self unit ≡ Some (result ∷ []) }
         ensures last { unit ≡ 0x7FF → result ≡ 0 }
     {

@@ -32,7 +32,7 @@ pub trait DoubleByteIndex {
     /// The word has the bytes, the first lowest, and their number in the highest byte. 0 if the
     /// place is empty or the character has four bytes. One load.
     fn word(place: usize) -> u32
-        requires { place < grid_len shape }
+        requires place { place < grid_len shape }
         ensures { 0 < result → HasWord (grid_char shape place) result };
 
     /// Returns the UTF-16 code unit of the character at a place.
@@ -40,6 +40,6 @@ pub trait DoubleByteIndex {
     /// 0 if the place is empty or the character has two code units. At place 0 it is the code unit
     /// of U+0000, which is 0 too. One load.
     fn unit(place: usize) -> u16
-        requires { place < grid_len shape }
+        requires place { place < grid_len shape }
         ensures { 0 < result → (grid_char shape place ≡ Some result) × IsScalar result };
 }

@@ -10,7 +10,7 @@ use crate::table::{Planes, character_after};
 ///
 /// - `runs`: ascend, and none overlaps another.
 pub fn run_with(runs: &[(u32, u32, u32)], number: u32) -> Option<(u32, u32, u32)>
-    requires { are_ascending_runs 0 runs.now ≡ true }
+    requires ascending { are_ascending_runs 0 runs.now ≡ true }
     ensures first { result ≡ run_with_pointer runs.now number }
     ensures begins { IfSome result (λ run. run.0 ≤ number) }
 {
@@ -36,7 +36,7 @@ pub(crate) fn character_among(
     runs: &[(u32, u32, u32)],
     pointer: u32,
 ) -> Option<char>
-    requires { are_ascending_runs 0 runs.now ≡ true }
+    requires ascending { are_ascending_runs 0 runs.now ≡ true }
     ensures { result ≡ index_at planes runs.now pointer }
 {
     match run_with(runs, pointer) {

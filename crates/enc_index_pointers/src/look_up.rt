@@ -6,7 +6,7 @@ ghost use Rattle.enc_index_pointers.specs.Pages.{pointer_in_pages};
 /// Returns the pointer of a character, if it is below `bound`.
 #[inline(always)]
 pub(crate) fn pointer_in(page_of: &[u16], pointers: &[u16], bound: u32, c: char) -> Option<u32>
-    requires { bound ≤ 0xFFFF }
+    requires bound { bound ≤ 0xFFFF }
     ensures value { result ≡ pointer_in_pages page_of.now pointers.now bound c }
     ensures bound { IfSome result (λ p. p < bound) }
 {
@@ -28,7 +28,7 @@ pub(crate) fn pointer_in(page_of: &[u16], pointers: &[u16], bound: u32, c: char)
 /// Returns the same from tables of bytes.
 #[inline(always)]
 pub(crate) fn pointer_in_bytes(page_of: &[u8], pointers: &[u8], bound: u32, c: char) -> Option<u32>
-    requires { bound ≤ 0xFFFF }
+    requires bound { bound ≤ 0xFFFF }
     ensures value { result ≡ pointer_in_pages page_of.now pointers.now bound c }
     ensures bound { IfSome result (λ p. p < bound) }
 {
@@ -51,7 +51,7 @@ pub(crate) fn pointer_in_bytes(page_of: &[u8], pointers: &[u8], bound: u32, c: c
 /// address.
 #[inline(always)]
 pub(crate) fn byte_in(bytes: &[u8], unit: u16) -> u8
-    requires { unit < length bytes.now }
+    requires within { unit < length bytes.now }
     ensures { result ≡ get_or bytes.now unit 0 }
 {
     bytes[unit as usize]

@@ -33,7 +33,7 @@ fn compare(label: &[u8], word: &[u8]) -> Ordering
 ///
 /// - `table`: ascends.
 fn search(table: &[&str], word: &[u8]) -> Option<usize>
-    requires { are_ascending_words (texts_of table.now) ≡ true }
+    requires ascending { are_ascending_words (texts_of table.now) ≡ true }
     ensures place { result ≡ word_place (texts_of table.now) word.now }
     ensures within { IfSome result (λ place. place < length table.now) }
 {

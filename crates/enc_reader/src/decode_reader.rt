@@ -5,7 +5,6 @@ ghost use Rattle.std.specs.Prelude.{IsUtf8, Option, Some};
 ghost use Rattle.std.specs.Prelude.{None, IfOk, OnOk, OnErr, IsErrOf, unwrap_or, IfErr};
 ghost use Rattle.enc_units.specs.Validity.{IsWellFormedUtf8};
 ghost use Rattle.enc_stream.specs.declared.bom.BomHandling.TheVariants.{Sniff};
-ghost use Rattle.enc_stream.specs.Decoding.{fresh_decoder};
 ghost use Rattle.enc_stream.specs.declared.constants.TheConstants.{UTF_8};
 ghost use Rattle.std.specs.Char.{encode_utf8};
 ghost use Rattle.std.specs.Io.KnownBytes.{IsAtEnd};
@@ -177,17 +176,6 @@ fn is_cut(bytes: &[u8]) -> bool {
     }
 }
 
-/// Returns a decoder that looks for the byte order marks of `handling`. It has read nothing.
-fn new_decoder(encoding: Encoding, handling: BomHandling) -> Decoder
-    ensures { result ≡ fresh_decoder handling encoding }
-{
-    match handling {
-        BomHandling::Off => encoding.new_decoder_without_bom_handling(),
-        BomHandling::Sniff => encoding.new_decoder(),
-        BomHandling::Remove => encoding.new_decoder_with_bom_removal(),
-    }
-}
-
 /// Returns the length of the longest prefix that is well-formed UTF-8, sooner if all is ASCII.
 fn utf_8_len(bytes: &[u8]) -> usize
     ensures within { result ≤ length bytes.now }
@@ -313,7 +301,7 @@ impl<'a, R: Source> DecodeReader<'a, R> {
         let failed = reader.failed();
         DecodeReader {
             reader,
-            decoder: new_decoder(encoding, handling),
+            decoder: encoding.new_decoder_with_bom_handling(handling),
             input,
             filled: 0,
             at: 0,

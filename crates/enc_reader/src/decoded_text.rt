@@ -77,7 +77,7 @@ impl<'a, R: Source> DecodedText<'a, R> {
 
     /// Takes the first bytes of the text that is held.
     fn advance(&mut self, amount: usize)
-        requires { amount ≤ self.old.handed.len - self.old.at }
+        requires within { amount ≤ self.old.handed.len - self.old.at }
         ensures held { (text_state_of self.new).held ≡ drop amount (text_state_of self.old).held }
         ensures reader { self.new.reader ≡ self.old.reader }
     {

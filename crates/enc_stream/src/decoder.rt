@@ -67,7 +67,7 @@ impl fmt::Debug for Decoder {
 
 /// Returns why a call with replacement stopped, which reports nothing.
 fn unreported(stop: DecoderResult) -> CoderResult
-    requires { (l a : ℕ) → stop ≡ DecoderResult.Malformed l a → ⊥ }
+    requires none_malformed { (l a : ℕ) → stop ≡ DecoderResult.Malformed l a → ⊥ }
     ensures { decoder_result_of result ≡ stop }
 {
     match stop {

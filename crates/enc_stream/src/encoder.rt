@@ -101,7 +101,7 @@ impl Encoding {
 
 /// Returns why a call that writes references stopped.
 fn stop(result_of_call: EncoderResult) -> CoderResult
-    requires { (c : ℕ) → result_of_call ≡ EncoderResult.Unmappable c → ⊥ }
+    requires none_unmappable { (c : ℕ) → result_of_call ≡ EncoderResult.Unmappable c → ⊥ }
     ensures { encoder_result_of result ≡ result_of_call }
 {
     match result_of_call {

@@ -34,7 +34,7 @@ pub(crate) trait BufferUnit: Copy {
 
     /// Stores a character after the first `at` units of a buffer. Returns its end.
     fn store_char(buffer: &mut [Self], at: usize, character: char) -> usize
-        requires { at + 4 ≤ length (units buffer.old) }
+        requires room { at + 4 ≤ length (units buffer.old) }
         ensures bound { result ≤ at + 4 }
         ensures scalar { IsScalar character }
         ensures len { length (units buffer.new) ≡ length (units buffer.old) }

@@ -36,7 +36,7 @@ pub trait Chars {
 
     /// Reads the next character. Condition: the input is not at its end.
     fn advance(&mut self)
-        requires { rest self.old ≢ [] }
+        requires some { rest self.old ≢ [] }
         ensures { rest self.new ≡ drop 1 (rest self.old) };
 
     /// Reads the first characters and writes their bytes to a slice, from `from` on.
@@ -45,7 +45,7 @@ pub trait Chars {
     ///
     /// The run need not be maximal: it may be empty, as it is by default.
     fn write_mapped<M: Mapping>(&mut self, mapping: M, dst: &mut [u8], from: usize) -> usize
-        requires { from ≤ length dst.old }
+        requires room { from ≤ length dst.old }
         ensures { WritesMapped (M.means mapping) (rest self.old) (rest self.new) dst.old dst.new
             from result }
     {

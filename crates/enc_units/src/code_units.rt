@@ -134,7 +134,7 @@ fn store_words(buffer: &mut [u8], at: usize, words: [u32; 8], len: usize) -> usi
 /// buffer. Returns their number and the end of their UTF-8.
 #[inline(always)]
 pub(crate) fn store_scalars(buffer: &mut [u8], at: usize, units: u16x8) -> (usize, usize)
-    requires { at + 32 ≤ length buffer.old }
+    requires room { at + 32 ≤ length buffer.old }
     ensures few { result.0 ≤ 8 }
     ensures bound { result.1 ≤ at + 32 }
     ensures len { length buffer.new ≡ length buffer.old }

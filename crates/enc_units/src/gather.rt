@@ -178,7 +178,7 @@ pub(crate) fn store_word(buffer: &mut [u8], at: usize, word: u32) -> usize
 /// Stores the code units of a character after the first `at` of a buffer. Returns their end.
 #[inline(always)]
 pub(crate) fn store_units(buffer: &mut [u16], at: usize, character: char) -> usize
-    requires { at + 2 ≤ length buffer.old }
+    requires room { at + 2 ≤ length buffer.old }
     ensures end { result ≡ at + length (encode_utf16 character) }
     ensures bound { result ≤ at + 2 }
     ensures scalar { IsScalar character }

@@ -15,7 +15,7 @@ const PLACES: [u8; 16] = [0, 1, 2, 3, 4, 5, 6, 7, 8, 9, 10, 11, 12, 13, 14, 15];
 /// Writes up to four bytes, and returns their number. The bytes after them are unchanged.
 #[inline(never)]
 fn put_any(dst: &mut [u8], at: usize, bytes: Bytes) -> usize
-    requires { at + 4 ≤ length dst.old }
+    requires room { at + 4 ≤ length dst.old }
     ensures count { result ≡ length (byte_list bytes) }
     ensures few { result ≤ 4 }
     ensures put { dst.new ≡ take at dst.old ++ (byte_list bytes ++ drop (at + result) dst.old) }
@@ -28,7 +28,7 @@ fn put_any(dst: &mut [u8], at: usize, bytes: Bytes) -> usize
 /// array.
 #[inline(always)]
 pub(crate) fn put_bytes(dst: &mut [u8], at: usize, bytes: Bytes) -> usize
-    requires { at + 4 ≤ length dst.old }
+    requires room { at + 4 ≤ length dst.old }
     ensures count { result ≡ length (byte_list bytes) }
     ensures few { result ≤ 4 }
     ensures put { dst.new ≡ take at dst.old ++ (byte_list bytes ++ drop (at + result) dst.old) }

@@ -17,7 +17,7 @@ pub trait Mapping: Copy {
     ///
     /// Condition: it is beyond ASCII.
     fn bytes_in_run(self, c: char) -> Option<Bytes>
-        requires { 0x80 ≤ c }
+        requires beyond_ascii { 0x80 ≤ c }
         ensures { IfSome result (λ b. means self (byte_list b) c) };
 
     /// Returns whether a byte is ASCII written as itself, or false.
@@ -62,7 +62,7 @@ pub trait Mapping: Copy {
     /// character is below U+0800.
     #[inline(always)]
     fn unit_byte(self, unit: u16) -> u8
-        requires { unit < 0x800 }
+        requires bound { unit < 0x800 }
         ensures means { 0 < result → means self (result ∷ []) unit }
         ensures last { unit ≡ 0x7FF → result ≡ 0 }
     {

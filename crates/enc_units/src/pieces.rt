@@ -23,7 +23,7 @@ pub trait Pieces: Copy {
     ///
     /// `None` if no character is known to begin there.
     fn piece(self, src: &[u8], at: usize) -> Option<(char, usize)>
-        requires { at < length src.now }
+        requires within { at < length src.now }
         ensures some { IfSome result (λ p. 0 < p.1) }
         ensures within { IfSome result (λ p. p.1 ≤ length (drop at src.now)) }
         ensures means { IfSome result (λ p. means self (take p.1 (drop at src.now)) p.0) };
@@ -90,7 +90,7 @@ pub trait Pieces: Copy {
     /// The word is that of `word`. 0 if there is no character, or none that is known. One load.
     #[inline(always)]
     fn word_at(self, place: u16) -> u32
-        requires { IsPlace (stands_for self) place }
+        requires place { IsPlace (stands_for self) place }
         ensures { 0 < result → (bytes : List ℕ) → stands_for self place bytes
             → MeansWord (means self) bytes result }
     {
@@ -102,7 +102,7 @@ pub trait Pieces: Copy {
     /// Returns the same character as a code unit of UTF-16, or 0.
     #[inline(always)]
     fn unit_at(self, place: u16) -> u16
-        requires { IsPlace (stands_for self) place }
+        requires place { IsPlace (stands_for self) place }
         ensures { 0 < result → (bytes : List ℕ) → stands_for self place bytes
             → MeansUnit (means self) bytes result }
     {

@@ -52,7 +52,7 @@ pub fn numbers_in(bytes: u8x16, first: u8, last: u8, number: u8, others: u8x16) 
 /// of single bytes.
 #[inline(always)]
 pub fn places_at(rows: u8x16, columns: u8x16, row_len: u16) -> u16x16
-    requires { row_len < 0xFF }
+    requires bound { row_len < 0xFF }
     ensures { (i : ℕ) → i < 16 → slice_index result i ≡
         0x100 + slice_index rows i * row_len + slice_index columns i }
 {

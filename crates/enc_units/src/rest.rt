@@ -8,7 +8,7 @@ ghost use Rattle.enc_units.specs.Rest.{without_continuations};
 /// They are the rest of a character whose first bytes were overwritten. All other bytes are
 /// unchanged. Condition: there are at least `at` bytes.
 pub fn clear_rest(dst: &mut [u8], at: usize)
-    requires { at ≤ length dst.old }
+    requires room { at ≤ length dst.old }
     ensures front { take at dst.new ≡ take at dst.old }
     ensures rest { drop at dst.new ≡ without_continuations (drop at dst.old) }
     ensures len { length dst.new ≡ length dst.old }

@@ -61,7 +61,7 @@ fn store_bytes<P: Pieces>(
 /// `most`.
 #[inline(always)]
 pub(crate) fn ascii_from(lanes: u8x64, from: usize, most: usize) -> usize
-    requires { from + most < 64 }
+    requires bound { from + most < 64 }
     ensures bound { result ≤ most }
     ensures ascii { AreAscii (take result (drop from lanes)) }
 {

@@ -168,7 +168,7 @@ fn put_char<M: Mapping>(mapping: M, src: &[u16], dst: &mut [u8], at: usize) -> (
 /// Returns the number of bytes.
 #[inline(always)]
 fn put_strides<M: Mapping>(mapping: M, src: &[u16], dst: &mut [u8], at: usize) -> usize
-    requires { at ≤ length dst.old }
+    requires room { at ≤ length dst.old }
     ensures { WritesThemselves (M.means mapping) src.now dst.old dst.new at result }
 {
     // most texts that are not ASCII show it here
@@ -245,7 +245,7 @@ pub(crate) fn write_utf16<M: Mapping>(
     dst: &mut [u8],
     from: usize,
 ) -> (usize, usize)
-    requires { from ≤ length dst.old }
+    requires room { from ≤ length dst.old }
     ensures { WritesFront utf16_lossy_chars AreAnyUnits (M.means mapping) src.now dst.old dst.new
         from
         result.0 result.1 }

@@ -77,7 +77,7 @@ impl<'a> Utf16Slice<'a> {
     /// length in bytes.
     #[inline(always)]
     fn append_gathered<G: Gather>(&mut self, by: &G, buffer: &mut [u16], src: &[u8]) -> usize
-        requires { G.ready by.now }
+        requires ready { G.ready by.now }
         ensures { PutsPieces encode_utf16 (G.means by.now)
             (borrowed_output self.old.len self.old.dst)
             (borrowed_output self.new.len self.new.dst) src.now result }

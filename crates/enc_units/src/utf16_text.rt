@@ -92,7 +92,7 @@ pub(crate) fn put_text<M: Mapping>(
     dst: &mut [u8],
     at: usize,
 ) -> (usize, usize)
-    requires { at ≤ length dst.old }
+    requires room { at ≤ length dst.old }
     ensures { WritesFront utf16_lossy_chars AreAnyUnits (M.means mapping) src.now dst.old dst.new at
         result.0 result.1 }
 {

@@ -75,7 +75,7 @@ fn chars_len(src: &[u8]) -> usize
 /// Returns whether no sequence that begins in three bytes requires a byte after them.
 #[inline(always)]
 fn is_between(src: &[u8], at: usize) -> bool
-    requires { at + 3 ≤ length src.now }
+    requires bytes { at + 3 ≤ length src.now }
     ensures { IsTrue result → IsCharBoundaryAfter src.now at }
 {
     src[at] < 0xF0 && src[at + 1] < 0xE0 && src[at + 2] < 0xC0
@@ -134,7 +134,7 @@ fn faults(third: u8x16, second: u8x16, first: u8x16, bytes: u8x16) -> u8x16
 /// Returns the faults of the sixteen bytes after the three at `at`.
 #[inline(always)]
 fn block_faults(src: &[u8], at: usize) -> u8x16
-    requires { at + 19 ≤ length src.now }
+    requires bytes { at + 19 ≤ length src.now }
     ensures { (k : ℕ) → k < 16 → slice_index result k ≡ 0 → CanFollowBytesAt src.now (at + k) }
 {
     faults(
@@ -166,7 +166,7 @@ fn are_none(faults: u8x16) -> bool
 /// it.
 #[inline(always)]
 fn block_follows(src: &[u8], at: usize) -> bool
-    requires { at + 19 ≤ length src.now }
+    requires bytes { at + 19 ≤ length src.now }
     ensures { IsTrue result → (k : ℕ) → at ≤ k → k < at + 16 → CanFollowBytesAt src.now k }
 {
     are_none(block_faults(src, at))
@@ -175,7 +175,7 @@ fn block_follows(src: &[u8], at: usize) -> bool
 /// Returns whether each of the 64 bytes after the three at `at` may follow the three before it.
 #[inline(always)]
 fn four_blocks_follow(src: &[u8], at: usize) -> bool
-    requires { at + 67 ≤ length src.now }
+    requires bytes { at + 67 ≤ length src.now }
     ensures { IsTrue result → (k : ℕ) → at ≤ k → k < at + 64 → CanFollowBytesAt src.now k }
 {
     let front = both_faults(block_faults(src, at), block_faults(src, at + 16));
@@ -226,7 +226,7 @@ fn after_three_zeros(bytes: u8x16) -> u8x16
 /// begins a character, as after zeros.
 #[inline(always)]
 fn start_follows(src: &[u8]) -> bool
-    requires { 16 ≤ length src.now }
+    requires bytes { 16 ≤ length src.now }
     ensures { IsTrue result → (k : ℕ) → k < 16 → CanFollowBytesAt (0 ∷ 0 ∷ 0 ∷ src.now) k }
 {
     let bytes = u8x16::from_slice(src);
@@ -243,7 +243,7 @@ fn start_follows(src: &[u8]) -> bool
 /// byte.
 #[inline(always)]
 fn ascii_follows(src: &[u8], at: usize) -> bool
-    requires { at + 67 ≤ length src.now }
+    requires bytes { at + 67 ≤ length src.now }
     ensures { IsTrue result → (k : ℕ) → at ≤ k → k < at + 64 → CanFollowBytesAt src.now k }
 {
     are_all_ascii(u8x64::from_slice(&src[at + 3..])) && is_between(src, at)
@@ -253,7 +253,7 @@ fn ascii_follows(src: &[u8], at: usize) -> bool
 /// ASCII or not.
 #[inline(always)]
 fn stride_follows(src: &[u8], at: usize) -> bool
-    requires { at + 67 ≤ length src.now }
+    requires bytes { at + 67 ≤ length src.now }
     ensures { IsTrue result → (k : ℕ) → at ≤ k → k < at + 64 → CanFollowBytesAt src.now k }
 {
     ascii_follows(src, at) || four_blocks_follow(src, at)
@@ -262,7 +262,7 @@ fn stride_follows(src: &[u8], at: usize) -> bool
 /// Returns a number of bytes after the first three that may follow one another, found in blocks.
 #[inline(always)]
 fn following(src: &[u8]) -> usize
-    requires { 3 ≤ length src.now }
+    requires bytes { 3 ≤ length src.now }
     ensures within { result + 3 ≤ length src.now }
     ensures follow { (k : ℕ) → k < result → CanFollowBytesAt src.now k }
 {
@@ -283,7 +283,7 @@ fn following(src: &[u8]) -> usize
 /// unless these three end a character.
 #[inline(always)]
 fn blocks_len(src: &[u8]) -> usize
-    requires { 3 ≤ length src.now }
+    requires bytes { 3 ≤ length src.now }
     ensures within { result + 3 ≤ length src.now }
     ensures utf8 { IsWellFormedUtf8 (take result (drop 3 src.now)) }
 {
@@ -301,7 +301,7 @@ fn blocks_len(src: &[u8]) -> usize
 /// than sixteen bytes follow the blocks, the last block is the last sixteen bytes.
 #[inline(always)]
 fn start_following(src: &[u8]) -> usize
-    requires { 16 ≤ length src.now }
+    requires bytes { 16 ≤ length src.now }
     ensures within { result ≤ length src.now }
     ensures follow { (k : ℕ) → k < result → CanFollowBytesAt (0 ∷ 0 ∷ 0 ∷ src.now) k }
 {

@@ -61,7 +61,7 @@ fn leads_of(bytes: u8x16) -> u64
 /// Returns what sixteen bytes from `from` on begin.
 #[inline(always)]
 fn lanes_at(src: &[u8], from: usize) -> Lanes
-    requires { from + 17 ≤ length src.now }
+    requires bytes { from + 17 ≤ length src.now }
     ensures { AreLanesOf (drop from src.now) result.units result.leads }
 {
     let first = u8x16::from_slice(&src[from..]);

@@ -126,7 +126,7 @@ fn put_char<M: Mapping>(mapping: M, src: &[u8], dst: &mut [u8], at: usize) -> (u
 /// Returns the number of bytes.
 #[inline(always)]
 fn put_strides<M: Mapping>(mapping: M, src: &[u8], dst: &mut [u8], at: usize) -> usize
-    requires { at ≤ length dst.old }
+    requires room { at ≤ length dst.old }
     ensures { WritesThemselves (M.means mapping) src.now dst.old dst.new at result }
 {
     // most texts that are not ASCII show it here

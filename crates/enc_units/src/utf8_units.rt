@@ -94,7 +94,7 @@ fn are_narrow(bytes: u8x16) -> bool
 /// bytes that begin two before them.
 #[inline(always)]
 fn units_of(before: u8x16, src: &[u8], at: usize) -> u16x16
-    requires { at + 18 ≤ length src.now }
+    requires bytes { at + 18 ≤ length src.now }
     ensures { (k : ℕ) → k < 16 →
         IsTrue (gives_unit (slice_index before k) (slice_index src.now (at + k))) →
         slice_index result k ≡ code_unit_of_byte (slice_index src.now (at + k))
@@ -123,7 +123,7 @@ fn marks_of(before: u8x16, bytes: u8x16) -> u64
 /// Returns the bytes at these places.
 #[inline(always)]
 pub(crate) fn pick(bytes: u8x16, places: u8x16) -> u8x16
-    requires { (k : ℕ) → k < 16 → slice_index places k < 16 }
+    requires places { (k : ℕ) → k < 16 → slice_index places k < 16 }
     ensures list { result ≡ map (λ place. slice_index bytes place) places }
     ensures lanes { (k : ℕ) → k < 16 → slice_index result k
         ≡ slice_index bytes (slice_index places k) }
@@ -135,7 +135,7 @@ pub(crate) fn pick(bytes: u8x16, places: u8x16) -> u8x16
 /// their end.
 #[inline(always)]
 fn store_marked(buffer: &mut [u16], at: usize, units: u16x8, marks: u64) -> usize
-    requires { at + 8 ≤ length buffer.old }
+    requires room { at + 8 ≤ length buffer.old }
     ensures bound { result ≤ at + 8 }
     ensures len { length buffer.new ≡ length buffer.old }
     ensures rest { drop (at + 8) buffer.new ≡ drop (at + 8) buffer.old }
@@ -168,7 +168,7 @@ fn store_sixteen(buffer: &mut [u16], end: usize, src: &[u8], at: usize) -> usize
 /// Returns the byte two before `at`, or 0.
 #[inline(always)]
 fn byte_before(src: &[u8], at: usize) -> u8
-    requires { at < length src.now }
+    requires within { at < length src.now }
     ensures { result ≡ byte_two_before src.now at }
 {
     if at < 2 { 0 } else { src[at - 2] }
@@ -177,7 +177,7 @@ fn byte_before(src: &[u8], at: usize) -> u8
 /// Returns whether the byte at `at` gives a code unit.
 #[inline(always)]
 fn gives(src: &[u8], at: usize) -> bool
-    requires { at < length src.now }
+    requires within { at < length src.now }
     ensures { result ≡ gives_unit (byte_two_before src.now at) (slice_index src.now at) }
 {
     let byte = src[at];

@@ -13,10 +13,9 @@ use Rattle.enc_encoder.specs.Steps.{Step, any_reported, step_chars}
 use Rattle.enc_encoder.specs.Text.{reference_after}
 use Rattle.enc_encoder.specs.Unmappable.{any_unmappable, report_for, reports_of}
 use Rattle.enc_encoder.proofs.LeavesLemmas.{leaves_in_mode}
-use Rattle.enc_encoder.proofs.TextLemmas.{parted}
 use Rattle.enc_encoder.proofs.UnmappableLemmas.{any_reported_is, any_unmappable-append}
-use Rattle.enc_encoder.proofs.UnmappableLemmas.{reports_are, reports_by}
-use Rattle.enc_encoder.proofs.UnmappableLemmas.{reports_in, reports_in-append, reports_of-append}
+use Rattle.enc_encoder.proofs.UnmappableLemmas.{one_in, reports_are, reports_in}
+use Rattle.enc_encoder.proofs.UnmappableLemmas.{reports_of-append}
 use Rattle.enc_stream.specs.Encodings.{output_rule}
 use Rattle.enc_stream.specs.Encoder.{EncoderState, EncodesChunk, raw_state}
 use Rattle.enc_writer.specs.Sink.{AppendsPrefix}
@@ -37,12 +36,6 @@ none_of new rest last room done InputEmpty stops goes_on = stops.none_reported
 none_of new rest last room done OutputFull stops goes_on = stops.none_reported
 none_of new rest last room done (Unmappable c) stops goes_on = absurd (goes_on c refl)
 
-none_in : (ps : List Step) → any_reported ps ≡ false → reports_in ps ≡ []
-none_in [] e = refl
-none_in (p ∷ ps) e =
-    let both = parted p.report (any_reported ps) e in
-    ap (λ r. reports_by r ++ reports_in ps) both.0 ∙ none_in ps both.1
-
 one_of : (new : RawEncoderState) (rest : List ℕ) (last : Bool) (room : ℕ) (done : List Step)
     (r : EncoderResult) → EncoderStops new rest last room done r → (c : ℕ) → r ≡ Unmappable c
     → reports_in done ≡ c ∷ []
@@ -50,11 +43,7 @@ one_of new rest last room done InputEmpty stops c e = cc
 one_of new rest last room done OutputFull stops c e = cc
 one_of new rest last room done (Unmappable d) stops c e =
     let same : d ≡ c = cc in
-    ap reports_in stops.then_report ∙ reports_in-append stops.before (stops.report ∷ [])
-    ∙ ap (λ t. t ++ (reports_by stops.report.report ++ []))
-    (none_in stops.before stops.none_reported)
-    ∙ append-nil (reports_by stops.report.report) ∙ ap reports_by stops.reported
-    ∙ ap (λ x. x ∷ []) same
+    one_in new rest last room stops ∙ ap (λ x. x ∷ []) same
 
 -- a text without unmappable characters has no report
 none_reports : (e : EncoderRule) (t : List ℕ) → any_unmappable e t ≡ false → reports_of e t ≡ []

@@ -16,24 +16,14 @@ use Rattle.enc_units.specs.declared.encoder_result.EncoderResult.TheVariants.{In
 use Rattle.enc_encoder.specs.EncoderRule.{RawEncoderState}
 use Rattle.enc_encoder.specs.Steps.{Step, any_reported}
 use Rattle.enc_encoder.specs.Call.{EncoderStops}
-use Rattle.enc_encoder.proofs.StepLemmas.{any_reported-append}
-use Rattle.enc_encoder.proofs.TextLemmas.{parted}
 use Rattle.enc_encoder.specs.ErrorMode.{EncodeErrorMode, Fatal, Html, is_html_mode, StopsInMode}
-use Rattle.enc_encoder.proofs.UnmappableLemmas.{reports_by, reports_in, reports_in-append}
+use Rattle.enc_encoder.proofs.UnmappableLemmas.{any_in, none_in, one_in, reports_in, some_in}
 use Rattle.enc_stream.specs.Encoder.{EncoderState}
 use Rattle.enc_decoder.proofs.SequenceLemmas.{or_false}
 use Rattle.encoding_rs.specs.EncodeRun.{encode_error_mode, reported_character, is_unmappable_result}
 use Rattle.encoding_rs.specs.EncodeRun.{is_input_empty_result}
 
--- the characters that a call has reported
-
-none_in : (ps : List Step) → any_reported ps ≡ false → reports_in ps ≡ []
-none_in [] e = refl
-none_in (p ∷ ps) e =
-    let both = parted p.report (any_reported ps) e in
-    ap (λ r. reports_by r ++ reports_in ps) both.0 ∙ none_in ps both.1
-
--- the steps of a call without replacement
+-- what a call without replacement has reported, by its steps
 report_is : (new : RawEncoderState) (rest : List ℕ) (last : Bool) (room : ℕ) (done : List Step)
     (result : EncoderResult) → EncoderStops new rest last room done result
     → (reported_character result ≡ reports_in done)
@@ -43,15 +33,7 @@ report_is new rest last room done InputEmpty stops =
 report_is new rest last room done OutputFull stops =
     (sym (none_in done stops.none_reported), sym stops.none_reported)
 report_is new rest last room done (Unmappable c) stops =
-    let last_step = stops.report in (
-      sym (ap reports_in stops.then_report ∙ reports_in-append stops.before (last_step ∷ [])
-          ∙ ap (λ t. t ++ (reports_by last_step.report ++ []))
-          (none_in stops.before stops.none_reported)
-          ∙ append-nil (reports_by last_step.report) ∙ ap reports_by stops.reported),
-      sym (ap any_reported stops.then_report ∙ any_reported-append stops.before (last_step ∷ [])
-          ∙ ap (λ b. b || (is_some last_step.report || false)) stops.none_reported
-          ∙ ap (λ r. is_some r || false) stops.reported),
-    )
+    let one = one_in new rest last room stops in (sym one, sym (any_in done ∙ ap some_in one))
 
 -- the character that a call reports and its flag, by its steps
 pub report_of_call : (replace : Bool) (v : EncoderState) (new : RawEncoderState) (rest : List ℕ)

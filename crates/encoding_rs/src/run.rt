@@ -7,7 +7,7 @@ ghost use Rattle.std.specs.Char.{encode_utf8};
 ghost use Rattle.std.specs.Char.Escape.{encode_utf16};
 ghost use Rattle.std.specs.String.{string_bytes};
 ghost use Rattle.enc_units.specs.Results.{decoder_result_of};
-ghost use Rattle.enc_stream.specs.Decoding.{DecoderState, fresh_decoder, has_finished};
+ghost use Rattle.enc_stream.specs.Decoding.{DecoderState, has_finished};
 ghost use Rattle.enc_stream.specs.Decoding.{whole_encoding, whole_utf_8, whole_malformed};
 ghost use Rattle.enc_stream.specs.Faults.{whole_faults};
 ghost use Rattle.encoding_rs.specs.DecodeEnd.{CanDecodeMore};
@@ -207,17 +207,6 @@ fn note_fault(
     Ok(())
 }
 
-/// Returns a decoder that looks for the byte order marks of `handling`. It has read nothing.
-fn new_decoder(encoding: Encoding, handling: BomHandling) -> Decoder
-    ensures { result ≡ fresh_decoder handling encoding }
-{
-    match handling {
-        BomHandling::Off => encoding.new_decoder_without_bom_handling(),
-        BomHandling::Sniff => encoding.new_decoder(),
-        BomHandling::Remove => encoding.new_decoder_with_bom_removal(),
-    }
-}
-
 /// Decodes `bytes` by `calls`, in turn, with a new decoder.
 ///
 /// The decoder handles byte order marks by `handling`. Each call gets the unread bytes, at most
@@ -278,7 +267,7 @@ pub fn decode_run(
     ensures encoding { IfOk result (λ report. report.finished ≡ true
         → report.encoding ≡ whole_encoding handling encoding bytes.now) }
 {
-    let mut decoder = new_decoder(encoding, handling);
+    let mut decoder = encoding.new_decoder_with_bom_handling(handling);
     let mut text = String::new(alloc);
     let mut faults = Vec::new(alloc);
     let mut read = 0;

@@ -60,7 +60,7 @@ fn decode_in_two(
     at: usize,
     dst: &mut [u8],
 ) -> (CoderResult, usize)
-    requires { at ≤ length bytes.now }
+    requires within { at ≤ length bytes.now }
     ensures within { result.1 ≤ length dst.new }
     ensures beginning { take result.1 dst.new
         ≡ take result.1 (whole_utf_8 Sniff encoding bytes.now) }

@@ -1,18 +1,17 @@
-//! The places of all malformed sequences of a file, in any encoding: calls without replacement.
+//! The places of all malformed sequences of a file, in any encoding: reads without replacement.
 //!
 //! Those that the program prints of data/diary.txt are where Python's codec gb18030 stops.
-
-ghost use Rattle.std.specs.Prelude.{◌≡◌, ◌+◌, ◌≤◌};
 
 #[cfg(test)]
 mod tests;
 
-use encoding_rs::{DecoderResult, Encoding};
+use enc_reader::{DecodeReader, FromRead, ReadStop};
+use encoding_rs::Encoding;
 use std::alloc::Global;
 use std::io;
 use std::io::{Error, Read, Write};
 
-/// The length in bytes of the room for a piece of text, which is at least 4.
+/// The length in bytes of the buffers, for bytes of the file and for its text: at least 4.
 const LENGTH: usize = 256;
 
 /// A place in a text: the line, and the column in characters, each counted from 1.
@@ -50,20 +49,16 @@ impl Place {
     }
 }
 
-/// Returns the offsets of the first byte of a malformed sequence and of the byte after it. Its
-/// `length` bytes stand before the last `after` bytes of those read so far.
-fn ends_of_fault(read: usize, length: u8, after: u8) -> (usize, usize)
-    ensures order { result.0 ≤ result.1 }
-    ensures within { result.1 ≤ read }
-    ensures place { length + after ≤ read →
-        (result.0 + length ≡ result.1) × (result.1 + after ≡ read) }
-{
-    let end = read.saturating_sub(usize::from(after));
-    (end.saturating_sub(usize::from(length)), end)
+/// Returns the `len` bytes from an offset on.
+fn bytes_at(bytes: &[u8], offset: u64, len: u8) -> &[u8] {
+    let at = offset as usize;
+    bytes
+        .get(at..at.saturating_add(usize::from(len)))
+        .unwrap_or_default()
 }
 
 /// Writes a line for a malformed sequence: its offset in bytes, its place, and its bytes.
-fn write_fault<W: Write>(offset: usize, place: Place, bytes: &[u8], out: &mut W) -> io::Result<()> {
+fn write_fault<W: Write>(offset: u64, place: Place, bytes: &[u8], out: &mut W) -> io::Result<()> {
     let Place { line, column } = place;
     write!(out, "offset {offset}, line {line}, column {column}:")?;
     for byte in bytes {
@@ -76,28 +71,31 @@ fn write_fault<W: Write>(offset: usize, place: Place, bytes: &[u8], out: &mut W)
 ///
 /// A malformed sequence counts as one character of the text, as U+FFFD does where it is replaced.
 fn write_faults<W: Write>(bytes: &[u8], encoding: Encoding, out: &mut W) -> io::Result<usize> {
-    let mut decoder = encoding.new_decoder();
-    let mut text = [0; LENGTH];
     let mut unread = bytes;
+    let mut source = FromRead::new(&mut unread);
+    let mut input = [0; LENGTH];
+    let mut text = [0; LENGTH];
+    let mut reader = DecodeReader::new(&mut source, Some(encoding), &mut input);
     let mut place = Place::START;
     let mut count = 0usize;
-    'pieces: loop {
-        let (result, read, written) = decoder.decode_to_utf8_without_replacement(
-            unread, &mut text, true,
-        );
-        unread = &unread[read..];
+    for _ in 0..u64::MAX {
+        let (written, fault) = match reader.read_str_without_replacement(&mut text)? {
+            ReadStop::Text(0) => return Ok(count),
+            ReadStop::Text(written) => (written, None),
+            ReadStop::Malformed {
+                written,
+                offset,
+                len,
+            } => (written, Some((offset, len))),
+        };
         place = place.after_text(unsafe { str::from_utf8_unchecked(&text[..written]) });
-        match result {
-            DecoderResult::InputEmpty => return Ok(count),
-            DecoderResult::OutputFull => {}
-            DecoderResult::Malformed(length, after) => {
-                let (offset, end) = ends_of_fault(bytes.len() - unread.len(), length, after);
-                write_fault(offset, place, &bytes[offset..end], out)?;
-                place = place.after('\u{FFFD}');
-                count = count.saturating_add(1);
-            }
+        if let Some((offset, len)) = fault {
+            write_fault(offset, place, bytes_at(bytes, offset, len), out)?;
+            place = place.after('\u{FFFD}');
+            count = count.saturating_add(1);
         }
     }
+    Err(Error::other("no end"))
 }
 
 /// Reads an input, and writes a line for each malformed sequence and a line with their number.

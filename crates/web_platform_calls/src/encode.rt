@@ -37,7 +37,7 @@ fn fill_room<W: Write>(
     room: usize,
     out: &mut W,
 ) -> io::Result<()>
-    requires { room ≤ 4096 }
+    requires bound { room ≤ 4096 }
 {
     let mut bytes = [0; LENGTH];
     let dst = &mut bytes[..room];

@@ -19,7 +19,7 @@ pub type Big5Encoder = StatelessEncoder<Barring<Big5>>;
 /// Returns the second byte of a cell.
 #[inline(always)]
 fn trail(cell: u32) -> u8
-    requires { cell < 157 }
+    requires bound { cell < 157 }
     ensures { result ≡ big5_trail_byte cell }
 {
     (cell + (if cell < 0x3F { 0x40 } else { 0x62 })) as u8
@@ -28,7 +28,7 @@ fn trail(cell: u32) -> u8
 /// Returns the two bytes of a pointer.
 #[inline(always)]
 fn pair(pointer: u32) -> Bytes
-    requires { pointer < 19782 }
+    requires bound { pointer < 19782 }
     ensures { byte_list result ≡ big5_pair_bytes pointer }
 {
     two((pointer / 157 + 0x81) as u8, trail(pointer % 157))

@@ -20,7 +20,7 @@ pub type EucJpEncoder = StatelessEncoder<Barring<EucJp>>;
 /// Returns the two bytes of a pointer.
 #[inline(always)]
 fn pair(pointer: u32) -> Bytes
-    requires { pointer < 8836 }
+    requires bound { pointer < 8836 }
     ensures { byte_list result ≡ euc_jp_pair_bytes pointer }
 {
     two((pointer / 94 + 0xA1) as u8, (pointer % 94 + 0xA1) as u8)

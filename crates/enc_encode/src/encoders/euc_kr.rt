@@ -18,7 +18,7 @@ pub type EucKrEncoder = StatelessEncoder<Barring<EucKr>>;
 /// Returns the two bytes of a pointer.
 #[inline(always)]
 fn pair(pointer: u32) -> Bytes
-    requires { pointer < 23940 }
+    requires bound { pointer < 23940 }
     ensures { byte_list result ≡ euc_kr_pair_bytes pointer }
 {
     two((pointer / 190 + 0x81) as u8, (pointer % 190 + 0x41) as u8)

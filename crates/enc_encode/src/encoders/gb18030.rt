@@ -30,7 +30,7 @@ pub type Gb18030Encoder = StatelessEncoder<Barring<Gb18030>>;
 /// Returns the second byte of a cell.
 #[inline(always)]
 fn trail(cell: u32) -> u8
-    requires { cell < 190 }
+    requires bound { cell < 190 }
     ensures { result ≡ gb18030_trail_byte cell }
 {
     (cell + (if cell < 0x3F { 0x40 } else { 0x41 })) as u8
@@ -39,7 +39,7 @@ fn trail(cell: u32) -> u8
 /// Returns the two bytes of a pointer.
 #[inline(always)]
 fn pair(pointer: u32) -> Bytes
-    requires { pointer < 23940 }
+    requires bound { pointer < 23940 }
     ensures { byte_list result ≡ gb18030_pair_bytes pointer }
 {
     two((pointer / 190 + 0x81) as u8, trail(pointer % 190))
@@ -47,7 +47,7 @@ fn pair(pointer: u32) -> Bytes
 
 /// Returns the four bytes of a pointer of the ranges.
 fn four_bytes(pointer: u32) -> Bytes
-    requires { pointer < 1237576 }
+    requires bound { pointer < 1237576 }
     ensures { byte_list result ≡ gb18030_four_bytes pointer }
 {
     four(
@@ -101,7 +101,7 @@ fn row_bytes(rows: &[(char, u8, u8)], c: char) -> Option<Bytes>
 #[inline(always)]
 #[tactic(auto, using(crate::proofs::PrivateUseLemmas::by_row))]
 fn private_use_bytes(is_gbk: bool, c: char) -> Option<Bytes>
-    requires { 0xE5E5 ≤ c }
+    requires least { 0xE5E5 ≤ c }
     ensures { AreBytesOf (gb18030_other is_gbk c) result }
 {
     if c == '\u{E5E5}' {

@@ -128,7 +128,7 @@ fn is_shift(code: u32) -> bool
 /// Returns the two bytes of a pointer.
 #[inline(always)]
 fn pair(pointer: u32) -> Bytes
-    requires { pointer < 8836 }
+    requires bound { pointer < 8836 }
     ensures { byte_list result ≡ wanted_pair pointer }
 {
     two((pointer / 94 + 0x21) as u8, (pointer % 94 + 0x21) as u8)

@@ -17,7 +17,7 @@ pub fn is_halfwidth_katakana(c: char) -> bool
 /// Returns the byte of half-width katakana (JIS X 0201).
 #[inline(always)]
 pub fn katakana_byte(c: char) -> u8
-    requires { wanted_katakana c ≡ true }
+    requires katakana { wanted_katakana c ≡ true }
     ensures { result ≡ wanted_byte c }
 {
     (c as u32 - 0xFF61 + 0xA1) as u8

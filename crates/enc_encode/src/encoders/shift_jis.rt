@@ -21,7 +21,7 @@ pub type ShiftJisEncoder = StatelessEncoder<Barring<ShiftJis>>;
 /// Returns the first byte of a row.
 #[inline(always)]
 fn lead(row: u32) -> u8
-    requires { row < 60 }
+    requires bound { row < 60 }
     ensures { result ≡ shift_jis_lead_byte row }
 {
     (row + (if row < 0x1F { 0x81 } else { 0xC1 })) as u8
@@ -30,7 +30,7 @@ fn lead(row: u32) -> u8
 /// Returns the second byte of a cell.
 #[inline(always)]
 fn trail(cell: u32) -> u8
-    requires { cell < 188 }
+    requires bound { cell < 188 }
     ensures { result ≡ shift_jis_trail_byte cell }
 {
     (cell + (if cell < 0x3F { 0x40 } else { 0x41 })) as u8
@@ -39,7 +39,7 @@ fn trail(cell: u32) -> u8
 /// Returns the two bytes of a pointer.
 #[inline(always)]
 fn pair(pointer: u32) -> Bytes
-    requires { pointer < 11280 }
+    requires bound { pointer < 11280 }
     ensures { byte_list result ≡ shift_jis_pair_bytes pointer }
 {
     two(lead(pointer / 188), trail(pointer % 188))

@@ -22,7 +22,7 @@ pub type SingleByteEncoder = StatelessEncoder<Barring<SingleByte>>;
 /// Returns the byte of a pointer.
 #[inline(always)]
 fn upper(pointer: u32) -> Bytes
-    requires { pointer < 128 }
+    requires bound { pointer < 128 }
     ensures { byte_list result ≡ byte_of_pointer pointer }
 {
     one((pointer + 0x80) as u8)

@@ -13,7 +13,7 @@ use enc_index::SingleByteIndex;
 /// none. One load. Condition: the character is below U+0800.
 #[inline(always)]
 pub fn single_byte_of_unit(index: SingleByteIndex, unit: u16) -> u8
-    requires { unit < 0x800 }
+    requires bound { unit < 0x800 }
     ensures ascii { unit < 0x80 → 0 < result → result ≡ unit }
     ensures others { 0x80 ≤ unit → 0 < result
         → (0x80 ≤ result) × (single_byte_pointer index unit ≡ Some (result - 0x80)) }

@@ -82,6 +82,15 @@ impl Encoding {
     {
         Decoder::start(self, BomHandling::Off)
     }
+
+    /// Returns a decoder that looks for the byte order marks of `handling`.
+    ///
+    /// That is the one of the three above that `handling` names. The decoder has read nothing.
+    pub fn new_decoder_with_bom_handling(self, handling: BomHandling) -> Decoder
+        ensures { result ≡ fresh_decoder handling self }
+    {
+        Decoder::start(self, handling)
+    }
 }
 
 impl Decoder {

@@ -3,7 +3,7 @@ use Rattle.enc_decoder.proofs.Latin1Lemmas.{latin1_goes_on}
 use Rattle.enc_decoder.proofs.latin1.latin1_len.Goals as goal
 
 pub loop-at-init : goal.loop-at-init
-loop-at-init g c = latin1_begins c.requires
+loop-at-init g c = latin1_begins c.requires.none_pending
 
 pub returns-in_default : goal.returns-in_default
 returns-in_default g c =

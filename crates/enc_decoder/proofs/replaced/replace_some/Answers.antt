@@ -16,5 +16,6 @@ pub loop-at-preserved : goal.loop-at-preserved
 loop-at-preserved g c =
     let found = c.in-Some.ensures in
     let was_put = c.if-not-put.false in
-    one_more _ c.requires c.loop-at.invariant found.some found.within found.first (search rules)
+    one_more _ c.requires.none_pending c.loop-at.invariant found.some found.within found.first
+    (search rules)
     (sym c.put.ensures.fits ∙ was_put) (c.put.ensures.written was_put)

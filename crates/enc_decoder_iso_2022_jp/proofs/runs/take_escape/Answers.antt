@@ -7,7 +7,7 @@ use Rattle.enc_decoder_iso_2022_jp.proofs.runs.take_escape.Goals as goal
 pub returns-clause-run : goal.returns-clause-run
 returns-clause-run g c =
     takes_escape g.U.Units.units_of c.args.decoder c.with_held-next.result c.in-Some.escape
-    c.requires
+    c.requires.none_held
     (c.with_held-next.ensures ∙ ap (λ s. state_with_held s None) c.set.ensures)
     c.split_at.ensures.back
     c.in-Some.ensures

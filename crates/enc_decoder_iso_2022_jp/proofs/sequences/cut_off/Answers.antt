@@ -9,13 +9,13 @@ pub returns-in-GivenBack-clause-comes : goal.returns-in-GivenBack-clause-comes
 returns-in-GivenBack-clause-comes c =
     rw (c.in-GivenBack.is, c.show_char.ensures, c.with_held.ensures)
     (shows_given_back c.args.set c.in-GivenBack.byte _ c.one_byte_char.ensures
-    (subst (λ h. CanHold c.args.set (Some h)) c.in-GivenBack.is c.requires))
+    (subst (λ h. CanHold c.args.set (Some h)) c.in-GivenBack.is c.requires.holds))
 
 pub returns-in-Lead-clause-comes : goal.returns-in-Lead-clause-comes
 returns-in-Lead-clause-comes c =
     rw (c.in-Lead.is, c.show_char-in-Lead.ensures, c.with_held-in-Lead.ensures)
     (shows_lead c.args.set c.in-Lead.field-0
-    (subst (λ h. CanHold c.args.set (Some h)) c.in-Lead.is c.requires))
+    (subst (λ h. CanHold c.args.set (Some h)) c.in-Lead.is c.requires.holds))
 
 pub returns-in-Whole-clause-comes : goal.returns-in-Whole-clause-comes
 returns-in-Whole-clause-comes c =

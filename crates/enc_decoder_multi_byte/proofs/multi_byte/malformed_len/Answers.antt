@@ -5,7 +5,7 @@ pub returns-in-Malformed : goal.returns-in-Malformed
 returns-in-Malformed g c = inl (sym c.classify.ensures ∙ c.in-Malformed.is)
 
 pub classify-requires-2 : goal.classify-requires-2
-classify-requires-2 g c = (sym c.classify.ensures ∙ c.in-Incomplete.is, tt)
+classify-requires-2 g c = record { incomplete = (sym c.classify.ensures ∙ c.in-Incomplete.is, tt) }
 
 pub returns-in-Malformed-classify : goal.returns-in-Malformed-classify
 returns-in-Malformed-classify g c =

@@ -14,7 +14,7 @@ returns-then-more-sequence_len c =
           ∙ ap (λ x. x ∷ []) (sym c.character_of-character.ensures);
       malformed = ap (λ (h : Head). is_malformed h.kind) (sym head);
       within = front_within _ c.args.rest.now c.split_at.ensures.back
-          c.well_formed_tail_len-more.ensures.value c.sequence_len.ensures c.requires;
+          c.well_formed_tail_len-more.ensures.value c.sequence_len.ensures c.requires.some;
     }
 
 pub returns : goal.returns
@@ -26,5 +26,5 @@ returns c =
       character = ap (λ (h : Head). h.text) head;
       malformed = ap (λ (h : Head). is_malformed h.kind) (sym head);
       within = front_within _ c.args.rest.now c.split_at.ensures.back
-          c.well_formed_tail_len-more.ensures.value c.sequence_len.ensures c.requires;
+          c.well_formed_tail_len-more.ensures.value c.sequence_len.ensures c.requires.some;
     }

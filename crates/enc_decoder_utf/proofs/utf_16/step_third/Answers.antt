@@ -7,5 +7,5 @@ pub returns : goal.returns
 returns c = (
   refl,
   undetermined c.args.big_endian (Three c.args.first c.args.second c.args.byte)
-      c.requires,
+      c.requires.lead,
 )

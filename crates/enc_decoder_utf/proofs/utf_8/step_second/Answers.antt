@@ -8,7 +8,7 @@ use Rattle.enc_decoder_utf.proofs.utf_8.step_second.Goals as goal
 pub returns-then-not-is_second_byte : goal.returns-then-not-is_second_byte
 returns-then-not-is_second_byte c =
     rw c.malformed.ensures (malformed_before (One c.args.first) _ refl c.args.byte (omega arith)
-    (λ z. one_malformed _ c.args.byte z (one_wants c.args.first c.requires)
+    (λ z. one_malformed _ c.args.byte z (one_wants c.args.first c.requires.incomplete)
     (sym c.is_second_byte.ensures ∙ c.if-not-is_second_byte.true)))
 
 pub returns-then-sequence_len-eq2 : goal.returns-then-sequence_len-eq2
@@ -20,7 +20,7 @@ returns-then-sequence_len-eq2 c =
 
 pub returns-else-sequence_len-eq2 : goal.returns-else-sequence_len-eq2
 returns-else-sequence_len-eq2 c =
-    let wants = one_wants c.args.first c.requires in (
+    let wants = one_wants c.args.first c.requires.incomplete in (
       refl,
       undetermined (c.args.first ∷ c.args.byte ∷ [])
           (two_begun c.args.first c.args.byte (omega (arith, c.if-sequence_len-eq2.false))

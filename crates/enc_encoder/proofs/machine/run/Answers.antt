@@ -12,13 +12,13 @@ loop-taken-init g c = c.first_run-written.ensures c.args.last _ (omega arith)
 
 pub returns-in_default : goal.returns-in_default
 returns-in_default g c =
-    stop_empty g.C.Chars.units_of c.loop-taken.invariant c.requires c.unread-unread.ensures
+    stop_empty g.C.Chars.units_of c.loop-taken.invariant c.requires.lawful c.unread-unread.ensures
     c.unread.ensures c.in_default.ensures.0 c.in_default.ensures.1
 
 pub returns-in-Some-report : goal.returns-in-Some-report
 returns-in-Some-report g c =
     let read = report_reads c.in-Some.ensures c.in-Some-report.is c.advance.ensures in
-    stop_report g.C.Chars.units_of c.loop-taken.invariant c.requires
+    stop_report g.C.Chars.units_of c.loop-taken.invariant c.requires.lawful
     (step_leaves c.in-Some.ensures read.0) c.unread-unread.ensures c.unread-in-Some-report.ensures
     c.in-Some-report.is
     (c.in-Some.ensures.reports _ c.in-Some-report.is).1 read.1
@@ -43,7 +43,7 @@ overflow_sub-result-then-not-put g c =
 pub returns-then-not-put : goal.returns-then-not-put
 returns-then-not-put g c =
     rw (c.put.ensures.unchanged c.if-not-put.true)
-    (stop_full g.C.Chars.units_of c.loop-taken.invariant c.requires
+    (stop_full g.C.Chars.units_of c.loop-taken.invariant c.requires.lawful
     (step_leaves c.in-Some.ensures refl) c.unread-unread.ensures c.unread-then-not-put.ensures
     (no_report _ c.in_default-report.not-Some) (c.put.ensures.full c.if-not-put.true))
 

@@ -7,7 +7,7 @@ pub returns-then-word-gt-LONGEST-clause-place : goal.returns-then-word-gt-LONGES
 returns-then-word-gt-LONGEST-clause-place c = sym (longer_is_none _ c.if-word-gt-LONGEST.true)
 
 pub search-requires : goal.search-requires
-search-requires c = ap are_ascending_words c.labels.ensures ∙ table_ascends
+search-requires c = record { ascending = ap are_ascending_words c.labels.ensures ∙ table_ascends }
 
 pub returns-clause-within : goal.returns-clause-within
 returns-clause-within c = within_table _ _ c.labels.ensures c.search.ensures.within

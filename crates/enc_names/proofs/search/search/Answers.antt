@@ -12,7 +12,7 @@ loop-low-preserved-in-Less c =
     let word_is = text_is c.args.table.now _ _ (omega (arith, invariant.within))
     c.as_bytes.ensures.value in
     record {
-      halves = right c.requires _ invariant.halves (omega arith) (omega arith)
+      halves = right c.requires.ascending _ invariant.halves (omega arith) (omega arith)
           (subst (λ x. word_number x < word_number c.args.word.now) word_is c.in-Less.ensures);
       within = invariant.within;
     }
@@ -22,7 +22,7 @@ returns-in-Equal-clause-place c =
     let invariant = c.loop-low.invariant in
     let word_is = text_is c.args.table.now _ _ (omega (arith, invariant.within))
     c.as_bytes.ensures.value in
-    sym (hit c.requires _ invariant.halves (omega arith) (omega arith)
+    sym (hit c.requires.ascending _ invariant.halves (omega arith) (omega arith)
     (sym word_is ∙ c.in-Equal.ensures))
 
 pub loop-low-preserved : goal.loop-low-preserved
@@ -31,7 +31,7 @@ loop-low-preserved c =
     let word_is = text_is c.args.table.now _ _ (omega (arith, invariant.within))
     c.as_bytes.ensures.value in
     record {
-      halves = left c.requires _ invariant.halves (omega arith) (omega arith)
+      halves = left c.requires.ascending _ invariant.halves (omega arith) (omega arith)
           (subst (λ x. word_number c.args.word.now < word_number x) word_is c.in-Greater.ensures);
       within = omega (arith, invariant.within);
     }

@@ -11,4 +11,4 @@ returns c k below =
     let columns = by_op (widened (own args.columns c.fits-columns.0)) (splat 256) add16 in
     lane_at (by_op rows columns add16) k below
     ∙ place_is _ _ args.row_len (lane_bound args.rows k c.fits-rows below)
-    (lane_bound args.columns k c.fits-columns below) c.requires
+    (lane_bound args.columns k c.fits-columns below) c.requires.bound

@@ -4,7 +4,8 @@ use Rattle.enc_units.proofs.WriteLoopLemmas.{writes_one}
 use Rattle.enc_units.proofs.utf16_mapped.put_beyond.Goals as goal
 
 pub bytes_in_run-requires : goal.bytes_in_run-requires
-bytes_in_run-requires g c = beyond_ascii c.args.src.now _ _ c.in-Some.ensures c.requires.beyond
+bytes_in_run-requires g c =
+    record { beyond_ascii = beyond_ascii c.args.src.now _ _ c.in-Some.ensures c.requires.beyond }
 
 pub returns : goal.returns
 returns g c =

@@ -11,7 +11,7 @@ pub unit_byte-byte-requires : goal.unit_byte-byte-requires
 unit_byte-byte-requires g c =
     let place = place_is c.args.src.now _ c.loop-count.count c.clamped-places.ensures
     (omega arith) in
-    omega (arith, place)
+    record { bound = omega (arith, place) }
 
 pub loop-count-preserved : goal.loop-count-preserved
 loop-count-preserved g c =

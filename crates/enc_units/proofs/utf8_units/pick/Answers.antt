@@ -4,12 +4,12 @@ use Rattle.enc_units.proofs.MaskedUnitLemmas.{places_fit, picked}
 use Rattle.enc_units.proofs.utf8_units.pick.Goals as goal
 
 pub swizzle : goal.swizzle
-swizzle c = places_fit c.args.places c.fits-places.0 c.requires
+swizzle c = places_fit c.args.places c.fits-places.0 c.requires.places
 
 pub returns-clause-list : goal.returns-clause-list
-returns-clause-list c = picked c.args.bytes c.args.places c.fits-places.0 c.requires
+returns-clause-list c = picked c.args.bytes c.args.places c.fits-places.0 c.requires.places
 
 pub returns-clause-lanes : goal.returns-clause-lanes
 returns-clause-lanes c k few =
-    ap (λ z. get_or z k 0) (picked c.args.bytes c.args.places c.fits-places.0 c.requires)
+    ap (λ z. get_or z k 0) (picked c.args.bytes c.args.places c.fits-places.0 c.requires.places)
     ∙ get_or-map (λ place. get_or c.args.bytes place 0) c.args.places k 0 0 (omega arith)

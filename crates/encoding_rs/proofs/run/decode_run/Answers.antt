@@ -10,7 +10,7 @@ use Rattle.encoding_rs.proofs.run.decode_run.Goals as goal
 
 pub loop-call-init : goal.loop-call-init
 loop-call-init c = rw (
-  c.new_decoder-decoder.ensures,
+  c.new_decoder_with_bom_handling-decoder.ensures,
   c.new-text.ensures.bytes,
   c.new-faults.ensures.items,
 ) (record {

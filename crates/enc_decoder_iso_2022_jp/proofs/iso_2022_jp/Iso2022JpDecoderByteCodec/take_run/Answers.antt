@@ -28,7 +28,7 @@ pub split_at-requires : goal.split_at-requires
 split_at-requires g c = c.loop-state.invariant.run.run.within
 
 pub take_escape-next-requires : goal.take_escape-next-requires
-take_escape-next-requires g c = c.loop-state.invariant.none_held
+take_escape-next-requires g c = record { none_held = c.loop-state.invariant.none_held }
 
 pub returns-then-taken-eq0 : goal.returns-then-taken-eq0
 returns-then-taken-eq0 g c =

@@ -4,4 +4,4 @@ use Rattle.enc_decoder_iso_2022_jp.proofs.replaced_ascii.ReplacedAsciiPieces.pie
 
 pub returns-clause-means : goal.returns-clause-means
 returns-clause-means c =
-    replaced_at c.args.src.now c.args.at _ c.requires (sym c.in_ok-character.ensures)
+    replaced_at c.args.src.now c.args.at _ c.requires.within (sym c.in_ok-character.ensures)

@@ -7,13 +7,16 @@ use Rattle.enc_decoder_iso_2022_jp.proofs.runs.Iso2022JpDecoderPieces.piece.Goal
 pub returns-then-not-is_lead_byte-clause-means : goal.returns-then-not-is_lead_byte-clause-means
 returns-then-not-is_lead_byte-clause-means c =
     rw (← c.self.view_is)
-    (same_piece _ _ _ _ _ (one_of c.args.src.now c.args.at c.requires)
+    (same_piece _ _ _ _ _ (one_of c.args.src.now c.args.at c.requires.within)
     (alone_piece c.self.inside.set _ _ (sym c.in_ok-character.ensures) (sym c.is_lead_byte.ensures
     ∙ c.if-not-is_lead_byte.true)))
 
 pub char_of_pair-requires : goal.char_of_pair-requires
 char_of_pair-requires c =
-    lead_in_jis0208 c.self.inside.set _ (sym c.is_lead_byte.ensures ∙ c.if-not-is_lead_byte.false)
+    record {
+      lead = lead_in_jis0208 c.self.inside.set _
+          (sym c.is_lead_byte.ensures ∙ c.if-not-is_lead_byte.false);
+    }
 
 pub returns-clause-means : goal.returns-clause-means
 returns-clause-means c =

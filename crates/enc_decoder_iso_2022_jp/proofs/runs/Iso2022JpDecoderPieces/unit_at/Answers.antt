@@ -1,7 +1,7 @@
 use Rattle.enc_decoder_iso_2022_jp.proofs.runs.Iso2022JpDecoderPieces.unit_at.Goals as goal
 
 pub unit-requires : goal.unit-requires
-unit-requires c = c.requires.1.within
+unit-requires c = record { place = c.requires.place.1.within }
 
 pub returns : goal.returns
 returns c some bytes at =

@@ -2,7 +2,7 @@ use Rattle.std.proofs.Common.{arith}
 use Rattle.enc_decoder_iso_2022_jp.proofs.runs.Iso2022JpDecoderPieces.word_at.Goals as goal
 
 pub word-requires : goal.word-requires
-word-requires c = c.requires.1.within
+word-requires c = record { place = c.requires.place.1.within }
 
 pub returns : goal.returns
 returns c some bytes at =

@@ -8,5 +8,5 @@ use Rattle.enc_decoder_multi_byte.proofs.euc_jp.EucJpMultiByte.classify.Goals as
 pub unreachable-requires : goal.unreachable-requires
 unreachable-requires c =
     let incomplete = subst (λ p. AreIncomplete euc_jp_prefix [] (bytes_of_pending p)) c.in-Three.is
-    c.requires in
+    c.requires.incomplete in
     trail_finished 2 _ _ incomplete.1.1.0

@@ -6,7 +6,7 @@ use Rattle.enc_decoder_multi_byte.proofs.multi_byte.MultiByteDecoderPieces.piece
 
 pub returns-then-lead-lt128-clause-means : goal.returns-then-lead-lt128-clause-means
 returns-then-lead-lt128-clause-means g c =
-    same_piece _ 0 _ _ _ (one_of c.args.src.now c.args.at c.requires)
+    same_piece _ 0 _ _ _ (one_of c.args.src.now c.args.at c.requires.within)
     (complete_one g.E.MultiByte.prefix _ _ (c.laws.ensures.ascii _ c.if-lead-lt128.true))
 
 pub returns-in-Some-clause-means : goal.returns-in-Some-clause-means
@@ -17,6 +17,6 @@ returns-in-Some-clause-means g c =
 
 pub returns-in-Complete-One-clause-means : goal.returns-in-Complete-One-clause-means
 returns-in-Complete-One-clause-means g c =
-    same_piece _ 0 _ _ _ (one_of c.args.src.now c.args.at c.requires)
+    same_piece _ 0 _ _ _ (one_of c.args.src.now c.args.at c.requires.within)
     (complete_one g.E.MultiByte.prefix _ _
     (sym c.classify.ensures ∙ c.in-Complete-One.is ∙ ap Complete c.in-Complete-One.field-0-is))

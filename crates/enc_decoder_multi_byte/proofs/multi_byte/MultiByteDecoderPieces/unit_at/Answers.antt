@@ -1,7 +1,7 @@
 use Rattle.enc_decoder_multi_byte.proofs.multi_byte.MultiByteDecoderPieces.unit_at.Goals as goal
 
 pub unit-requires : goal.unit-requires
-unit-requires g c = c.requires.1.within
+unit-requires g c = record { place = c.requires.place.1.within }
 
 pub returns : goal.returns
 returns g c some bytes at =

@@ -2,7 +2,7 @@ use Rattle.std.proofs.Common.{arith}
 use Rattle.enc_decoder_multi_byte.proofs.multi_byte.MultiByteDecoderPieces.word_at.Goals as goal
 
 pub word-requires : goal.word-requires
-word-requires g c = c.requires.1.within
+word-requires g c = record { place = c.requires.place.1.within }
 
 pub returns : goal.returns
 returns g c some bytes at =

@@ -7,6 +7,6 @@ use Rattle.enc_decoder_single_byte.proofs.single_byte.SingleByteDecoderPieces.pi
 
 pub returns-in-Some-clause-means : goal.returns-in-Some-clause-means
 returns-in-Some-clause-means c =
-    same_piece _ 0 _ _ _ (one_of c.args.src.now c.args.at c.requires)
+    same_piece _ 0 _ _ _ (one_of c.args.src.now c.args.at c.requires.within)
     (one_byte_piece (single_byte_char (single_byte_runs c.args.self.index)) _ _
     (sym c.character_of.ensures ∙ c.in-Some.is))

@@ -6,6 +6,6 @@ use Rattle.enc_decoder_single_byte.proofs.x_user_defined.XUserDefinedDecoderPiec
 
 pub returns-clause-means : goal.returns-clause-means
 returns-clause-means c =
-    same_piece _ 0 _ _ _ (one_of c.args.src.now c.args.at c.requires)
+    same_piece _ 0 _ _ _ (one_of c.args.src.now c.args.at c.requires.within)
     (one_byte_piece x_user_defined_char _ _
     (sym c.character_of.ensures))

@@ -9,18 +9,18 @@ use Rattle.enc_decoder_utf.proofs.utf_8.Utf8DecoderByteCodec.replaced_char.Goals
 
 pub returns-then-first-lt128-clause-first : goal.returns-then-first-lt128-clause-first
 returns-then-first-lt128-clause-first c =
-    whole_at Valid _ (one_of c.args.src.now c.args.at c.requires)
+    whole_at Valid _ (one_of c.args.src.now c.args.at c.requires.within)
     (λ y. one_valid _ y ((len_by_range _).one c.if-first-lt128.true))
 
 pub returns-then-not-is_lead-clause-first : goal.returns-then-not-is_lead-clause-first
 returns-then-not-is_lead-clause-first c =
-    whole_at Malformed _ (one_of c.args.src.now c.args.at c.requires)
+    whole_at Malformed _ (one_of c.args.src.now c.args.at c.requires.within)
     (λ y. none_malformed _ y
     (none_len _ c.if-first-lt128.false (sym c.is_lead.ensures ∙ c.if-not-is_lead.true)))
 
 pub returns-then-not-is_second_byte-clause-first : goal.returns-then-not-is_second_byte-clause-first
 returns-then-not-is_second_byte-clause-first c =
-    before_byte Malformed _ (one_of c.args.src.now c.args.at c.requires) (omega arith)
+    before_byte Malformed _ (one_of c.args.src.now c.args.at c.requires.within) (omega arith)
     (λ z. one_malformed _ _ z (lead_len _ (sym c.is_lead.ensures ∙ c.if-not-is_lead.false)).0
     (sym c.is_second_byte.ensures ∙ c.if-not-is_second_byte.true))
 

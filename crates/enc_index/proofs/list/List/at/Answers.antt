@@ -16,7 +16,7 @@ of_index asked arm pointer h =
 
 pub character_among-requires : goal.character_among-requires
 unfolding runs_of
-character_among-requires c = gb18030_ranges_ascends
+character_among-requires c = record { ascending = gb18030_ranges_ascends }
 
 pub returns-in-SingleByte : goal.returns-in-SingleByte
 unfolding runs_of

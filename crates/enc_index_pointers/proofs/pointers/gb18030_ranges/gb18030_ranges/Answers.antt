@@ -8,7 +8,7 @@ pub returns-then-c-eq59335-clause-value : goal.returns-then-c-eq59335-clause-val
 returns-then-c-eq59335-clause-value c = private_use_pointer c.args.c c.if-c-eq59335.true
 
 pub run_with-requires : goal.run_with-requires
-run_with-requires c = by_code_point_ascends
+run_with-requires c = record { ascending = by_code_point_ascends }
 
 pub overflow_add-result : goal.overflow_add-result
 overflow_add-result c = let low = found_is_below c.args.c _ (sym c.in-Some.ensures.first) in

@@ -3,8 +3,8 @@ use Rattle.enc_reader.proofs.decode_reader.DecodeReader.with_bom_handling.Goals 
 
 pub returns-clause-given : goal.returns-clause-given
 returns-clause-given g c =
-    rw c.new_decoder.ensures (HasGiven-fresh c.args.handling c.args.encoding)
+    rw c.new_decoder_with_bom_handling.ensures (HasGiven-fresh c.args.handling c.args.encoding)
 
 pub returns-clause-faults : goal.returns-clause-faults
 returns-clause-faults g c =
-    λ z. rw c.new_decoder.ensures (fresh_faults c.args.handling c.args.encoding z)
+    λ z. rw c.new_decoder_with_bom_handling.ensures (fresh_faults c.args.handling c.args.encoding z)

@@ -7,7 +7,8 @@ use Rattle.enc_stream.proofs.DecoderCallLemmas.{pending_so_far}
 use Rattle.enc_stream.proofs.decoder.Decoder.decode_to_utf8.Goals as goal
 
 pub unreported-requires : goal.unreported-requires
-unreported-requires c = reports_none four_bytes c.convert-outcome.ensures
+unreported-requires c =
+    record { none_malformed = reports_none four_bytes c.convert-outcome.ensures }
 
 pub returns-clause-call : goal.returns-clause-call
 returns-clause-call c =

@@ -9,12 +9,17 @@ use Rattle.enc_stream.proofs.encoder.Encoder.encode_from_utf8.Goals as goal
 
 pub encode_in_mode-outcome-requires : goal.encode_in_mode-outcome-requires
 encode_in_mode-outcome-requires c =
-    may_keep_none _ _ c.self.invariant (rw (← c.self.view_is) at c.html_mode-mode.ensures)
+    record {
+      mappable = may_keep_none _ _ c.self.invariant
+          (rw (← c.self.view_is) at c.html_mode-mode.ensures);
+    }
 
 pub stop-requires : goal.stop-requires
 stop-requires c =
-    never_reported c.encode_in_mode-outcome.ensures.call
-    (ap mode_of c.html_mode-mode.ensures ∙ html_mode_is _)
+    record {
+      none_unmappable = never_reported c.encode_in_mode-outcome.ensures.call
+          (ap mode_of c.html_mode-mode.ensures ∙ html_mode_is _);
+    }
 
 pub returns-clause-call : goal.returns-clause-call
 returns-clause-call c =
