@@ -5,7 +5,7 @@ use Rattle.std.proofs.lemmas.Bool.Decides.{nat_tests}
 use Rattle.enc_decoder.specs.declared.byte_codec.Kind.TheVariants.{Valid, Malformed}
 use Rattle.enc_decoder.specs.Segmentation.{Head}
 use Rattle.enc_decoder.specs.Division.{IsDividedAfter}
-use Rattle.enc_decoder.proofs.DivisionLemmas.{EndsSequence, divided_by, take_front}
+use Rattle.enc_decoder.proofs.DivisionLemmas.{divided_by, take_front}
 use Rattle.enc_decoder_utf.specs.Utf8.{sequence_len, is_second_byte, is_continuation, continuations, continuing_len}
 use Rattle.enc_decoder_utf.specs.Utf8.{well_formed_tail_len, scalar_of, utf_8_rule}
 use Rattle.enc_decoder_utf.proofs.Utf8Rule.{utf_8_is_lawful}

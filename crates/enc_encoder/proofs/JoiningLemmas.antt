@@ -1,7 +1,7 @@
 -- Without escape sequences the bytes of texts are joined.
-use Rattle.std.proofs.Common.{◌≡◌, ℕ, true, List, [], ◌∷◌, ◌++◌, refl, ap, ◌∙◌, sym, append_assoc}
+use Rattle.std.proofs.Common.{◌≡◌, ℕ, true, List, [], ◌∷◌, ◌++◌, refl, ap, ◌∙◌}
 use Rattle.enc_encoder.specs.declared.character_set.CharacterSet.TheVariants.{Ascii}
-use Rattle.enc_encoder.specs.EncoderRule.{EncoderRule, IsLawfulEncoderRule, set_for}
+use Rattle.enc_encoder.specs.EncoderRule.{EncoderRule, IsLawfulEncoderRule}
 use Rattle.enc_encoder.specs.Text.{list_or_empty, bytes_after_text, bytes_of_text, with_reference, with_references}
 use Rattle.enc_encoder.specs.Joining.{JoinsTexts}
 use Rattle.enc_encoder.proofs.StepLemmas.{joined-append}

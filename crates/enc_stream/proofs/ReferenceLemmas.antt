@@ -1,6 +1,6 @@
 -- Texts with references in the place of unmappable characters.
 use Rattle.std.proofs.Common.{◌≡◌, ℕ, false, not, ◌||◌, is_some, Option, Some, None, List, [], ◌∷◌, ◌++◌, inl, refl, ap}
-use Rattle.std.proofs.Common.{sym, ◌∙◌, append_assoc, subst}
+use Rattle.std.proofs.Common.{◌∙◌, subst}
 use Rattle.enc_encoder.specs.EncoderRule.{EncoderRule, IsLawfulEncoderRule}
 use Rattle.enc_encoder.specs.Text.{reference, with_reference, with_references}
 use Rattle.enc_encoder.proofs.BarringLemmas.{barring_is_lawful}
