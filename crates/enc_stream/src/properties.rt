@@ -85,7 +85,7 @@ impl Encoding {
         ensures exact { IsTrue result ↔ LineFeedsDivide self }
         ensures same { result ≡ is_ascii_compatible self }
     {
-        self.id.is_ascii_compatible()
+        self.is_ascii_compatible()
     }
 
     /// Returns whether each of its bytes is a character by itself.
