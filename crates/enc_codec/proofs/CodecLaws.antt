@@ -10,12 +10,14 @@ use Rattle.enc_decoder.specs.declared.text_lengths.TextLengths.TheVariants as le
 use Rattle.enc_decoder.specs.Need.{AreEnoughForCodec}
 use Rattle.enc_decoder_utf.specs.Utf16.{utf_16_rule}
 use Rattle.enc_decoder_utf.proofs.Utf8Rule.{utf_8_has_texts, utf_8_is_lawful, utf_8_has_bytes}
+use Rattle.enc_decoder_utf.proofs.Utf8Division.{utf_8_is_divided}
 use Rattle.enc_decoder_utf.proofs.Utf8Enough.{utf_8_enough}
 use Rattle.enc_decoder_utf.proofs.Utf16Rule.{utf_16_has_texts, utf_16_is_lawful, utf_16_has_no_bytes}
 use Rattle.enc_decoder_utf.proofs.Utf16Enough.{utf_16_enough}
 use Rattle.enc_decoder_single_byte.specs.OneByte.{one_byte_rule, x_user_defined_char}
 use Rattle.enc_decoder_single_byte.proofs.OneByteLemmas.{one_byte_has_texts, one_byte_is_lawful, one_byte_has_bytes}
 use Rattle.enc_decoder_single_byte.proofs.OneByteLemmas.{single_byte_ascii, x_user_defined_ascii}
+use Rattle.enc_decoder_single_byte.proofs.OneByteDivision.{one_byte_is_divided}
 use Rattle.enc_decoder_single_byte.proofs.EnoughLemmas.{single_byte_enough, x_user_defined_enough, replacement_enough}
 use Rattle.enc_decoder_single_byte.proofs.ReplacementLemmas.{replacement_is_lawful, replacement_has_no_bytes}
 use Rattle.enc_decoder_multi_byte.specs.declared.multi_byte.Prefix.{Prefix}
@@ -30,6 +32,7 @@ use Rattle.enc_decoder_multi_byte.proofs.Laws.EucKr as euc_kr
 use Rattle.enc_decoder_multi_byte.proofs.Laws.ShiftJis as shift_jis
 use Rattle.enc_decoder_multi_byte.proofs.Laws.EucJp as euc_jp
 use Rattle.enc_decoder_multi_byte.proofs.Laws.Gb18030 as gb18030
+use Rattle.enc_decoder_multi_byte.proofs.MultiByteDivision.{multi_byte_is_divided}
 use Rattle.enc_decoder_multi_byte.proofs.MultiByteEnough.{multi_bytes_enough}
 use Rattle.enc_decoder_multi_byte.proofs.MultiByteRule.{multi_byte_has_texts, multi_byte_is_lawful}
 use Rattle.enc_decoder_multi_byte.proofs.MultiByteRule.{multi_byte_has_bytes}
@@ -47,6 +50,8 @@ use Rattle.enc_codec.proofs.PropertyLemmas.{multi_byte_is_not_single_byte}
 use Rattle.enc_codec.proofs.PropertyLemmas.{iso_2022_jp_lacks_texts, iso_2022_jp_is_not_ascii_compatible}
 use Rattle.enc_codec.proofs.PropertyLemmas.{iso_2022_jp_is_not_single_byte, replacement_lacks_texts}
 use Rattle.enc_codec.proofs.PropertyLemmas.{replacement_is_not_ascii_compatible, replacement_is_not_single_byte}
+use Rattle.enc_codec.proofs.DivisionLemmas.{utf_16_is_not_divided, iso_2022_jp_is_not_divided}
+use Rattle.enc_codec.proofs.DivisionLemmas.{replacement_is_not_divided}
 use Rattle.enc_codec.proofs.MarkByteLemmas.{utf_8_shows_bb, utf_16_shows_bb, one_byte_shows_bb, multi_byte_shows_bb}
 use Rattle.enc_codec.proofs.MarkByteLemmas.{iso_2022_jp_shows_bb, replacement_shows_bb}
 
@@ -62,6 +67,7 @@ utf_16_keeps_laws big enough = record {
   bytes = utf_16_has_no_bytes big;
   ascii = utf_16_is_not_ascii_compatible big;
   single = utf_16_is_not_single_byte big;
+  divided = utf_16_is_not_divided big;
   bb = utf_16_shows_bb big;
 }
 
@@ -75,6 +81,7 @@ one_byte_keeps_laws character has_ascii enough = record {
   bytes = one_byte_has_bytes character 0x61 0x61 (has_ascii 0x61 (omega arith));
   ascii = one_byte_is_ascii_compatible character has_ascii;
   single = one_byte_is_single_byte character;
+  divided = λ c low. one_byte_is_divided c character;
   bb = one_byte_shows_bb character;
 }
 
@@ -88,6 +95,7 @@ multi_byte_keeps_laws prefix laws bb = record {
   bytes = multi_byte_has_bytes prefix 0x61 (One 0x61) (laws.ascii 0x61 (omega arith));
   ascii = multi_byte_is_ascii_compatible prefix laws.ascii;
   single = multi_byte_is_not_single_byte prefix laws;
+  divided = multi_byte_is_divided prefix laws;
   bb = bb;
 }
 
@@ -99,6 +107,7 @@ codec_laws codec.Utf8 = record {
   bytes = utf_8_has_bytes;
   ascii = utf_8_is_ascii_compatible;
   single = utf_8_is_not_single_byte;
+  divided = λ c low. utf_8_is_divided c (omega arith);
   bb = utf_8_shows_bb;
 }
 codec_laws codec.Utf16Be =
@@ -134,6 +143,7 @@ codec_laws codec.Replacement = record {
   bytes = replacement_has_no_bytes;
   ascii = replacement_is_not_ascii_compatible;
   single = replacement_is_not_single_byte;
+  divided = replacement_is_not_divided;
   bb = replacement_shows_bb;
 }
 codec_laws codec.Iso2022Jp = record {
@@ -143,5 +153,6 @@ codec_laws codec.Iso2022Jp = record {
   bytes = iso_2022_jp_has_bytes;
   ascii = iso_2022_jp_is_not_ascii_compatible;
   single = iso_2022_jp_is_not_single_byte;
+  divided = iso_2022_jp_is_not_divided;
   bb = iso_2022_jp_shows_bb;
 }

@@ -1,3 +1,4 @@
 pub mod PropertyLemmas
+pub mod DivisionLemmas
 pub mod MarkByteLemmas
 pub mod CodecLaws

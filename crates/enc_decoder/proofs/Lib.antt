@@ -1,5 +1,6 @@
 pub mod SequenceLemmas
 pub mod SegmentationLemmas
+pub mod DivisionLemmas
 pub mod DeterminedLemmas
 pub mod ByteLemmas
 pub mod NextEventLemmas

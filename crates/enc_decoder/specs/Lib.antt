@@ -1,5 +1,6 @@
 pub mod Sequence
 pub mod Segmentation
+pub mod Division
 pub mod Remainder
 pub mod Call
 pub mod CallRecord

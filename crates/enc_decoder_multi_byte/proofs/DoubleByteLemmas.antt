@@ -7,7 +7,7 @@ use Rattle.enc_decoder_multi_byte.specs.declared.multi_byte.Prefix.{Prefix}
 use Rattle.enc_decoder_multi_byte.specs.declared.multi_byte.Prefix.TheVariants.{Complete, Malformed, Incomplete}
 use Rattle.enc_decoder_multi_byte.specs.DoubleByte.{text_of_char, single_prefix, first_prefix, trail_prefix}
 use Rattle.enc_decoder_multi_byte.specs.DoubleByte.{double_byte_prefix, IsPairText, ArePairs}
-use Rattle.enc_decoder_multi_byte.specs.MultiByte.{CanBeMalformed, ArePrefixes}
+use Rattle.enc_decoder_multi_byte.specs.MultiByte.{CanBeMalformed, AreSettledBelowDigits, ArePrefixes}
 use Rattle.enc_decoder.proofs.RuleLemmas.{one_small}
 use Rattle.enc_decoder.specs.CodecLaw.{text_chars}
 use Rattle.enc_decoder.specs.Need.{IsBmpText}
@@ -92,6 +92,11 @@ pub unless_lawful : (most len : ℕ) (t : Bool) (r : Prefix) → len ≤ most
 unless_lawful most len true r short lawful = short
 unless_lawful most len false r short lawful = lawful
 
+pub unless_finished : (t : Bool) (r : Prefix) → t ≡ false → r ≢ Incomplete
+    → cond t Incomplete r ≢ Incomplete
+unless_finished true r is_false finished incomplete = absurd (let no = is_false in cc)
+unless_finished false r is_false finished incomplete = finished incomplete
+
 -- encodings of one byte and two
 pub double_byte_laws : (is_lead : ℕ → Bool) (single : ℕ → Option ℕ) (pair : ℕ → ℕ → Option Text)
     → ArePairs is_lead single pair
@@ -112,6 +117,7 @@ double_byte_laws is_lead single pair laws =
       short = λ front e.
           let short = subst (IsLawfulPrefix 1 (length front)) e (lawful front) in omega arith;
       can_be_malformed = can_be_malformed;
+      settled = settled;
     }
   where
     lawful : (front : List ℕ)
@@ -130,3 +136,7 @@ double_byte_laws is_lead single pair laws =
         (trail_can_be_malformed 1 (pair a 0xFF) (laws.no_trail a)) (λ same. omega arith)
     can_be_malformed (a ∷ b ∷ z) some incomplete =
         absurd (trail_finished 1 b (pair a b) incomplete)
+
+    settled : AreSettledBelowDigits (double_byte_prefix is_lead single pair)
+    settled c low a [] incomplete = trail_finished 1 c (pair a c) incomplete
+    settled c low a (b ∷ front) incomplete = trail_finished 1 b (pair a b) incomplete

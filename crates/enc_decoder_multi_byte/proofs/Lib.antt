@@ -1,5 +1,6 @@
 pub mod MultiByteLemmas
 pub mod MultiByteRule
+pub mod MultiByteDivision
 pub mod MultiByteComes
 pub mod DoubleByteLemmas
 pub mod Laws

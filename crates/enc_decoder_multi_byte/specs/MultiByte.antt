@@ -58,6 +58,11 @@ pub record IsLead (prefix : List ℕ → Prefix) (byte : ℕ) : Type 0 where
   pub is_byte : byte < 256
   pub incomplete : prefix (byte ∷ []) ≡ Incomplete
 
+-- A byte below 30, the first ASCII digit, leaves no prefix incomplete if it is read after others.
+abbrev pub AreSettledBelowDigits : (List ℕ → Prefix) → Type 0
+AreSettledBelowDigits prefix = (c : ℕ) → c < 0x30 → (a : ℕ) (front : List ℕ)
+    → prefix (a ∷ (front ++ c ∷ [])) ≢ Incomplete
+
 -- The laws of prefixes in each of these encodings.
 pub record ArePrefixes (prefix : List ℕ → Prefix) : Type 0 where
   pub nothing : prefix [] ≡ Incomplete
@@ -71,6 +76,7 @@ pub record ArePrefixes (prefix : List ℕ → Prefix) : Type 0 where
   pub short : (front : List ℕ) → prefix front ≡ Incomplete → length front ≤ 3
   pub can_be_malformed : (front : List ℕ) → 0 < length front → prefix front ≡ Incomplete
       → CanBeMalformed prefix front
+  pub settled : AreSettledBelowDigits prefix
 
 -- the first n of two bytes are malformed: of the first by itself, or since the second follows it
 abbrev pub IsMalformedFront : (List ℕ → Prefix) → ℕ → ℕ → ℕ → Type 0

@@ -1,4 +1,5 @@
 pub mod OneByteLemmas
+pub mod OneByteDivision
 pub mod ReplacementLemmas
 pub mod EnoughLemmas
 mod WordLemmas

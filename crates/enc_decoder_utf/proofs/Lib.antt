@@ -3,6 +3,7 @@ pub mod Utf8Lookahead
 pub mod Utf8Undetermined
 pub mod Utf8Comes
 pub mod Utf8Rule
+pub mod Utf8Division
 pub mod Utf8Pieces
 pub mod Utf16Lemmas
 pub mod Utf16Rule

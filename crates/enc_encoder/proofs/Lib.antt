@@ -6,6 +6,7 @@ pub mod TextLemmas
 pub mod HandlerLemmas
 pub mod SizeLemmas
 pub mod StatelessLemmas
+pub mod JoiningLemmas
 pub mod BarringLemmas
 pub mod NeedLemmas
 pub mod EnoughLemmas

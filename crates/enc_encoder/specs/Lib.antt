@@ -1,5 +1,6 @@
 pub mod EncoderRule
 pub mod Text
+pub mod Joining
 pub mod Steps
 pub mod Writes
 pub mod Lengths

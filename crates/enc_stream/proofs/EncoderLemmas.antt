@@ -1,9 +1,10 @@
 -- The encoders of the encodings.
-use Rattle.std.proofs.Common.{◌≡◌, ℕ, ◌+◌, ◌≤◌, Bool, true, false, not, is_some, Option, Some, None, option_map}
+use Rattle.std.proofs.Common.{◌≡◌, ◌≢◌, ℕ, ◌+◌, ◌≤◌, Bool, true, false, not, is_some, Option, Some, None, option_map}
 use Rattle.std.proofs.Common.{List, [], ◌∷◌, ◌++◌, length, take, drop, refl, ap, sym, subst, ◌∙◌, append_assoc}
 use Rattle.std.proofs.Common.{if◌then◌else◌}
 use Rattle.std.proofs.lemmas.List.{drop-take, take-append-le}
 use Rattle.std.proofs.Math.Seq.{drop-append_seam}
+use Rattle.std.proofs.lemmas.Bool.{false≢true}
 use Rattle.enc_encoder.specs.EncoderRule.{EncoderRule, RawEncoderState, is_escape_due}
 use Rattle.enc_encoder.specs.Stateless.{WritesAscii}
 use Rattle.enc_encoder.proofs.BarringLemmas.{except_writes_ascii}
@@ -97,16 +98,23 @@ rule_of_found (Some facts) = refl
 pub rule_of_facts : (c : Codec) → (output_facts c).rule ≡ rule_or_utf_8 (encoder_rule c)
 rule_of_facts c = rule_of_found (encoder_facts c)
 
+-- ISO-2022-JP alone has escape sequences.
+pub stays_in_ascii : (c : Codec) → c ≢ codec.Iso2022Jp → StaysInAscii (output_facts c).rule
+stays_in_ascii codec.Iso2022Jp is_not = absurd (is_not refl)
+stays_in_ascii _ is_not = λ c. refl
+
 -- An ASCII-compatible encoding has no escape sequence, and writes each ASCII character as itself.
 
-stays_in_ascii : (c : Codec) → (codec_facts c).ascii_compatible ≡ true
-    → StaysInAscii (output_facts c).rule
-stays_in_ascii codec.Iso2022Jp compatible = cc
-stays_in_ascii _ compatible = λ c. refl
+is_not_iso_2022_jp : (c : Codec) → (codec_facts c).ascii_compatible ≡ true → c ≢ codec.Iso2022Jp
+is_not_iso_2022_jp c compatible is_iso =
+    false≢true (sym (ap (λ d. (codec_facts d).ascii_compatible) is_iso) ∙ compatible)
 
 module _ (encoding : Encoding) (compatible : is_ascii_compatible encoding ≡ true) where
   stays : StaysInAscii (output_facts (codec_by_id encoding.id)).rule
-  stays = stays_in_ascii (codec_by_id encoding.id) (listed_ascii encoding.id ∙ compatible)
+  stays =
+      let of_encoding = codec_by_id encoding.id in
+      stays_in_ascii of_encoding
+      (is_not_iso_2022_jp of_encoding (listed_ascii encoding.id ∙ compatible))
 
   pub ascii_bytes : (b : List ℕ) → WritesAscii (output_rule b encoding).bytes
   ascii_bytes b =

@@ -19,6 +19,7 @@ pub mod EncodingLemmas
 pub mod PropertyLemmas
 pub mod EncoderLemmas
 pub mod ReferenceLemmas
+pub mod JoiningLemmas
 pub mod EncoderProgressLemmas
 pub mod Latin1Lemmas
 pub mod SniffingLemmas

@@ -1,9 +1,10 @@
 -- Texts with references in the place of unmappable characters.
 use Rattle.std.proofs.Common.{◌≡◌, ℕ, false, not, ◌||◌, is_some, Option, Some, None, List, [], ◌∷◌, ◌++◌, inl, refl, ap}
-use Rattle.std.proofs.Common.{sym, ◌∙◌, append_assoc, subst}
+use Rattle.std.proofs.Common.{◌∙◌, subst}
 use Rattle.enc_encoder.specs.EncoderRule.{EncoderRule, IsLawfulEncoderRule}
 use Rattle.enc_encoder.specs.Text.{reference, with_reference, with_references}
 use Rattle.enc_encoder.proofs.BarringLemmas.{barring_is_lawful}
+use Rattle.enc_encoder.proofs.JoiningLemmas.{with_references-append}
 use Rattle.enc_encoder.proofs.TextLemmas.{AreOfReferences, reference_is}
 use Rattle.enc_encode.specs.Encoders.{encoder_rule}
 use Rattle.enc_encode.proofs.EncoderLaws.{encoder_laws}
@@ -20,14 +21,6 @@ lawful_of b e =
     let codec = codec_by_id e.id in
     barring_is_lawful b (rule_or_utf_8 (encoder_rule codec))
     (subst IsLawfulEncoderRule (rule_of_facts codec) (encoder_laws codec).lawful)
-
-with_references-append : (e : EncoderRule) (a b : List ℕ)
-    → with_references e (a ++ b) ≡ with_references e a ++ with_references e b
-with_references-append e [] b = refl
-with_references-append e (c ∷ a) b =
-    ap (λ t. with_reference e c (e.bytes c) ++ t) (with_references-append e a b)
-    ∙ sym (append_assoc (with_reference e c (e.bytes c)) (with_references e a)
-    (with_references e b))
 
 module _ (e : EncoderRule) (lawful : IsLawfulEncoderRule e) where
   -- a mappable character stays, and so does a reference

@@ -3,6 +3,7 @@ pub mod Bom
 pub mod LifeCycle
 pub mod Sniffing
 pub mod Decoding
+pub mod Division
 pub mod Faults
 pub mod MarkLaws
 pub mod Latin1

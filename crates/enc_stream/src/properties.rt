@@ -2,6 +2,7 @@
 
 ghost use Rattle.std.specs.Prelude.{◌≡◌, ◌↔◌, IsTrue};
 ghost use Rattle.enc_encoder.specs.Barring.{are_beyond_ascii};
+ghost use Rattle.enc_stream.specs.Division.{LineFeedsDivide};
 ghost use Rattle.enc_stream.specs.Names.{name_of};
 ghost use Rattle.enc_stream.specs.Properties.{output_encoding_of};
 ghost use Rattle.enc_stream.specs.Properties.{is_ascii_compatible, is_single_byte};
@@ -67,6 +68,24 @@ impl Encoding {
         ensures { result ≡ is_ascii_compatible self }
     {
         self.id.is_ascii_compatible()
+    }
+
+    /// Returns whether any input can be decoded in parts that end after line feeds.
+    ///
+    /// If so, and no byte order mark is looked for, the sequences of an input are those of its
+    /// parts, as `laws::bytes_below_digits_divide` has it. True exactly for the ASCII-compatible
+    /// encodings: a byte 0A can be half of a code unit of UTF-16, the set that an escape sequence
+    /// of ISO-2022-JP designates outlasts a line, and replacement reports the first byte alone.
+    ///
+    /// ```rust
+    /// assert!(rt; UTF_8.line_feeds_divide() && GB18030.line_feeds_divide());
+    /// assert!(rt; !UTF_16LE.line_feeds_divide() && !ISO_2022_JP.line_feeds_divide());
+    /// ```
+    pub fn line_feeds_divide(self) -> bool
+        ensures exact { IsTrue result ↔ LineFeedsDivide self }
+        ensures same { result ≡ is_ascii_compatible self }
+    {
+        self.is_ascii_compatible()
     }
 
     /// Returns whether each of its bytes is a character by itself.

@@ -4,6 +4,7 @@ pub mod EncodeEnd
 pub mod EncodeReport
 pub mod DecodeEnd
 pub mod Lookahead
+pub mod Recoding
 pub use Rattle.enc_names.specs.EncodingTable
 pub use Rattle.enc_names.specs.LabelIds
 pub use Rattle.enc_stream.specs.Encodings
@@ -11,6 +12,7 @@ pub use Rattle.enc_stream.specs.Bom
 pub use Rattle.enc_stream.specs.LifeCycle
 pub use Rattle.enc_stream.specs.Sniffing
 pub use Rattle.enc_stream.specs.Decoding
+pub use Rattle.enc_stream.specs.Division
 pub use Rattle.enc_stream.specs.MarkLaws
 pub use Rattle.enc_stream.specs.Latin1
 pub use Rattle.enc_stream.specs.Names

@@ -43,6 +43,12 @@ fn returns_output_encodings(rt: HostRuntime) {
     assert!(rt; BIG5.output_encoding() == BIG5);
 }
 
+#[test]
+fn divides_after_line_feeds(rt: HostRuntime) {
+    assert!(rt; UTF_8.line_feeds_divide() && GB18030.line_feeds_divide());
+    assert!(rt; !UTF_16LE.line_feeds_divide() && !ISO_2022_JP.line_feeds_divide());
+}
+
 // Decoding in chunks
 
 #[test]

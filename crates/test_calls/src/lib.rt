@@ -11,6 +11,8 @@ mod bom;
 #[cfg(test)]
 mod calls;
 #[cfg(test)]
+mod division;
+#[cfg(test)]
 mod doc_examples;
 #[cfg(test)]
 mod encodings;

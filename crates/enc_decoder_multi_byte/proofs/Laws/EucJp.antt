@@ -6,12 +6,13 @@ use Rattle.std.proofs.lemmas.Bool.Decides.{nat_tests}
 use Rattle.enc_decoder_multi_byte.specs.declared.multi_byte.Prefix.{Prefix}
 use Rattle.enc_decoder_multi_byte.specs.declared.multi_byte.Prefix.TheVariants.{Malformed, Incomplete}
 use Rattle.enc_decoder_multi_byte.specs.DoubleByte.{text_of_char}
-use Rattle.enc_decoder_multi_byte.specs.MultiByte.{CanBeMalformed, ArePrefixes}
+use Rattle.enc_decoder_multi_byte.specs.MultiByte.{CanBeMalformed, AreSettledBelowDigits, ArePrefixes}
 use Rattle.enc_decoder_multi_byte.specs.EucJp.{is_euc_byte, is_euc_jp_lead, euc_jp_single_char, euc_jp_pair_char}
 use Rattle.enc_decoder_multi_byte.specs.EucJp.{euc_jp_triple_char, euc_jp_prefix}
 use Rattle.enc_decoder_multi_byte.proofs.DoubleByteLemmas.{first_is_basic, ascii_is_basic, char_is_text, first_alone}
 use Rattle.enc_decoder_multi_byte.proofs.DoubleByteLemmas.{IsLawfulPrefix, first_lawful, trail_lawful, trail_finished}
 use Rattle.enc_decoder_multi_byte.proofs.DoubleByteLemmas.{malformed_with_ff, trail_can_be_malformed, unless_lawful}
+use Rattle.enc_decoder_multi_byte.proofs.DoubleByteLemmas.{unless_finished}
 
 lawful : (front : List ℕ) → IsLawfulPrefix 2 (length front) (euc_jp_prefix front)
 lawful [] = omega arith
@@ -47,6 +48,15 @@ can_be_malformed (a ∷ b ∷ []) some incomplete =
 can_be_malformed (a ∷ b ∷ c ∷ z) some incomplete =
     absurd (trail_finished 2 c (text_of_char (euc_jp_triple_char b c)) incomplete)
 
+settled : AreSettledBelowDigits euc_jp_prefix
+settled c low a [] incomplete =
+    unless_finished _ _ (grind (arith, nat_tests))
+    (trail_finished 1 c (text_of_char (euc_jp_pair_char a c))) incomplete
+settled c low a (b ∷ []) incomplete =
+    trail_finished 2 c (text_of_char (euc_jp_triple_char b c)) incomplete
+settled c low a (b ∷ d ∷ front) incomplete =
+    trail_finished 2 d (text_of_char (euc_jp_triple_char b d)) incomplete
+
 pub laws : ArePrefixes euc_jp_prefix
 laws = record {
   nothing = refl;
@@ -61,4 +71,5 @@ laws = record {
   short = λ front e.
       let short = subst (IsLawfulPrefix 2 (length front)) e (lawful front) in omega arith;
   can_be_malformed = can_be_malformed;
+  settled = settled;
 }

@@ -1,15 +1,16 @@
 -- What the bytes in front can be in gb18030.
-use Rattle.std.proofs.Common.{◌≡◌, ℕ, ◌<◌, ◌≤◌, Bool, true, false, cond, Option, Some, None, List, [], ◌∷◌, length}
+use Rattle.std.proofs.Common.{◌≡◌, ◌≢◌, ℕ, ◌<◌, ◌≤◌, Bool, true, false, cond, Option, Some, None, List, [], ◌∷◌, length}
 use Rattle.std.proofs.Common.{refl, arith, subst}
 use Rattle.std.proofs.lemmas.Bool.{cond-true, lt-ltb}
 use Rattle.std.proofs.lemmas.Bool.Decides.{nat_tests}
 use Rattle.enc_decoder_multi_byte.specs.declared.multi_byte.Prefix.TheVariants.{Malformed, Incomplete}
-use Rattle.enc_decoder_multi_byte.specs.MultiByte.{CanBeMalformed, ArePrefixes}
+use Rattle.enc_decoder_multi_byte.specs.MultiByte.{CanBeMalformed, AreSettledBelowDigits, ArePrefixes}
+use Rattle.enc_decoder_multi_byte.specs.DoubleByte.{text_of_char}
 use Rattle.enc_decoder_multi_byte.specs.Gb18030.{is_gb18030_lead, is_digit, gb18030_single_char, gb18030_pair_char}
 use Rattle.enc_decoder_multi_byte.specs.Gb18030.{ranges_code_point, four_byte_pointer, four_byte_prefix, gb18030_prefix}
 use Rattle.enc_decoder_multi_byte.proofs.DoubleByteLemmas.{first_alone, first_is_basic, one_is_text, char_is_text}
 use Rattle.enc_decoder_multi_byte.proofs.DoubleByteLemmas.{IsLawfulPrefix, first_lawful, trail_lawful, unless_lawful}
-use Rattle.enc_decoder_multi_byte.proofs.DoubleByteLemmas.{malformed_with_ff}
+use Rattle.enc_decoder_multi_byte.proofs.DoubleByteLemmas.{malformed_with_ff, trail_finished, unless_finished}
 
 -- four bytes
 
@@ -46,6 +47,24 @@ can_be_malformed (a ∷ b ∷ c ∷ []) some incomplete =
 can_be_malformed (a ∷ b ∷ c ∷ d ∷ z) some incomplete =
     let too_short = short (a ∷ b ∷ c ∷ d ∷ z) incomplete in absurd (omega arith)
 
+-- a byte below 30 is neither a digit nor a third byte
+
+four_finished : (t : Bool) (c : Option ℕ) → cond t (four_byte_prefix c) (Malformed 1) ≢ Incomplete
+four_finished true None incomplete = cc
+four_finished true (Some c) incomplete = cc
+four_finished false c incomplete = cc
+
+settled : AreSettledBelowDigits gb18030_prefix
+settled c low a [] incomplete =
+    unless_finished (is_digit c) _ (grind (arith, nat_tests))
+    (trail_finished 1 c (text_of_char (gb18030_pair_char a c))) incomplete
+settled c low a (b ∷ []) incomplete =
+    unless_finished (is_gb18030_lead c) (Malformed 1) (grind (arith, nat_tests)) (λ e. cc) incomplete
+settled c low a (b ∷ d ∷ []) incomplete =
+    four_finished (is_digit c) (ranges_code_point (four_byte_pointer a b d c)) incomplete
+settled c low a (b ∷ d ∷ e ∷ front) incomplete =
+    four_finished (is_digit e) (ranges_code_point (four_byte_pointer a b d e)) incomplete
+
 single_is_basic : (b c : ℕ) → gb18030_single_char b ≡ Some c → c < 0x1_0000
 single_is_basic b c is_char = grind (arith, nat_tests)
 
@@ -63,4 +82,5 @@ laws = record {
   malformed = λ front n e. subst (IsLawfulPrefix 3 (length front)) e (lawful front);
   short = short;
   can_be_malformed = can_be_malformed;
+  settled = settled;
 }

@@ -29,12 +29,15 @@ fn equal_encodings_are_the_same_and_hash_alike(rt: HostRuntime) {
     assert!(rt; first.finish() == second.finish());
 }
 
-/// The laws of constants, ASCII and slices, which are calls that do nothing.
+/// The laws of constants, ASCII, slices and parts of inputs, which are calls that do nothing.
 #[test]
 fn laws_are_called_for_what_they_state() {
     laws::constants_have_their_names();
     laws::ascii_compatible_encode_ascii(SHIFT_JIS);
     laws::slices_are_bytes(b"a");
+    laws::bytes_below_digits_divide(SHIFT_JIS);
+    laws::recoded_parts_are_the_whole(SHIFT_JIS, UTF_8);
+    laws::iso_2022_jp_parts_are_not_the_whole();
 }
 
 #[test]
@@ -54,18 +57,18 @@ fn an_encoding_is_found_by_label_or_byte_order_mark(rt: HostRuntime) {
 }
 
 /// An encoding, its name and output encoding, and whether it encodes everything, is
-/// ASCII-compatible and is single-byte.
-type Properties = (Encoding, &'static str, Encoding, [bool; 3]);
+/// ASCII-compatible, is divided by line feeds and is single-byte.
+type Properties = (Encoding, &'static str, Encoding, [bool; 4]);
 
 #[rattlefmt::skip]
 const PROPERTIES: &[Properties] = &[
-    (UTF_8, "UTF-8", UTF_8, [true, true, false]),
-    (UTF_16LE, "UTF-16LE", UTF_8, [true, false, false]),
-    (REPLACEMENT, "replacement", UTF_8, [true, false, false]),
-    (WINDOWS_1252, "windows-1252", WINDOWS_1252, [false, true, true]),
-    (X_USER_DEFINED, "x-user-defined", X_USER_DEFINED, [false, true, true]),
-    (SHIFT_JIS, "Shift_JIS", SHIFT_JIS, [false, true, false]),
-    (ISO_2022_JP, "ISO-2022-JP", ISO_2022_JP, [false, false, false]),
+    (UTF_8, "UTF-8", UTF_8, [true, true, true, false]),
+    (UTF_16LE, "UTF-16LE", UTF_8, [true, false, false, false]),
+    (REPLACEMENT, "replacement", UTF_8, [true, false, false, false]),
+    (WINDOWS_1252, "windows-1252", WINDOWS_1252, [false, true, true, true]),
+    (X_USER_DEFINED, "x-user-defined", X_USER_DEFINED, [false, true, true, true]),
+    (SHIFT_JIS, "Shift_JIS", SHIFT_JIS, [false, true, true, false]),
+    (ISO_2022_JP, "ISO-2022-JP", ISO_2022_JP, [false, false, false, false]),
 ];
 
 #[test]
@@ -74,9 +77,10 @@ fn an_encoding_has_its_properties(rt: HostRuntime) {
         let name: &'static str = encoding.name();
         let output: Encoding = encoding.output_encoding();
         assert!(rt; (name, output) == (*want_name, *want_output));
-        let properties: [bool; 3] = [
+        let properties: [bool; 4] = [
             encoding.can_encode_everything(),
             encoding.is_ascii_compatible(),
+            encoding.line_feeds_divide(),
             encoding.is_single_byte(),
         ];
         assert!(rt; properties == *want, "{name}");

@@ -1,0 +1,14 @@
+use Rattle.encoding_rs.proofs.DivisionLemmas.{divides_below_digits, utf_8_is_divided, flag_is_divided}
+use Rattle.encoding_rs.proofs.laws.bytes_below_digits_divide.Goals as goal
+
+pub returns-clause-sequences : goal.returns-clause-sequences
+returns-clause-sequences c = λ compatible b low.
+    divides_below_digits c.args.encoding compatible b low
+
+pub returns-clause-text : goal.returns-clause-text
+returns-clause-text c = λ compatible b low front back.
+    utf_8_is_divided c.args.encoding b (divides_below_digits c.args.encoding compatible b low) front back
+
+pub returns-clause-flag : goal.returns-clause-flag
+returns-clause-flag c = λ compatible b low front back.
+    flag_is_divided c.args.encoding b (divides_below_digits c.args.encoding compatible b low) front back
