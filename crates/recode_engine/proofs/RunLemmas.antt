@@ -70,7 +70,8 @@ pub record RunState : Type 0 where
 pub record HasRun (start : RunStart) (now : RunState) : Type 0 where
   pub bytes : List ℕ
   pub wrote : List ℕ
-  pub reads : ReadsOwed start.remaining now.source.remaining (fresh_reader start.handling start.from)
+  pub reads : ReadsOwed start.remaining now.source.remaining
+      (fresh_reader start.handling start.from)
       now.source.state bytes wrote now.malformed
   pub is_exhausted : now.source.state.ended ≡ true → IsExhausted now.source.remaining
   pub written : HasWrittenText start.taken now.taken (fresh_writer start.to) now.writer
@@ -88,7 +89,8 @@ distance_at_start handling from = one_at_most (has_finished (fresh_decoder handl
 
 pub HasRun-start : {start : RunStart} {remaining : Option (List ℕ)} {reader : ReaderState}
     {taken : Option (List ℕ)} {writer : WriterState} {malformed : Bool}
-    → remaining ≡ start.remaining → reader ≡ fresh_reader start.handling start.from → taken ≡ start.taken
+    → remaining ≡ start.remaining → reader ≡ fresh_reader start.handling start.from
+    → taken ≡ start.taken
     → writer ≡ fresh_writer start.to → malformed ≡ false
     → HasRun start (record {
       source = reader_at remaining reader;
@@ -116,7 +118,8 @@ owed_is handling from to bytes =
     ap (λ (rule : EncoderRule). bytes_of_text rule Ascii
     (with_references rule (whole_text handling from bytes)))
     (sym (output_rule_is [] to))
-    ∙ ap (λ ss. owed_bytes (fresh_writer to) (sequence_text ss)) (fresh_sequences handling from bytes)
+    ∙ ap (λ ss. owed_bytes (fresh_writer to) (sequence_text ss))
+    (fresh_sequences handling from bytes)
 
 -- At the end nothing is owed.
 none_after : (s : ReaderState) → has_finished s.decoder ≡ true → (z : List ℕ)
@@ -135,11 +138,12 @@ whole_given old (Some rest) bytes given fails =
 -- Some reads have handed out `text`, of which the sink has taken a prefix of the bytes.
 RunsToFault-by_prefix : (start : RunStart) (next : ReaderPlace) {taken : Option (List ℕ)}
     {bytes wrote text : List ℕ} {malformed last : Bool}
-    → ReadsOwed start.remaining next.remaining (fresh_reader start.handling start.from) next.state bytes wrote
-    malformed → (next.state.ended ≡ true → IsExhausted next.remaining) → text ≡ chars wrote
+    → ReadsOwed start.remaining next.remaining (fresh_reader start.handling start.from) next.state
+    bytes wrote malformed → (next.state.ended ≡ true → IsExhausted next.remaining) → text ≡ chars wrote
     → (last ≡ true → has_finished next.state.decoder ≡ true)
     → TakesPrefix start.taken taken (fresh_writer start.to) text last
-    → RunsToFault start.handling start.from start.to start.remaining next.remaining start.taken taken
+    → RunsToFault start.handling start.from start.to start.remaining next.remaining start.taken
+    taken
 RunsToFault-by_prefix start next {bytes = bytes} {wrote = wrote} {text = text} reads exhausted
     text_is finished takes =
     let later : List ℕ → List ℕ = λ z. sequence_text (owed_sequences next.state z) in
@@ -166,11 +170,12 @@ module _ {start : RunStart} {now : RunState} (next : ReaderPlace) {text : List �
     (so_far : HasRun start now)
     (hands_out : HandsOut now.source.remaining next.remaining now.source.state next.state text
     now.malformed malformed) where
-  reads_on : ReadsOwed start.remaining next.remaining (fresh_reader start.handling start.from) next.state
+  reads_on : ReadsOwed start.remaining next.remaining (fresh_reader start.handling start.from)
+      next.state
       (so_far.bytes ++ hands_out.bytes) (so_far.wrote ++ text) malformed
   reads_on = rw hands_out.flag
-      (ReadsOwed-then (reader_at start.remaining (fresh_reader start.handling start.from)) now.source next
-      so_far.reads hands_out.reads)
+      (ReadsOwed-then (reader_at start.remaining (fresh_reader start.handling start.from))
+      now.source next so_far.reads hands_out.reads)
 
   chars_on : chars (so_far.wrote ++ text) ≡ chars so_far.wrote ++ chars text
   chars_on = chars-append so_far.wrote text (handed_utf_8 so_far.reads)
@@ -205,7 +210,8 @@ module _ {start : RunStart} {now : RunState} (next : ReaderPlace) {text : List �
 
     -- or a fault stops the push
     pub RunsToFault-pushing : {taken : Option (List ℕ)} → StopsWithin between taken mid [] false
-        → RunsToFault start.handling start.from start.to start.remaining next.remaining start.taken taken
+        → RunsToFault start.handling start.from start.to start.remaining next.remaining start.taken
+        taken
     RunsToFault-pushing stops =
         RunsToFault-by_prefix start next reads_on hands_out.exhausted
         (append-nil (chars (so_far.wrote ++ text))) (λ is_last. not_ended is_last)
@@ -214,7 +220,8 @@ module _ {start : RunStart} {now : RunState} (next : ReaderPlace) {text : List �
   -- a fault while its text is written
   pub RunsToFault-writing : {taken : Option (List ℕ)}
       → StopsWithin now.taken taken now.writer (chars text) false
-      → RunsToFault start.handling start.from start.to start.remaining next.remaining start.taken taken
+      → RunsToFault start.handling start.from start.to start.remaining next.remaining start.taken
+      taken
   RunsToFault-writing stops =
       RunsToFault-by_prefix start next reads_on hands_out.exhausted (sym chars_on)
       (λ is_last. not_ended is_last)
@@ -228,13 +235,15 @@ module _ {start : RunStart} {now : RunState} (next : ReaderPlace) {text : List �
     -- a fault while it is written
     pub RunsToFault-ending : {taken : Option (List ℕ)}
         → StopsWithin now.taken taken now.writer [] true
-        → RunsToFault start.handling start.from start.to start.remaining next.remaining start.taken taken
+        → RunsToFault start.handling start.from start.to start.remaining next.remaining start.taken
+        taken
     RunsToFault-ending stops =
         RunsToFault-by_prefix start next reads_on hands_out.exhausted
         (append-nil (chars so_far.wrote) ∙ sym text_stays) (λ _. end.finished)
         (stops start.taken (fresh_writer start.to) (chars so_far.wrote) so_far.written)
 
-    all_done : whole_sequences start.handling start.from (so_far.bytes ++ hands_out.bytes) ≡ reads_on.done
+    all_done : whole_sequences start.handling start.from (so_far.bytes ++ hands_out.bytes)
+        ≡ reads_on.done
     all_done =
         fresh_sequences start.handling start.from (so_far.bytes ++ hands_out.bytes)
         ∙ ap (owed_sequences (fresh_reader start.handling start.from))
@@ -242,7 +251,8 @@ module _ {start : RunStart} {now : RunState} (next : ReaderPlace) {text : List �
         ∙ reads_on.residual [] (λ _. refl)
         ∙ ap (λ ss. reads_on.done ++ ss) end.none_owed ∙ append-nil reads_on.done
 
-    text_is : chars so_far.wrote ≡ whole_text start.handling start.from (so_far.bytes ++ hands_out.bytes)
+    text_is : chars so_far.wrote ≡ whole_text start.handling start.from
+        (so_far.bytes ++ hands_out.bytes)
     text_is = sym text_stays ∙ handed_is reads_on ∙ ap sequence_text (sym all_done)
 
     bytes_are : owed_bytes (fresh_writer start.to) (chars so_far.wrote)
@@ -250,7 +260,8 @@ module _ {start : RunStart} {now : RunState} (next : ReaderPlace) {text : List �
     bytes_are =
         ap (owed_bytes (fresh_writer start.to)) text_is
         ∙ ap (λ (rule : EncoderRule). bytes_of_text rule Ascii
-        (with_references rule (whole_text start.handling start.from (so_far.bytes ++ hands_out.bytes))))
+        (with_references rule (whole_text start.handling start.from
+        (so_far.bytes ++ hands_out.bytes))))
         (output_rule_is [] start.to)
 
     flag_is : (malformed || now.writer.had_unmappables)
@@ -266,7 +277,8 @@ module _ {start : RunStart} {now : RunState} (next : ReaderPlace) {text : List �
         ∙ ap (any_unmappable (output_rule [] start.to)) text_is)
 
     pub RunsToEnd-last : {taken : Option (List ℕ)} → EndsText now.taken taken now.writer
-        → RunsToEnd start.handling start.from start.to start.remaining next.remaining start.taken taken
+        → RunsToEnd start.handling start.from start.to start.remaining next.remaining start.taken
+        taken
         (malformed || now.writer.had_unmappables)
     RunsToEnd-last {taken = taken} ends = record {
       bytes = so_far.bytes ++ hands_out.bytes;
@@ -284,7 +296,8 @@ module _ {start : RunStart} {now : RunState} (so_far : HasRun start now) where
   stops_at : (next : ReaderPlace) (x : List ℕ) (malformed : Bool)
       → ReadsOwed now.source.remaining next.remaining now.source.state next.state x [] malformed
       → (next.state.ended ≡ true → IsExhausted next.remaining)
-      → RunsToFault start.handling start.from start.to start.remaining next.remaining start.taken now.taken
+      → RunsToFault start.handling start.from start.to start.remaining next.remaining start.taken
+      now.taken
   stops_at next x malformed reads_owed is_exhausted =
       RunsToFault-writing next so_far (record {
         bytes = x;
@@ -295,7 +308,8 @@ module _ {start : RunStart} {now : RunState} (so_far : HasRun start now) where
       }) (StopsWithin-none now.taken now.writer (chars []) false)
 
   -- after `made` reads
-  pub RunsToFault-between : RunsToFault start.handling start.from start.to start.remaining now.source.remaining
+  pub RunsToFault-between : RunsToFault start.handling start.from start.to start.remaining
+      now.source.remaining
       start.taken now.taken
   RunsToFault-between =
       stops_at now.source [] false (ReadsOwed-none now.source.remaining now.source.state)
@@ -312,7 +326,8 @@ module _ {start : RunStart} {now : RunState} (so_far : HasRun start now) where
   module _ (next : ReaderPlace) {failed_before failed_after : Bool}
       (fails : FailsToRead now.source.remaining next.remaining failed_before failed_after
       now.source.state next.state) where
-    pub RunsToFault-reading : RunsToFault start.handling start.from start.to start.remaining next.remaining
+    pub RunsToFault-reading : RunsToFault start.handling start.from start.to start.remaining
+        next.remaining
         start.taken now.taken
     RunsToFault-reading =
         stops_at next fails.bytes fails.malformed fails.reads

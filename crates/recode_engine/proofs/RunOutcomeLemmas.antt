@@ -43,21 +43,22 @@ pub when_err : {T E P : Type 0} (r : Result T E) → IsErr r → OnErr r P → P
 when_err (Ok x) e says = absurd (false≢true e)
 when_err (Err f) e says = says
 
--- the same, where the flag is known by another name
-pub RunsToEnd-by : {handling : BomHandling} {from to : Encoding} {t₀ t k₀ k : Option (List ℕ)} {r replaced : Bool}
-    → replaced ≡ r → RunsToEnd handling from to t₀ t k₀ k r → RunsToEnd handling from to t₀ t k₀ k replaced
-RunsToEnd-by flag ends = rw flag ends
+module _ {handling : BomHandling} {from to : Encoding} where
+  -- the same, where the flag is known by another name
+  pub RunsToEnd-by : {t₀ t k₀ k : Option (List ℕ)} {r replaced : Bool} → replaced ≡ r
+      → RunsToEnd handling from to t₀ t k₀ k r → RunsToEnd handling from to t₀ t k₀ k replaced
+  RunsToEnd-by flag ends = rw flag ends
 
--- the same, where the source is known by other names, and where the sink is
-pub IsRecodeRun-source : {handling : BomHandling} {from to : Encoding} {s₀ s₁ s₂ s₃ k₀ k : Side}
-    {r : Result Bool RecodeFault} → s₂ ≡ s₀ → s₃ ≡ s₁
-    → IsRecodeRun handling from to s₀ s₁ k₀ k r → IsRecodeRun handling from to s₂ s₃ k₀ k r
-IsRecodeRun-source before after ran = rw (before, after) ran
+  -- the same, where the source is known by other names, and where the sink is
+  pub IsRecodeRun-source : {s₀ s₁ s₂ s₃ k₀ k : Side} {r : Result Bool RecodeFault} → s₂ ≡ s₀
+      → s₃ ≡ s₁ → IsRecodeRun handling from to s₀ s₁ k₀ k r
+      → IsRecodeRun handling from to s₂ s₃ k₀ k r
+  IsRecodeRun-source before after ran = rw (before, after) ran
 
-pub IsRecodeRun-sink : {handling : BomHandling} {from to : Encoding} {s₀ s k₀ k₁ k₂ k₃ : Side}
-    {r : Result Bool RecodeFault} → k₂ ≡ k₀ → k₃ ≡ k₁
-    → IsRecodeRun handling from to s₀ s k₀ k₁ r → IsRecodeRun handling from to s₀ s k₂ k₃ r
-IsRecodeRun-sink before after ran = rw (before, after) ran
+  pub IsRecodeRun-sink : {s₀ s k₀ k₁ k₂ k₃ : Side} {r : Result Bool RecodeFault} → k₂ ≡ k₀
+      → k₃ ≡ k₁ → IsRecodeRun handling from to s₀ s k₀ k₁ r
+      → IsRecodeRun handling from to s₀ s k₂ k₃ r
+  IsRecodeRun-sink before after ran = rw (before, after) ran
 
 IfSome-always : (known : Option (List ℕ)) {P : List ℕ → Type 0} → ((all : List ℕ) → P all)
     → IfSome known P
@@ -71,11 +72,13 @@ neither_failed : {a b : Bool} {P : Type 0} → a ≡ false → b ≡ false → (
 neither_failed first second failed = absurd (false≢true (rw (first, second) at failed))
 
 -- a run that is begun, since neither side has failed before
-module _ {handling : BomHandling} {from to : Encoding} {source_before source_after sink_before sink_after : Side}
+module _ {handling : BomHandling} {from to : Encoding}
+    {source_before source_after sink_before sink_after : Side}
     (source_going : source_before.has_failed ≡ false)
     (sink_going : sink_before.has_failed ≡ false) where
   pub IsRecodeRun-ok : {r : Result Bool RecodeFault} {replaced : Bool} → r ≡ Ok replaced
-      → RunsToEnd handling from to source_before.bytes source_after.bytes sink_before.bytes sink_after.bytes
+      → RunsToEnd handling from to source_before.bytes source_after.bytes sink_before.bytes
+      sink_after.bytes
       replaced
       → source_after.has_failed ≡ source_before.has_failed
       → sink_after.has_failed ≡ sink_before.has_failed
@@ -121,7 +124,8 @@ module _ {handling : BomHandling} {from to : Encoding} {source_before source_aft
       })
 
 -- a run that is not begun, since the side that is named has failed before
-pub IsRecodeRun-not_begun : {handling : BomHandling} {from to : Encoding} {source sink : Side} (fault : RecodeFault)
+pub IsRecodeRun-not_begun : {handling : BomHandling} {from to : Encoding} {source sink : Side}
+    (fault : RecodeFault)
     → (fault ≡ side_fault.Read → source.has_failed ≡ true)
     → (fault ≡ side_fault.Write → sink.has_failed ≡ true)
     → (source.has_failed ≡ true → fault ≡ side_fault.Read)

@@ -34,7 +34,8 @@ any_replaced handling from to bytes =
 -- A run that has reached the end of its source, by the bytes that the two sides model before and
 -- after it.
 pub record RunsToEnd (handling : BomHandling) (from to : Encoding)
-    (remaining_before remaining_after : Option (List ℕ)) (taken_before taken_after : Option (List ℕ)) (replaced : Bool) : Type 0 where
+    (remaining_before remaining_after : Option (List ℕ))
+    (taken_before taken_after : Option (List ℕ)) (replaced : Bool) : Type 0 where
   -- the bytes read: all those of the source, which has none left
   pub bytes : List ℕ
   pub all_read : IfSome remaining_before (λ all. bytes ≡ all)
@@ -46,7 +47,8 @@ pub record RunsToEnd (handling : BomHandling) (from to : Encoding)
 
 -- A run that a fault has stopped.
 pub record RunsToFault (handling : BomHandling) (from to : Encoding)
-    (remaining_before remaining_after : Option (List ℕ)) (taken_before taken_after : Option (List ℕ)) : Type 0 where
+    (remaining_before remaining_after : Option (List ℕ))
+    (taken_before taken_after : Option (List ℕ)) : Type 0 where
   -- the bytes that the source gave during the run
   pub bytes : List ℕ
   pub given : ConsumesRemaining remaining_before remaining_after bytes

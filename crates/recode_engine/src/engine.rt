@@ -149,8 +149,8 @@ fn run_through<R: Source, W: Sink>(
 /// Recodes a source to its end as [`run`] does, with the byte order marks of `handling`.
 ///
 /// With `Sniff` any mark at the start overrides `from`. With `Remove` only the mark of `from` is
-/// looked for, and with `Off` none is, as in a part of a whole after the first. A mark that is found
-/// is dropped.
+/// looked for, and with `Off` none is, as in a part of a whole after the first. A mark that is
+/// found is dropped.
 ///
 /// Result, errors and memory: those of [`run`].
 pub fn run_part<R: Source, W: Sink>(
