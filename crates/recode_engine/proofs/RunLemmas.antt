@@ -139,8 +139,8 @@ whole_given old (Some rest) bytes given fails =
 RunsToFault-by_prefix : (start : RunStart) (next : ReaderPlace) {taken : Option (List ℕ)}
     {bytes wrote text : List ℕ} {malformed last : Bool}
     → ReadsOwed start.remaining next.remaining (fresh_reader start.handling start.from) next.state
-    bytes wrote malformed → (next.state.ended ≡ true → IsExhausted next.remaining) → text ≡ chars wrote
-    → (last ≡ true → has_finished next.state.decoder ≡ true)
+    bytes wrote malformed → (next.state.ended ≡ true → IsExhausted next.remaining)
+    → text ≡ chars wrote → (last ≡ true → has_finished next.state.decoder ≡ true)
     → TakesPrefix start.taken taken (fresh_writer start.to) text last
     → RunsToFault start.handling start.from start.to start.remaining next.remaining start.taken
     taken
