@@ -4,7 +4,7 @@ use Rattle.std.proofs.Common.{◌++◌, length, Option, Some, None, refl, ap, �
 use Rattle.std.proofs.Common.{append-nil, length-append, arith, chars, subst}
 use Rattle.std.proofs.lemmas.Bool.{false≢true}
 use Rattle.std.proofs.lemmas.Str.{chars-encodes, chars-append, chars-nil}
-use Rattle.std.specs.Prelude.{IfSome}
+use Rattle.std.specs.Prelude.{IfSome, if◌then◌else◌}
 use Rattle.enc_units.proofs.Utf8CharsLemmas.{their_units}
 use Rattle.enc_decoder.specs.Sequence.{sequence_text, any_malformed}
 use Rattle.enc_decoder.proofs.SequenceLemmas.{sequence_text-append}
@@ -12,15 +12,15 @@ use Rattle.enc_encoder.specs.declared.character_set.CharacterSet.TheVariants.{As
 use Rattle.enc_encoder.specs.EncoderRule.{EncoderRule}
 use Rattle.enc_encoder.specs.Text.{bytes_of_text, with_references}
 use Rattle.enc_encoder.specs.Unmappable.{any_unmappable}
-use Rattle.enc_stream.specs.declared.bom.BomHandling.TheVariants.{Sniff}
+use Rattle.enc_stream.specs.declared.bom.BomHandling.{BomHandling}
 use Rattle.enc_stream.specs.declared.encoding.Encoding.{Encoding}
 use Rattle.enc_stream.specs.Encodings.{output_rule}
-use Rattle.enc_stream.specs.Decoding.{has_finished, whole_sequences}
+use Rattle.enc_stream.specs.Decoding.{has_finished, fresh_decoder, whole_sequences}
 use Rattle.enc_stream.proofs.EndOfInputLemmas.{fresh_sequences, none_left}
 use Rattle.enc_stream.proofs.EncoderProgressLemmas.{output_rule_is}
 use Rattle.enc_reader.specs.Source.{ConsumesRemaining, IsExhausted}
 use Rattle.enc_reader.specs.Reading.{ReaderState, ReadsOwed, HandsOut, FailsToRead, IsReaderAtEnd, distance_to_end}
-use Rattle.enc_reader.specs.Reading.{sniffing_reader, owed_sequences}
+use Rattle.enc_reader.specs.Reading.{fresh_reader, owed_sequences}
 use Rattle.enc_reader.proofs.SourceLemmas.{ConsumesRemaining-then}
 use Rattle.enc_reader.proofs.ReadingLemmas.{ReaderPlace, reader_at, ReadsOwed-none, ReadsOwed-then, handed_utf_8}
 use Rattle.enc_writer.specs.Sink.{AppendsContents}
@@ -49,8 +49,10 @@ owed_text {b = b} reads_owed z n =
     ∙ sequence_text-append reads_owed.done (owed_sequences b z)
     ∙ ap (λ u. u ++ sequence_text (owed_sequences b z)) (sym (handed_is reads_owed))
 
--- What a run begins with: the two encodings, and what its sides model.
+-- What a run begins with: the byte order marks that it looks for, the two encodings, and what its
+-- sides model.
 pub record RunStart : Type 0 where
+  pub handling : BomHandling
   pub from : Encoding
   pub to : Encoding
   pub remaining : Option (List ℕ)
@@ -68,16 +70,27 @@ pub record RunState : Type 0 where
 pub record HasRun (start : RunStart) (now : RunState) : Type 0 where
   pub bytes : List ℕ
   pub wrote : List ℕ
-  pub reads : ReadsOwed start.remaining now.source.remaining (sniffing_reader start.from)
+  pub reads : ReadsOwed start.remaining now.source.remaining
+      (fresh_reader start.handling start.from)
       now.source.state bytes wrote now.malformed
   pub is_exhausted : now.source.state.ended ≡ true → IsExhausted now.source.remaining
   pub written : HasWrittenText start.taken now.taken (fresh_writer start.to) now.writer
       (chars wrote)
   pub enough : now.made + distance_to_end now.source.state ≤ 1 + 2 * length bytes
 
+-- A run begins one step before the end of an empty source, at most.
+one_at_most : (finished : Bool) → (if finished then 0 else 1) ≤ 1
+one_at_most false = omega arith
+one_at_most true = omega arith
+
+distance_at_start : (handling : BomHandling) (from : Encoding)
+    → distance_to_end (fresh_reader handling from) ≤ 1
+distance_at_start handling from = one_at_most (has_finished (fresh_decoder handling from))
+
 pub HasRun-start : {start : RunStart} {remaining : Option (List ℕ)} {reader : ReaderState}
     {taken : Option (List ℕ)} {writer : WriterState} {malformed : Bool}
-    → remaining ≡ start.remaining → reader ≡ sniffing_reader start.from → taken ≡ start.taken
+    → remaining ≡ start.remaining → reader ≡ fresh_reader start.handling start.from
+    → taken ≡ start.taken
     → writer ≡ fresh_writer start.to → malformed ≡ false
     → HasRun start (record {
       source = reader_at remaining reader;
@@ -90,21 +103,23 @@ HasRun-start {start} all_remaining is_fresh none_taken fresh none_malformed =
     rw (all_remaining, is_fresh, none_taken, fresh, none_malformed) (record {
       bytes = [];
       wrote = [];
-      reads = ReadsOwed-none start.remaining (sniffing_reader start.from);
+      reads = ReadsOwed-none start.remaining (fresh_reader start.handling start.from);
       is_exhausted = λ e. not_ended e;
       written = rw chars-nil (HasWrittenText-none start.taken (fresh_writer start.to));
-      enough = omega arith;
+      enough = omega (arith, distance_at_start start.handling start.from);
     })
 
 -- The bytes of a whole input are those that a fresh writer owes for its text.
-owed_is : (from to : Encoding) (bytes : List ℕ)
-    → recoded_bytes from to bytes
-    ≡ owed_bytes (fresh_writer to) (sequence_text (owed_sequences (sniffing_reader from) bytes))
-owed_is from to bytes =
+owed_is : (handling : BomHandling) (from to : Encoding) (bytes : List ℕ)
+    → recoded_bytes handling from to bytes
+    ≡ owed_bytes (fresh_writer to)
+    (sequence_text (owed_sequences (fresh_reader handling from) bytes))
+owed_is handling from to bytes =
     ap (λ (rule : EncoderRule). bytes_of_text rule Ascii
-    (with_references rule (whole_text from bytes)))
+    (with_references rule (whole_text handling from bytes)))
     (sym (output_rule_is [] to))
-    ∙ ap (λ ss. owed_bytes (fresh_writer to) (sequence_text ss)) (fresh_sequences Sniff from bytes)
+    ∙ ap (λ ss. owed_bytes (fresh_writer to) (sequence_text ss))
+    (fresh_sequences handling from bytes)
 
 -- At the end nothing is owed.
 none_after : (s : ReaderState) → has_finished s.decoder ≡ true → (z : List ℕ)
@@ -123,11 +138,12 @@ whole_given old (Some rest) bytes given fails =
 -- Some reads have handed out `text`, of which the sink has taken a prefix of the bytes.
 RunsToFault-by_prefix : (start : RunStart) (next : ReaderPlace) {taken : Option (List ℕ)}
     {bytes wrote text : List ℕ} {malformed last : Bool}
-    → ReadsOwed start.remaining next.remaining (sniffing_reader start.from) next.state bytes wrote
-    malformed → (next.state.ended ≡ true → IsExhausted next.remaining) → text ≡ chars wrote
-    → (last ≡ true → has_finished next.state.decoder ≡ true)
+    → ReadsOwed start.remaining next.remaining (fresh_reader start.handling start.from) next.state
+    bytes wrote malformed → (next.state.ended ≡ true → IsExhausted next.remaining)
+    → text ≡ chars wrote → (last ≡ true → has_finished next.state.decoder ≡ true)
     → TakesPrefix start.taken taken (fresh_writer start.to) text last
-    → RunsToFault start.from start.to start.remaining next.remaining start.taken taken
+    → RunsToFault start.handling start.from start.to start.remaining next.remaining start.taken
+    taken
 RunsToFault-by_prefix start next {bytes = bytes} {wrote = wrote} {text = text} reads exhausted
     text_is finished takes =
     let later : List ℕ → List ℕ = λ z. sequence_text (owed_sequences next.state z) in
@@ -142,7 +158,7 @@ RunsToFault-by_prefix start next {bytes = bytes} {wrote = wrote} {text = text} r
           let others = takes.prefix (later z)
           (λ is_last. ap sequence_text (none_after next.state (finished is_last) z)) in (
             others.0,
-            owed_is start.from start.to (bytes ++ z)
+            owed_is start.handling start.from start.to (bytes ++ z)
                 ∙ ap (owed_bytes (fresh_writer start.to)) (owed_text reads z ends
                 ∙ ap (λ t. t ++ later z) (sym text_is))
                 ∙ others.1,
@@ -154,11 +170,12 @@ module _ {start : RunStart} {now : RunState} (next : ReaderPlace) {text : List �
     (so_far : HasRun start now)
     (hands_out : HandsOut now.source.remaining next.remaining now.source.state next.state text
     now.malformed malformed) where
-  reads_on : ReadsOwed start.remaining next.remaining (sniffing_reader start.from) next.state
+  reads_on : ReadsOwed start.remaining next.remaining (fresh_reader start.handling start.from)
+      next.state
       (so_far.bytes ++ hands_out.bytes) (so_far.wrote ++ text) malformed
   reads_on = rw hands_out.flag
-      (ReadsOwed-then (reader_at start.remaining (sniffing_reader start.from)) now.source next
-      so_far.reads hands_out.reads)
+      (ReadsOwed-then (reader_at start.remaining (fresh_reader start.handling start.from))
+      now.source next so_far.reads hands_out.reads)
 
   chars_on : chars (so_far.wrote ++ text) ≡ chars so_far.wrote ++ chars text
   chars_on = chars-append so_far.wrote text (handed_utf_8 so_far.reads)
@@ -193,7 +210,8 @@ module _ {start : RunStart} {now : RunState} (next : ReaderPlace) {text : List �
 
     -- or a fault stops the push
     pub RunsToFault-pushing : {taken : Option (List ℕ)} → StopsWithin between taken mid [] false
-        → RunsToFault start.from start.to start.remaining next.remaining start.taken taken
+        → RunsToFault start.handling start.from start.to start.remaining next.remaining start.taken
+        taken
     RunsToFault-pushing stops =
         RunsToFault-by_prefix start next reads_on hands_out.exhausted
         (append-nil (chars (so_far.wrote ++ text))) (λ is_last. not_ended is_last)
@@ -202,7 +220,8 @@ module _ {start : RunStart} {now : RunState} (next : ReaderPlace) {text : List �
   -- a fault while its text is written
   pub RunsToFault-writing : {taken : Option (List ℕ)}
       → StopsWithin now.taken taken now.writer (chars text) false
-      → RunsToFault start.from start.to start.remaining next.remaining start.taken taken
+      → RunsToFault start.handling start.from start.to start.remaining next.remaining start.taken
+      taken
   RunsToFault-writing stops =
       RunsToFault-by_prefix start next reads_on hands_out.exhausted (sym chars_on)
       (λ is_last. not_ended is_last)
@@ -216,45 +235,50 @@ module _ {start : RunStart} {now : RunState} (next : ReaderPlace) {text : List �
     -- a fault while it is written
     pub RunsToFault-ending : {taken : Option (List ℕ)}
         → StopsWithin now.taken taken now.writer [] true
-        → RunsToFault start.from start.to start.remaining next.remaining start.taken taken
+        → RunsToFault start.handling start.from start.to start.remaining next.remaining start.taken
+        taken
     RunsToFault-ending stops =
         RunsToFault-by_prefix start next reads_on hands_out.exhausted
         (append-nil (chars so_far.wrote) ∙ sym text_stays) (λ _. end.finished)
         (stops start.taken (fresh_writer start.to) (chars so_far.wrote) so_far.written)
 
-    all_done : whole_sequences Sniff start.from (so_far.bytes ++ hands_out.bytes) ≡ reads_on.done
+    all_done : whole_sequences start.handling start.from (so_far.bytes ++ hands_out.bytes)
+        ≡ reads_on.done
     all_done =
-        fresh_sequences Sniff start.from (so_far.bytes ++ hands_out.bytes)
-        ∙ ap (owed_sequences (sniffing_reader start.from))
+        fresh_sequences start.handling start.from (so_far.bytes ++ hands_out.bytes)
+        ∙ ap (owed_sequences (fresh_reader start.handling start.from))
         (sym (append-nil (so_far.bytes ++ hands_out.bytes)))
         ∙ reads_on.residual [] (λ _. refl)
         ∙ ap (λ ss. reads_on.done ++ ss) end.none_owed ∙ append-nil reads_on.done
 
-    text_is : chars so_far.wrote ≡ whole_text start.from (so_far.bytes ++ hands_out.bytes)
+    text_is : chars so_far.wrote ≡ whole_text start.handling start.from
+        (so_far.bytes ++ hands_out.bytes)
     text_is = sym text_stays ∙ handed_is reads_on ∙ ap sequence_text (sym all_done)
 
     bytes_are : owed_bytes (fresh_writer start.to) (chars so_far.wrote)
-        ≡ recoded_bytes start.from start.to (so_far.bytes ++ hands_out.bytes)
+        ≡ recoded_bytes start.handling start.from start.to (so_far.bytes ++ hands_out.bytes)
     bytes_are =
         ap (owed_bytes (fresh_writer start.to)) text_is
         ∙ ap (λ (rule : EncoderRule). bytes_of_text rule Ascii
-        (with_references rule (whole_text start.from (so_far.bytes ++ hands_out.bytes))))
+        (with_references rule (whole_text start.handling start.from
+        (so_far.bytes ++ hands_out.bytes))))
         (output_rule_is [] start.to)
 
     flag_is : (malformed || now.writer.had_unmappables)
-        ≡ any_replaced start.from start.to (so_far.bytes ++ hands_out.bytes)
+        ≡ any_replaced start.handling start.from start.to (so_far.bytes ++ hands_out.bytes)
     flag_is =
         let all = so_far.bytes ++ hands_out.bytes in
         ap (λ b. b || now.writer.had_unmappables)
         (reads_on.flag ∙ ap any_malformed (sym all_done))
-        ∙ ap (λ u. any_malformed (whole_sequences Sniff start.from all) || u)
+        ∙ ap (λ u. any_malformed (whole_sequences start.handling start.from all) || u)
         (so_far.written.flag
         ∙ ap (λ (rule : EncoderRule). any_unmappable rule (chars so_far.wrote))
         (output_rule_is [] start.to)
         ∙ ap (any_unmappable (output_rule [] start.to)) text_is)
 
     pub RunsToEnd-last : {taken : Option (List ℕ)} → EndsText now.taken taken now.writer
-        → RunsToEnd start.from start.to start.remaining next.remaining start.taken taken
+        → RunsToEnd start.handling start.from start.to start.remaining next.remaining start.taken
+        taken
         (malformed || now.writer.had_unmappables)
     RunsToEnd-last {taken = taken} ends = record {
       bytes = so_far.bytes ++ hands_out.bytes;
@@ -272,7 +296,8 @@ module _ {start : RunStart} {now : RunState} (so_far : HasRun start now) where
   stops_at : (next : ReaderPlace) (x : List ℕ) (malformed : Bool)
       → ReadsOwed now.source.remaining next.remaining now.source.state next.state x [] malformed
       → (next.state.ended ≡ true → IsExhausted next.remaining)
-      → RunsToFault start.from start.to start.remaining next.remaining start.taken now.taken
+      → RunsToFault start.handling start.from start.to start.remaining next.remaining start.taken
+      now.taken
   stops_at next x malformed reads_owed is_exhausted =
       RunsToFault-writing next so_far (record {
         bytes = x;
@@ -283,7 +308,8 @@ module _ {start : RunStart} {now : RunState} (so_far : HasRun start now) where
       }) (StopsWithin-none now.taken now.writer (chars []) false)
 
   -- after `made` reads
-  pub RunsToFault-between : RunsToFault start.from start.to start.remaining now.source.remaining
+  pub RunsToFault-between : RunsToFault start.handling start.from start.to start.remaining
+      now.source.remaining
       start.taken now.taken
   RunsToFault-between =
       stops_at now.source [] false (ReadsOwed-none now.source.remaining now.source.state)
@@ -300,7 +326,8 @@ module _ {start : RunStart} {now : RunState} (so_far : HasRun start now) where
   module _ (next : ReaderPlace) {failed_before failed_after : Bool}
       (fails : FailsToRead now.source.remaining next.remaining failed_before failed_after
       now.source.state next.state) where
-    pub RunsToFault-reading : RunsToFault start.from start.to start.remaining next.remaining
+    pub RunsToFault-reading : RunsToFault start.handling start.from start.to start.remaining
+        next.remaining
         start.taken now.taken
     RunsToFault-reading =
         stops_at next fails.bytes fails.malformed fails.reads

@@ -6,6 +6,7 @@ use Rattle.std.proofs.lemmas.Bool.{false≢true, eqb-false}
 use Rattle.std.proofs.lemmas.Bool.Decides.{nat_tests}
 use Rattle.std.specs.Prelude.{IsErr, IsErrOf, IfSome, OnErr, Ok, Err}
 use Rattle.std.specs.declared.result.Result.{Result}
+use Rattle.enc_stream.specs.declared.bom.BomHandling.{BomHandling}
 use Rattle.enc_stream.specs.declared.encoding.Encoding.{Encoding}
 use Rattle.enc_reader.specs.declared.decode_reader.ReadFault.{ReadFault}
 use Rattle.enc_reader.specs.declared.decode_reader.ReadFault.TheVariants as fault
@@ -42,21 +43,22 @@ pub when_err : {T E P : Type 0} (r : Result T E) → IsErr r → OnErr r P → P
 when_err (Ok x) e says = absurd (false≢true e)
 when_err (Err f) e says = says
 
--- the same, where the flag is known by another name
-pub RunsToEnd-by : {from to : Encoding} {t₀ t k₀ k : Option (List ℕ)} {r replaced : Bool}
-    → replaced ≡ r → RunsToEnd from to t₀ t k₀ k r → RunsToEnd from to t₀ t k₀ k replaced
-RunsToEnd-by flag ends = rw flag ends
+module _ {handling : BomHandling} {from to : Encoding} where
+  -- the same, where the flag is known by another name
+  pub RunsToEnd-by : {t₀ t k₀ k : Option (List ℕ)} {r replaced : Bool} → replaced ≡ r
+      → RunsToEnd handling from to t₀ t k₀ k r → RunsToEnd handling from to t₀ t k₀ k replaced
+  RunsToEnd-by flag ends = rw flag ends
 
--- the same, where the source is known by other names, and where the sink is
-pub IsRecodeRun-source : {from to : Encoding} {s₀ s₁ s₂ s₃ k₀ k : Side}
-    {r : Result Bool RecodeFault} → s₂ ≡ s₀ → s₃ ≡ s₁
-    → IsRecodeRun from to s₀ s₁ k₀ k r → IsRecodeRun from to s₂ s₃ k₀ k r
-IsRecodeRun-source before after ran = rw (before, after) ran
+  -- the same, where the source is known by other names, and where the sink is
+  pub IsRecodeRun-source : {s₀ s₁ s₂ s₃ k₀ k : Side} {r : Result Bool RecodeFault} → s₂ ≡ s₀
+      → s₃ ≡ s₁ → IsRecodeRun handling from to s₀ s₁ k₀ k r
+      → IsRecodeRun handling from to s₂ s₃ k₀ k r
+  IsRecodeRun-source before after ran = rw (before, after) ran
 
-pub IsRecodeRun-sink : {from to : Encoding} {s₀ s k₀ k₁ k₂ k₃ : Side}
-    {r : Result Bool RecodeFault} → k₂ ≡ k₀ → k₃ ≡ k₁
-    → IsRecodeRun from to s₀ s k₀ k₁ r → IsRecodeRun from to s₀ s k₂ k₃ r
-IsRecodeRun-sink before after ran = rw (before, after) ran
+  pub IsRecodeRun-sink : {s₀ s k₀ k₁ k₂ k₃ : Side} {r : Result Bool RecodeFault} → k₂ ≡ k₀
+      → k₃ ≡ k₁ → IsRecodeRun handling from to s₀ s k₀ k₁ r
+      → IsRecodeRun handling from to s₀ s k₂ k₃ r
+  IsRecodeRun-sink before after ran = rw (before, after) ran
 
 IfSome-always : (known : Option (List ℕ)) {P : List ℕ → Type 0} → ((all : List ℕ) → P all)
     → IfSome known P
@@ -70,15 +72,17 @@ neither_failed : {a b : Bool} {P : Type 0} → a ≡ false → b ≡ false → (
 neither_failed first second failed = absurd (false≢true (rw (first, second) at failed))
 
 -- a run that is begun, since neither side has failed before
-module _ {from to : Encoding} {source_before source_after sink_before sink_after : Side}
+module _ {handling : BomHandling} {from to : Encoding}
+    {source_before source_after sink_before sink_after : Side}
     (source_going : source_before.has_failed ≡ false)
     (sink_going : sink_before.has_failed ≡ false) where
   pub IsRecodeRun-ok : {r : Result Bool RecodeFault} {replaced : Bool} → r ≡ Ok replaced
-      → RunsToEnd from to source_before.bytes source_after.bytes sink_before.bytes sink_after.bytes
+      → RunsToEnd handling from to source_before.bytes source_after.bytes sink_before.bytes
+      sink_after.bytes
       replaced
       → source_after.has_failed ≡ source_before.has_failed
       → sink_after.has_failed ≡ sink_before.has_failed
-      → IsRecodeRun from to source_before source_after sink_before sink_after r
+      → IsRecodeRun handling from to source_before source_after sink_before sink_after r
   IsRecodeRun-ok {replaced = replaced} e ends source sink =
       rw e (record {
         ok = ends;
@@ -96,14 +100,14 @@ module _ {from to : Encoding} {source_before source_after sink_before sink_after
 
   -- and that a fault of a side stops
   pub IsRecodeRun-fault : {r : Result Bool RecodeFault} (fault : RecodeFault) → r ≡ Err fault
-      → RunsToFault from to source_before.bytes source_after.bytes sink_before.bytes
+      → RunsToFault handling from to source_before.bytes source_after.bytes sink_before.bytes
       sink_after.bytes
       → (fault ≡ side_fault.Read → IfSome source_before.bytes
       (λ all. length all < 2 ^ 62 → source_after.has_failed ≡ true)
       × (sink_after.has_failed ≡ sink_before.has_failed))
       → (fault ≡ side_fault.Write → (sink_after.has_failed ≡ true)
       × (source_after.has_failed ≡ source_before.has_failed))
-      → IsRecodeRun from to source_before source_after sink_before sink_after r
+      → IsRecodeRun handling from to source_before source_after sink_before sink_after r
   IsRecodeRun-fault fault e stops read write =
       rw e (record {
         ok = tt;
@@ -120,30 +124,32 @@ module _ {from to : Encoding} {source_before source_after sink_before sink_after
       })
 
 -- a run that is not begun, since the side that is named has failed before
-pub IsRecodeRun-not_begun : {from to : Encoding} {source sink : Side} (fault : RecodeFault)
+pub IsRecodeRun-not_begun : {handling : BomHandling} {from to : Encoding} {source sink : Side}
+    (fault : RecodeFault)
     → (fault ≡ side_fault.Read → source.has_failed ≡ true)
     → (fault ≡ side_fault.Write → sink.has_failed ≡ true)
     → (source.has_failed ≡ true → fault ≡ side_fault.Read)
     → (source.has_failed ≡ false → sink.has_failed ≡ true → fault ≡ side_fault.Write)
-    → IsRecodeRun from to source source sink sink (Err fault)
-IsRecodeRun-not_begun {from} {to} {source} {sink} fault read write source_first sink_then = record {
-  ok = tt;
-  source_kept = tt;
-  sink_kept = tt;
-  err = record {
-    bytes = [];
-    given = ConsumesRemaining-none source.bytes;
-    ended = false;
-    none_left = λ e. absurd (false≢true e);
-    wrote = [];
-    written = AppendsContents-none sink.bytes;
-    prefix = λ z h. (recoded_bytes from to z, refl);
-  };
-  read_fault = λ is. IfSome-always source.bytes (λ all few. read (same_fault is));
-  write_fault = λ is. write (same_fault is);
-  read_alone = λ _. refl;
-  write_alone = λ _. refl;
-  failed_source = λ failed. ap Err (source_first failed);
-  failed_sink = λ going failed. ap Err (sink_then going failed);
-  not_begun = λ _. (refl, refl);
-}
+    → IsRecodeRun handling from to source source sink sink (Err fault)
+IsRecodeRun-not_begun {handling} {from} {to} {source} {sink} fault read write source_first
+    sink_then = record {
+      ok = tt;
+      source_kept = tt;
+      sink_kept = tt;
+      err = record {
+        bytes = [];
+        given = ConsumesRemaining-none source.bytes;
+        ended = false;
+        none_left = λ e. absurd (false≢true e);
+        wrote = [];
+        written = AppendsContents-none sink.bytes;
+        prefix = λ z h. (recoded_bytes handling from to z, refl);
+      };
+      read_fault = λ is. IfSome-always source.bytes (λ all few. read (same_fault is));
+      write_fault = λ is. write (same_fault is);
+      read_alone = λ _. refl;
+      write_alone = λ _. refl;
+      failed_source = λ failed. ap Err (source_first failed);
+      failed_sink = λ going failed. ap Err (sink_then going failed);
+      not_begun = λ _. (refl, refl);
+    }

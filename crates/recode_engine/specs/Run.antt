@@ -1,12 +1,12 @@
 -- A run from a source to a sink: its text and its bytes, at the end and after a fault. The bytes
--- are decoded by the encoding of a byte order mark at the start, which is dropped, or else by
--- `from`. The text is written in the output encoding of `to`.
+-- are decoded by `from`, or by the encoding of a byte order mark at the start, if `handling` looks
+-- for it. The mark is dropped. The text is written in the output encoding of `to`.
 use Rattle.std.specs.Prelude.{◌≡◌, ℕ, ◌^◌, ◌<◌, Bool, true, false, ◌||◌, List, [], ◌++◌, length, Option, IfSome}
 use Rattle.std.specs.Prelude.{option_map, IfOk, OnOk, OnErr, IsErrOf}
 use Rattle.std.specs.declared.result.Result.{Result}
 use Rattle.enc_decoder.specs.Sequence.{sequence_text}
 use Rattle.enc_encoder.specs.Unmappable.{any_unmappable}
-use Rattle.enc_stream.specs.declared.bom.BomHandling.TheVariants.{Sniff}
+use Rattle.enc_stream.specs.declared.bom.BomHandling.{BomHandling}
 use Rattle.enc_stream.specs.declared.encoding.Encoding.{Encoding}
 use Rattle.enc_stream.specs.Encodings.{output_rule}
 use Rattle.enc_stream.specs.Decoding.{whole_sequences, whole_malformed}
@@ -17,34 +17,37 @@ use Rattle.recode_engine.specs.declared.engine.RecodeFault.TheVariants as fault
 use Rattle.enc_writer.specs.Sink.{AppendsContents, BeginsWithBytes}
 
 -- the text of a whole input
-abbrev pub whole_text : Encoding → List ℕ → List ℕ
-whole_text from bytes = sequence_text (whole_sequences Sniff from bytes)
+abbrev pub whole_text : BomHandling → Encoding → List ℕ → List ℕ
+whole_text handling from bytes = sequence_text (whole_sequences handling from bytes)
 
 -- its bytes in the output encoding, with references
-abbrev pub recoded_bytes : Encoding → Encoding → List ℕ → List ℕ
-recoded_bytes from to bytes = whole_bytes [] to (whole_text from bytes)
+abbrev pub recoded_bytes : BomHandling → Encoding → Encoding → List ℕ → List ℕ
+recoded_bytes handling from to bytes = whole_bytes [] to (whole_text handling from bytes)
 
 -- whether a sequence of a whole input is malformed, or a character of its text is unmappable in the
 -- output encoding
-abbrev pub any_replaced : Encoding → Encoding → List ℕ → Bool
-any_replaced from to bytes =
-    whole_malformed Sniff from bytes || any_unmappable (output_rule [] to) (whole_text from bytes)
+abbrev pub any_replaced : BomHandling → Encoding → Encoding → List ℕ → Bool
+any_replaced handling from to bytes =
+    whole_malformed handling from bytes
+    || any_unmappable (output_rule [] to) (whole_text handling from bytes)
 
 -- A run that has reached the end of its source, by the bytes that the two sides model before and
 -- after it.
-pub record RunsToEnd (from to : Encoding) (remaining_before remaining_after : Option (List ℕ))
+pub record RunsToEnd (handling : BomHandling) (from to : Encoding)
+    (remaining_before remaining_after : Option (List ℕ))
     (taken_before taken_after : Option (List ℕ)) (replaced : Bool) : Type 0 where
   -- the bytes read: all those of the source, which has none left
   pub bytes : List ℕ
   pub all_read : IfSome remaining_before (λ all. bytes ≡ all)
   pub none_left : remaining_after ≡ option_map (λ _. []) remaining_before
   -- whether a sequence or a character was replaced
-  pub flag : replaced ≡ any_replaced from to bytes
+  pub flag : replaced ≡ any_replaced handling from to bytes
   -- the sink has taken exactly the bytes of their text
-  pub written : AppendsContents taken_before taken_after (recoded_bytes from to bytes)
+  pub written : AppendsContents taken_before taken_after (recoded_bytes handling from to bytes)
 
 -- A run that a fault has stopped.
-pub record RunsToFault (from to : Encoding) (remaining_before remaining_after : Option (List ℕ))
+pub record RunsToFault (handling : BomHandling) (from to : Encoding)
+    (remaining_before remaining_after : Option (List ℕ))
     (taken_before taken_after : Option (List ℕ)) : Type 0 where
   -- the bytes that the source gave during the run
   pub bytes : List ℕ
@@ -57,7 +60,7 @@ pub record RunsToFault (from to : Encoding) (remaining_before remaining_after : 
   pub wrote : List ℕ
   pub written : AppendsContents taken_before taken_after wrote
   pub prefix : (z : List ℕ) → (ended ≡ true → z ≡ [])
-      → BeginsWithBytes (recoded_bytes from to (bytes ++ z)) wrote
+      → BeginsWithBytes (recoded_bytes handling from to (bytes ++ z)) wrote
 
 -- A source or a sink: the bytes still to come or already taken, if it models them, and whether it
 -- has failed.
@@ -71,17 +74,17 @@ side bytes has_failed = record { bytes = bytes; has_failed = has_failed }
 
 -- A run from a source to a sink, by both sides before and after it. What it says of failures holds
 -- of sides that model no bytes too, except `read_fault`.
-pub record IsRecodeRun (from to : Encoding)
+pub record IsRecodeRun (handling : BomHandling) (from to : Encoding)
     (source_before source_after sink_before sink_after : Side)
     (result : Result Bool RecodeFault) : Type 0 where
   -- `Ok`: the run has reached the end of the source. No side has failed that had not failed before.
-  pub ok : IfOk result (RunsToEnd from to source_before.bytes source_after.bytes sink_before.bytes
-      sink_after.bytes)
+  pub ok : IfOk result (RunsToEnd handling from to source_before.bytes source_after.bytes
+      sink_before.bytes sink_after.bytes)
   pub source_kept : OnOk result (source_after.has_failed ≡ source_before.has_failed)
   pub sink_kept : OnOk result (sink_after.has_failed ≡ sink_before.has_failed)
   -- `Err`: the side that it names has failed; the source, if it models fewer than 2^62 bytes.
   pub err : OnErr result
-      (RunsToFault from to source_before.bytes source_after.bytes sink_before.bytes
+      (RunsToFault handling from to source_before.bytes source_after.bytes sink_before.bytes
       sink_after.bytes)
   pub read_fault : IsErrOf result fault.Read
       → IfSome source_before.bytes (λ all. length all < 2 ^ 62 → source_after.has_failed ≡ true)

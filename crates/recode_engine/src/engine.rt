@@ -3,15 +3,17 @@
 ghost use Rattle.std.specs.Prelude.{◌≡◌, false};
 ghost use Rattle.std.specs.IoError.{error_kind};
 ghost use Rattle.std.specs.declared.io.ErrorKind.TheVariants.{Other};
+ghost use Rattle.enc_stream.specs.declared.bom.BomHandling.{BomHandling};
+ghost use Rattle.enc_stream.specs.declared.bom.BomHandling.TheVariants.{Sniff};
 ghost use Rattle.enc_stream.specs.declared.encoding.Encoding.{Encoding};
 ghost use Rattle.enc_reader.specs.Reader.{state_of as reader_state};
-ghost use Rattle.enc_reader.specs.Reading.{sniffing_reader};
+ghost use Rattle.enc_reader.specs.Reading.{fresh_reader};
 ghost use Rattle.enc_writer.specs.Writer.{writer_of as writer_state};
 ghost use Rattle.enc_writer.specs.Writing.{fresh_writer};
 ghost use Rattle.recode_engine.specs.Run.{IsRecodeRun, side};
 
 use enc_reader::{DecodeReader, Source};
-use enc_stream::Encoding;
+use enc_stream::{BomHandling, Encoding};
 use enc_writer::{EncodeWriter, Sink};
 use std::error::Error;
 use std::{fmt, io};
@@ -65,8 +67,9 @@ fn write_all<R: Source, W: Sink>(
     requires reader { R.has_failed decoding.old.reader.now ≡ false }
     requires writer { W.has_failed encoding.old.writer.now ≡ false }
     requires no_errors { decoding.old.had_errors ≡ false }
-    ensures run { (from to : Encoding) → reader_state decoding.old ≡ sniffing_reader from
-        → writer_state encoding.old ≡ fresh_writer to → IsRecodeRun from to
+    ensures run { (handling : BomHandling) (from to : Encoding)
+        → reader_state decoding.old ≡ fresh_reader handling from
+        → writer_state encoding.old ≡ fresh_writer to → IsRecodeRun handling from to
         (side (R.remaining decoding.old.reader.now) (R.has_failed decoding.old.reader.now))
         (side (R.remaining decoding.new.reader.now) (R.has_failed decoding.new.reader.now))
         (side (W.contents encoding.old.writer.now) (W.has_failed encoding.old.writer.now))
@@ -107,8 +110,8 @@ fn write_decoded<R: Source, W: Sink>(
     requires reader { R.has_failed decoding.old.reader.now ≡ false }
     requires writer { W.has_failed writer.old ≡ false }
     requires no_errors { decoding.old.had_errors ≡ false }
-    ensures run { (from : Encoding) → reader_state decoding.old ≡ sniffing_reader from
-        → IsRecodeRun from to
+    ensures run { (handling : BomHandling) (from : Encoding)
+        → reader_state decoding.old ≡ fresh_reader handling from → IsRecodeRun handling from to
         (side (R.remaining decoding.old.reader.now) (R.has_failed decoding.old.reader.now))
         (side (R.remaining decoding.new.reader.now) (R.has_failed decoding.new.reader.now))
         (side (W.contents writer.old) (W.has_failed writer.old))
@@ -123,23 +126,52 @@ fn write_decoded<R: Source, W: Sink>(
     outcome
 }
 
-/// Does [`run`] with two sides that have not failed, through a buffer for the bytes read.
+/// Does [`run_part`] with two sides that have not failed, through a buffer for the bytes read.
 fn run_through<R: Source, W: Sink>(
     reader: &mut R,
     writer: &mut W,
     from: Encoding,
     to: Encoding,
+    handling: BomHandling,
 ) -> Result<bool, RecodeFault>
     requires reader { R.has_failed reader.old ≡ false }
     requires writer { W.has_failed writer.old ≡ false }
-    ensures { IsRecodeRun from to (side (R.remaining reader.old) (R.has_failed reader.old))
+    ensures { IsRecodeRun handling from to (side (R.remaining reader.old) (R.has_failed reader.old))
         (side (R.remaining reader.new) (R.has_failed reader.new))
         (side (W.contents writer.old) (W.has_failed writer.old))
         (side (W.contents writer.new) (W.has_failed writer.new)) result }
 {
     let mut input = [0u8; 65536];
-    let mut decoding = DecodeReader::new(reader, Some(from), &mut input);
+    let mut decoding = DecodeReader::with_bom_handling(reader, from, handling, &mut input);
     write_decoded(&mut decoding, writer, to)
+}
+
+/// Recodes a source to its end as [`run`] does, with the byte order marks of `handling`.
+///
+/// With `Sniff` any mark at the start overrides `from`. With `Remove` only the mark of `from` is
+/// looked for, and with `Off` none is, as in a part of a whole after the first. A mark that is
+/// found is dropped.
+///
+/// Result, errors and memory: those of [`run`].
+pub fn run_part<R: Source, W: Sink>(
+    reader: &mut R,
+    writer: &mut W,
+    from: Encoding,
+    to: Encoding,
+    handling: BomHandling,
+) -> Result<bool, RecodeFault>
+    ensures { IsRecodeRun handling from to (side (R.remaining reader.old) (R.has_failed reader.old))
+        (side (R.remaining reader.new) (R.has_failed reader.new))
+        (side (W.contents writer.old) (W.has_failed writer.old))
+        (side (W.contents writer.new) (W.has_failed writer.new)) result }
+{
+    if reader.failed() {
+        return Err(RecodeFault::Read);
+    }
+    if writer.failed() {
+        return Err(RecodeFault::Write);
+    }
+    run_through(reader, writer, from, to, handling)
 }
 
 /// Recodes a source to its end: decodes it, and writes its text to a sink in another encoding.
@@ -164,16 +196,10 @@ pub fn run<R: Source, W: Sink>(
     from: Encoding,
     to: Encoding,
 ) -> Result<bool, RecodeFault>
-    ensures { IsRecodeRun from to (side (R.remaining reader.old) (R.has_failed reader.old))
+    ensures { IsRecodeRun Sniff from to (side (R.remaining reader.old) (R.has_failed reader.old))
         (side (R.remaining reader.new) (R.has_failed reader.new))
         (side (W.contents writer.old) (W.has_failed writer.old))
         (side (W.contents writer.new) (W.has_failed writer.new)) result }
 {
-    if reader.failed() {
-        return Err(RecodeFault::Read);
-    }
-    if writer.failed() {
-        return Err(RecodeFault::Write);
-    }
-    run_through(reader, writer, from, to)
+    run_part(reader, writer, from, to, BomHandling::Sniff)
 }

@@ -1,4 +1,5 @@
 //! Recoding: [`run`] reads bytes from a [`Source`], recodes them, and writes them to a [`Sink`].
+//! [`run_part`] does so with other byte order marks looked for, as in a part of a whole.
 //!
 //! [`FromRead`] and [`FromWrite`] make a source of any reader and a sink of any writer. [`labels`]
 //! finds the encodings of a run by their labels, and [`status`] returns its exit status. No call
@@ -10,7 +11,8 @@ mod exit;
 mod label_pair;
 
 pub use enc_reader::{FromRead, Source};
+pub use enc_stream::BomHandling;
 pub use enc_writer::{FromWrite, Sink};
-pub use engine::{RecodeFault, run};
+pub use engine::{RecodeFault, run, run_part};
 pub use exit::status;
 pub use label_pair::labels;

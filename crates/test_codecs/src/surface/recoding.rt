@@ -3,7 +3,8 @@
 
 use crate::surface::derives::{are_equal, debug_text};
 use encoding_rs::{Encoding, SHIFT_JIS, UTF_8, WINDOWS_1252};
-use recode_engine::{FromRead, FromWrite, RecodeFault, Sink, Source, labels, run, status};
+use recode_engine::{BomHandling, FromRead, FromWrite, RecodeFault, Sink, Source};
+use recode_engine::{labels, run, run_part, status};
 use std::io;
 use std::io::{ErrorKind, Read, Write};
 use std::process::Abort;
@@ -53,6 +54,17 @@ fn a_sink_takes_bytes_until_it_fails(rt: HostRuntime) {
     push_once(&rt, &mut FromWrite::new(&mut written), (Ok(2), false));
     assert!(rt; written.as_slice() == b"ab".as_slice());
     push_once(&rt, &mut FromWrite::new(Broken), (Err(()), true));
+}
+
+#[test]
+fn a_part_keeps_its_mark(rt: HostRuntime) {
+    let mut written: Vec<u8> = Vec::new(rt.alloc());
+    let mut source = FromRead::new(b"\xEF\xBB\xBF".as_slice());
+    let mut sink = FromWrite::new(&mut written);
+    let off: BomHandling = BomHandling::Off;
+    let answer: Result<bool, RecodeFault> = run_part(&mut source, &mut sink, UTF_8, UTF_8, off);
+    assert!(rt; answer == Ok(false));
+    assert!(rt; written.as_slice() == b"\xEF\xBB\xBF".as_slice());
 }
 
 /// A run between two devices, from windows-1252 to Shift_JIS.

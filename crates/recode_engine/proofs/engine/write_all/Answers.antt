@@ -12,7 +12,7 @@ use Rattle.recode_engine.proofs.engine.write_all.Goals as goal
 
 pub reads-init : goal.reads-init
 reads-init g c = record {
-  ran = λ from to fresh_reader fresh_writer.
+  ran = λ handling from to fresh_reader fresh_writer.
       HasRun-start refl fresh_reader refl fresh_writer c.requires.no_errors;
   text_room = search rules;
   reading = search rules;
@@ -24,11 +24,11 @@ reads-init g c = record {
 }
 
 pub returns-in_default-clause-run : goal.returns-in_default-clause-run
-returns-in_default-clause-run g c = λ from to fresh_reader fresh_writer.
+returns-in_default-clause-run g c = λ handling from to fresh_reader fresh_writer.
     let next = reader_at (g.R.Source.remaining c.read_or_lend.new.self.reader.now)
     (state_of c.read_or_lend.new.self) in
     let invariant = c.reads.invariant in
-    let ran = invariant.ran from to fresh_reader fresh_writer in
+    let ran = invariant.ran handling from to fresh_reader fresh_writer in
     let fault = is_readers c.read_or_lend.result (search rules)
     (λ f. false≢true (sym invariant.reading ∙ c.read_or_lend.ensures.from_then_on.0 f)) in
     let fails = c.read_or_lend.ensures.reader_fault fault in
@@ -37,10 +37,10 @@ returns-in_default-clause-run g c = λ from to fresh_reader fresh_writer.
     (λ _. (has_failed-reading ran next fails, invariant.writer_kept)) (λ is. cc)
 
 pub returns-in_default-finish-clause-run : goal.returns-in_default-finish-clause-run
-returns-in_default-finish-clause-run g c = λ from to fresh_reader fresh_writer.
+returns-in_default-finish-clause-run g c = λ handling from to fresh_reader fresh_writer.
     let next = reader_at (g.R.Source.remaining c.read_or_lend.new.self.reader.now)
     (state_of c.read_or_lend.new.self) in
-    let ran = c.reads.invariant.ran from to fresh_reader fresh_writer in
+    let ran = c.reads.invariant.ran handling from to fresh_reader fresh_writer in
     let none : c.text-piece.result.now ≡ [] = no_text _ (search rules) in
     IsRecodeRun-fault c.requires.reader c.requires.writer Write refl
     (RunsToFault-ending next ran
@@ -50,10 +50,10 @@ returns-in_default-finish-clause-run g c = λ from to fresh_reader fresh_writer.
     (λ is. cc) (λ _. (search rules, search rules))
 
 pub returns-then-is_empty-clause-run : goal.returns-then-is_empty-clause-run
-returns-then-is_empty-clause-run g c = λ from to fresh_reader fresh_writer.
+returns-then-is_empty-clause-run g c = λ handling from to fresh_reader fresh_writer.
     let next = reader_at (g.R.Source.remaining c.read_or_lend.new.self.reader.now)
     (state_of c.read_or_lend.new.self) in
-    let ran = c.reads.invariant.ran from to fresh_reader fresh_writer in
+    let ran = c.reads.invariant.ran handling from to fresh_reader fresh_writer in
     let none : c.text-piece.result.now ≡ [] = no_text _ (search rules) in
     IsRecodeRun-ok c.requires.reader c.requires.writer refl
     (RunsToEnd-by (search rules)
@@ -63,10 +63,10 @@ returns-then-is_empty-clause-run g c = λ from to fresh_reader fresh_writer.
     (search rules) (search rules)
 
 pub returns-in_default-write_str-clause-run : goal.returns-in_default-write_str-clause-run
-returns-in_default-write_str-clause-run g c = λ from to fresh_reader fresh_writer.
+returns-in_default-write_str-clause-run g c = λ handling from to fresh_reader fresh_writer.
     let next = reader_at (g.R.Source.remaining c.read_or_lend.new.self.reader.now)
     (state_of c.read_or_lend.new.self) in
-    let ran = c.reads.invariant.ran from to fresh_reader fresh_writer in
+    let ran = c.reads.invariant.ran handling from to fresh_reader fresh_writer in
     let same : c.from_utf8_unchecked.result.now ≡ c.text-piece.result.now = search rules in
     IsRecodeRun-fault c.requires.reader c.requires.writer Write refl
     (RunsToFault-writing next ran
@@ -75,10 +75,10 @@ returns-in_default-write_str-clause-run g c = λ from to fresh_reader fresh_writ
     (λ is. cc) (λ _. (search rules, search rules))
 
 pub returns-in_default-flush-clause-run : goal.returns-in_default-flush-clause-run
-returns-in_default-flush-clause-run g c = λ from to fresh_reader fresh_writer.
+returns-in_default-flush-clause-run g c = λ handling from to fresh_reader fresh_writer.
     let next = reader_at (g.R.Source.remaining c.read_or_lend.new.self.reader.now)
     (state_of c.read_or_lend.new.self) in
-    let ran = c.reads.invariant.ran from to fresh_reader fresh_writer in
+    let ran = c.reads.invariant.ran handling from to fresh_reader fresh_writer in
     let same : c.from_utf8_unchecked.result.now ≡ c.text-piece.result.now = search rules in
     IsRecodeRun-fault c.requires.reader c.requires.writer Write refl
     (RunsToFault-pushing next ran
@@ -94,8 +94,8 @@ reads-preserved g c =
     let same : c.from_utf8_unchecked.result.now ≡ c.text-piece.result.now = search rules in
     let some : 0 < length c.text-piece.result.now = some_text _ (search rules) in
     record {
-      ran = λ from to fresh_reader fresh_writer.
-          HasRun-more next (c.reads.invariant.ran from to fresh_reader fresh_writer)
+      ran = λ handling from to fresh_reader fresh_writer.
+          HasRun-more next (c.reads.invariant.ran handling from to fresh_reader fresh_writer)
           (HandsOut-by c.text-piece.ensures c.in-Ok.ensures.ok)
           (rw same at c.in-Ok-write_str.ensures.ok) c.in-Ok-flush.ensures.ok some;
       text_room = search rules;
@@ -108,8 +108,8 @@ reads-preserved g c =
     }
 
 pub returns-clause-run : goal.returns-clause-run
-returns-clause-run g c = λ from to fresh_reader fresh_writer.
+returns-clause-run g c = λ handling from to fresh_reader fresh_writer.
     let invariant = c.reads.invariant in
-    let ran = invariant.ran from to fresh_reader fresh_writer in
+    let ran = invariant.ran handling from to fresh_reader fresh_writer in
     IsRecodeRun-fault c.requires.reader c.requires.writer Read refl (RunsToFault-between ran)
     (λ _. (has_failed-between ran _ (search rules), invariant.writer_kept)) (λ is. cc)

@@ -1,7 +1,8 @@
 use Rattle.std.proofs.Common.{◌≡◌, false, length}
 use Rattle.enc_reader.specs.Reader.{state_of as reader_state}
-use Rattle.enc_reader.specs.Reading.{sniffing_reader}
+use Rattle.enc_reader.specs.Reading.{fresh_reader}
 use Rattle.enc_reader.proofs.ReadingLemmas.{reader_at}
+use Rattle.enc_stream.specs.declared.bom.BomHandling.{BomHandling}
 use Rattle.enc_stream.specs.declared.encoding.Encoding.{Encoding}
 use Rattle.enc_writer.specs.Writer.{writer_of as writer_state}
 use Rattle.enc_writer.specs.Writing.{fresh_writer}
@@ -18,8 +19,10 @@ invariant-reads g l =
       made = l.counter;
     } in
     record {
-      ran : (from to : Encoding) → reader_state l.fn.decoding ≡ sniffing_reader from
+      ran : (handling : BomHandling) (from to : Encoding)
+          → reader_state l.fn.decoding ≡ fresh_reader handling from
           → writer_state l.fn.encoding ≡ fresh_writer to → HasRun (record {
+            handling = handling;
             from = from;
             to = to;
             remaining = g.R.Source.remaining l.fn.decoding.reader.now;

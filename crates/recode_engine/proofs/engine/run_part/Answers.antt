@@ -2,7 +2,7 @@ use Rattle.std.proofs.Common.{◌≡◌, ◌∙◌, true, false, refl, sym, rule
 use Rattle.std.proofs.lemmas.Bool.{false≢true}
 use Rattle.recode_engine.specs.declared.engine.RecodeFault.TheVariants.{Read, Write}
 use Rattle.recode_engine.proofs.RunOutcomeLemmas.{IsRecodeRun-not_begun}
-use Rattle.recode_engine.proofs.engine.run.Goals as goal
+use Rattle.recode_engine.proofs.engine.run_part.Goals as goal
 
 pub returns-then-failed : goal.returns-then-failed
 returns-then-failed g c =
