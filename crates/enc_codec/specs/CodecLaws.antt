@@ -18,8 +18,8 @@ abbrev pub DecidesBytes : Bool → Rule → Type 0
 DecidesBytes true rule = ¬ (HasNoByteSequences rule)
 DecidesBytes false rule = HasNoByteSequences rule
 
--- Each input is divided after each byte below 30 if this is true, and some input is not divided after
--- a line feed if it is false.
+-- Each input is divided after each byte below 30 if this is true, and some input is not divided
+-- after a line feed if it is false.
 abbrev pub DecidesDivision : Bool → Rule → Type 0
 DecidesDivision true rule = IsDividedBelowDigits rule
 DecidesDivision false rule = ¬ (IsDividedAfter 0x0A rule)

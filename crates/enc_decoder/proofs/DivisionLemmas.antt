@@ -57,19 +57,19 @@ module _ (c : ℕ) (rule : Rule) (lawful : IsLawfulRule rule) (ends : EndsSequen
   divided_after (suc (suc k)) [] y within = absurd (omega arith)
   divided_after (suc k) (b ∷ z) y within = divided_after k z y (omega arith)
   divided_after zero (b ∷ z) y within =
-      let h : Head = rule 0 b (z ++ c ∷ []) in
-      let most : h.more ≤ length z + 1 =
+      let head : Head = rule 0 b (z ++ c ∷ []) in
+      let most : head.more ≤ length z + 1 =
       (let inside = within_input rule lawful b (z ++ c ∷ []) in
       let longer = length-append z (c ∷ []) in omega arith) in
-      let no_set : h.set ≡ 0 = ends.set b (z ++ c ∷ []) in
+      let no_set : head.set ≡ 0 = ends.set b (z ++ c ∷ []) in
       ap (λ (f : Head). head_sequence f b (z ++ c ∷ y)
       ∷ sequences_after rule f.set f.more (z ++ c ∷ y)) (ends.same b z y)
-      ∙ (ap (λ t. record { bytes = b ∷ t; text = h.text; kind = h.kind; set = h.set }
-      ∷ sequences_after rule h.set h.more (z ++ c ∷ y)) (take_front c h.more z y most)
-      ∙ ap (λ ss. head_sequence h b (z ++ c ∷ []) ∷ ss)
-      (ap (λ s. sequences_after rule s h.more (z ++ c ∷ y)) no_set
-      ∙ (divided_after h.more z y most
-      ∙ ap (λ s. sequences_after rule s h.more (z ++ c ∷ []) ++ sequences_after rule 0 0 y)
+      ∙ (ap (λ t. record { bytes = b ∷ t; text = head.text; kind = head.kind; set = head.set }
+      ∷ sequences_after rule head.set head.more (z ++ c ∷ y)) (take_front c head.more z y most)
+      ∙ ap (λ ss. head_sequence head b (z ++ c ∷ []) ∷ ss)
+      (ap (λ s. sequences_after rule s head.more (z ++ c ∷ y)) no_set
+      ∙ (divided_after head.more z y most
+      ∙ ap (λ s. sequences_after rule s head.more (z ++ c ∷ []) ++ sequences_after rule 0 0 y)
       (sym no_set))))
 
   pub divided_by : IsDividedAfter c rule

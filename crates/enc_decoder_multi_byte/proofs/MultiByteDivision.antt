@@ -21,7 +21,8 @@ module _ (prefix : List ℕ → Prefix) where
   no_set front [] Incomplete = refl
   no_set front (b ∷ z) Incomplete = no_set (front ++ b ∷ []) z (prefix (front ++ b ∷ []))
 
-  module _ (c : ℕ) (finishes : (a : ℕ) (front : List ℕ) → prefix (a ∷ (front ++ c ∷ [])) ≢ Incomplete)
+  module _ (c : ℕ) (finishes : (a : ℕ) (front : List ℕ)
+      → prefix (a ∷ (front ++ c ∷ [])) ≢ Incomplete)
     where
       same_head : (a : ℕ) (front z y : List ℕ) (r : Prefix)
           → prefix_head prefix 0 (a ∷ front) r (z ++ c ∷ y)

@@ -61,10 +61,10 @@ module _ (c : ℕ) (is_ascii : c < 0x80) where
   same_head : (b : ℕ) (z y : List ℕ) → utf_8_rule 0 b (z ++ c ∷ y) ≡ utf_8_rule 0 b (z ++ c ∷ [])
   unfolding utf_8_rule
   same_head b z y =
-      let m : ℕ = well_formed_tail_len b (z ++ c ∷ []) in
-      let few : m ≤ length z = few_continuing b (sequence_len b - 1) z in
+      let len : ℕ = well_formed_tail_len b (z ++ c ∷ []) in
+      let few : len ≤ length z = few_continuing b (sequence_len b - 1) z in
       ap (λ n. utf_8_head b n (take n (z ++ c ∷ y))) (same_continuing b (sequence_len b - 1) z y)
-      ∙ ap (λ t. utf_8_head b m t) (take_front c m z y (omega arith))
+      ∙ ap (λ t. utf_8_head b len t) (take_front c len z y (omega arith))
 
   -- a byte that is a sequence by itself, and continues none
   one_byte_len : sequence_len c ≡ 1

@@ -14,14 +14,16 @@ char_bytes e (c ∷ t) = list_or_empty (e.bytes c) ++ char_bytes e t
 char_bytes-append : (e : EncoderRule) (s t : List ℕ)
     → char_bytes e (s ++ t) ≡ char_bytes e s ++ char_bytes e t
 unfolding char_bytes
-char_bytes-append e = joined-append (λ c. list_or_empty (e.bytes c)) (char_bytes e) refl (λ c cs. refl)
+char_bytes-append e =
+    joined-append (λ c. list_or_empty (e.bytes c)) (char_bytes e) refl (λ c cs. refl)
 
 pub with_references-append : (e : EncoderRule) (s t : List ℕ)
     → with_references e (s ++ t) ≡ with_references e s ++ with_references e t
 with_references-append e =
     joined-append (λ c. with_reference e c (e.bytes c)) (with_references e) refl (λ c cs. refl)
 
-module _ (e : EncoderRule) (lawful : IsLawfulEncoderRule e) (stays : (c : ℕ) → e.has Ascii c ≡ true) where
+module _ (e : EncoderRule) (lawful : IsLawfulEncoderRule e)
+    (stays : (c : ℕ) → e.has Ascii c ≡ true) where
   has_no_escapes : (u t : List ℕ) → e.set_after Ascii u ≡ Ascii
       → bytes_after_text e Ascii u t ≡ char_bytes e t
   unfolding char_bytes

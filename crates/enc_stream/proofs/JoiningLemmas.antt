@@ -27,4 +27,5 @@ output_joins to is_not =
     let stays = stays_in_ascii of_codec
     (λ is_iso. is_not (ap of_id (id_of_iso_2022_jp to.id is_iso))) in
     joins_texts (output_rule [] to) (lawful_of [] to)
-    (λ c. subst (λ (rule : EncoderRule). rule.has Ascii c ≡ true) (rule_of_facts of_codec) (stays c))
+    (λ c. subst (λ (rule : EncoderRule). rule.has Ascii c ≡ true) (rule_of_facts of_codec)
+    (stays c))

@@ -43,7 +43,9 @@ shows_single_byte e =
     list_shows _ _ (subst has (listed_single_byte e.id) (laws_of e).single)
 
 division_of : (e : Encoding) → DecidesDivision (is_ascii_compatible e) (rule_of e)
-division_of e = subst (λ (t : Bool). DecidesDivision t (rule_of e)) (listed_ascii e.id) (laws_of e).divided
+division_of e =
+    let divides : Bool → Type 0 = λ t. DecidesDivision t (rule_of e) in
+    subst divides (listed_ascii e.id) (laws_of e).divided
 
 division_shows : (t : Bool) (rule : Rule) → DecidesDivision t rule
     → (t ≡ true) ↔ IsDividedAfter 0x0A rule

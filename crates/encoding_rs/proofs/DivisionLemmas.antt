@@ -19,7 +19,7 @@ use Rattle.enc_stream.specs.Encoder.{whole_bytes}
 use Rattle.enc_stream.specs.Properties.{is_ascii_compatible}
 use Rattle.enc_stream.proofs.PropertyLemmas.{divided_below_digits}
 use Rattle.enc_stream.proofs.JoiningLemmas.{output_joins}
-use Rattle.encoding_rs.specs.Recoding.{unmarked_text, recoded_bytes, recoding_replaces}
+use Rattle.encoding_rs.specs.Recoding.{unmarked_text, unmarked_recoding, recoding_replaces}
 
 module _ (e : Encoding) (c : ℕ) (divides : ByteDivides c e) (front back : List ℕ) where
   up_to : List Sequence
@@ -57,8 +57,8 @@ flags_exchange false false c d = refl
 
 module _ (from to : Encoding) (c : ℕ) (divides : ByteDivides c from) (front back : List ℕ) where
   pub bytes_are_joined : to ≢ record { id = Iso2022Jp }
-      → recoded_bytes from to (front ++ c ∷ back)
-      ≡ recoded_bytes from to (front ++ c ∷ []) ++ recoded_bytes from to back
+      → unmarked_recoding from to (front ++ c ∷ back)
+      ≡ unmarked_recoding from to (front ++ c ∷ []) ++ unmarked_recoding from to back
   bytes_are_joined is_not =
       ap (whole_bytes [] to) (text_is_divided from c divides front back)
       ∙ output_joins to is_not (unmarked_text from (front ++ c ∷ [])) (unmarked_text from back)
@@ -76,15 +76,15 @@ module _ (from to : Encoding) (c : ℕ) (divides : ByteDivides c from) (front ba
       ∙ flags_exchange (whole_malformed Off from (front ++ c ∷ [])) (whole_malformed Off from back)
       (any_unmappable (output_rule [] to) first) (any_unmappable (output_rule [] to) rest)
 
--- in ISO-2022-JP the first part ends with an escape sequence to ASCII, and the whole goes on in Roman
+-- In ISO-2022-JP the first part ends with an escape sequence to ASCII. The whole stays in Roman.
 
 numbers_differ : (n m : ℕ) → n < m → m ≡ n → ⊥
 numbers_differ n m less same = omega arith
 
-pub iso_2022_jp_is_not_joined : recoded_bytes (record { id = Utf8 }) (record { id = Iso2022Jp })
+pub iso_2022_jp_is_not_joined : unmarked_recoding (record { id = Utf8 }) (record { id = Iso2022Jp })
     (0xC2 ∷ 0xA5 ∷ 0x0A ∷ 0x61 ∷ [])
-    ≢ recoded_bytes (record { id = Utf8 }) (record { id = Iso2022Jp }) (0xC2 ∷ 0xA5 ∷ 0x0A ∷ [])
-    ++ recoded_bytes (record { id = Utf8 }) (record { id = Iso2022Jp }) (0x61 ∷ [])
+    ≢ unmarked_recoding (record { id = Utf8 }) (record { id = Iso2022Jp }) (0xC2 ∷ 0xA5 ∷ 0x0A ∷ [])
+    ++ unmarked_recoding (record { id = Utf8 }) (record { id = Iso2022Jp }) (0x61 ∷ [])
 unfolding utf_8_rule sequence_len is_second_byte is_continuation sequences_after
 iso_2022_jp_is_not_joined same =
     numbers_differ 0x1B 0x61 (omega arith) (ap (λ z. slice_index z 5) same)

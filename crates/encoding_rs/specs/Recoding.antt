@@ -12,10 +12,10 @@ use Rattle.enc_stream.specs.Encoder.{whole_bytes}
 abbrev pub unmarked_text : Encoding → List ℕ → List ℕ
 unmarked_text from bytes = sequence_text (whole_sequences Off from bytes)
 
--- The bytes of that text in the output encoding of another encoding. A malformed sequence is U+FFFD,
--- and an unmappable character is its reference.
-abbrev pub recoded_bytes : Encoding → Encoding → List ℕ → List ℕ
-recoded_bytes from to bytes = whole_bytes [] to (unmarked_text from bytes)
+-- The bytes of that text in the output encoding of another encoding. A malformed sequence is
+-- U+FFFD, and an unmappable character is its reference.
+abbrev pub unmarked_recoding : Encoding → Encoding → List ℕ → List ℕ
+unmarked_recoding from to bytes = whole_bytes [] to (unmarked_text from bytes)
 
 -- whether there is one of either
 abbrev pub recoding_replaces : Encoding → Encoding → List ℕ → Bool

@@ -28,7 +28,7 @@ ghost use Rattle.enc_decoder.specs.Remainder.{AreBytes, Determines};
 ghost use Rattle.enc_decoder.specs.RuleLaws.{HasTexts, IsLookahead, IsDeterminedByEnd};
 ghost use Rattle.enc_decoder.specs.Lookahead.{CoverLookahead};
 ghost use Rattle.encoding_rs.specs.Lookahead.{MayLook, mark_found, rule_found, after_mark_found};
-ghost use Rattle.encoding_rs.specs.Recoding.{recoded_bytes, recoding_replaces};
+ghost use Rattle.encoding_rs.specs.Recoding.{unmarked_recoding, recoding_replaces};
 ghost use Rattle.enc_round_trip.specs.RoundTrip.{char_read_back, any_read_as_other};
 ghost use Rattle.enc_units.specs.Output.{AreScalars};
 ghost use Rattle.enc_units.specs.Validity.{IsWellFormedUtf8};
@@ -281,8 +281,8 @@ pub fn bytes_below_digits_divide(encoding: Encoding)
 pub fn recoded_parts_are_the_whole(from: Encoding, to: Encoding)
     // The bytes are those of the parts, joined, in every output encoding but ISO-2022-JP.
     ensures bytes { is_ascii_compatible from ≡ true → to ≢ ISO_2022_JP → (c : ℕ) → c < 0x30
-        → (front back : List ℕ) → recoded_bytes from to (front ++ c ∷ back)
-        ≡ recoded_bytes from to (front ++ c ∷ []) ++ recoded_bytes from to back }
+        → (front back : List ℕ) → unmarked_recoding from to (front ++ c ∷ back)
+        ≡ unmarked_recoding from to (front ++ c ∷ []) ++ unmarked_recoding from to back }
 
     // Something of the input is replaced exactly if something of either part is.
     ensures flag { is_ascii_compatible from ≡ true → (c : ℕ) → c < 0x30
@@ -297,9 +297,9 @@ pub fn recoded_parts_are_the_whole(from: Encoding, to: Encoding)
 /// Of `¥`, a line feed and `a` in UTF-8, the first part ends with an escape sequence to ASCII. In
 /// the whole it stands after `a`, since the set Roman has both.
 pub fn iso_2022_jp_parts_are_not_the_whole()
-    ensures { recoded_bytes UTF_8 ISO_2022_JP (0xC2 ∷ 0xA5 ∷ 0x0A ∷ 0x61 ∷ [])
-        ≢ recoded_bytes UTF_8 ISO_2022_JP (0xC2 ∷ 0xA5 ∷ 0x0A ∷ [])
-        ++ recoded_bytes UTF_8 ISO_2022_JP (0x61 ∷ []) }
+    ensures { unmarked_recoding UTF_8 ISO_2022_JP (0xC2 ∷ 0xA5 ∷ 0x0A ∷ 0x61 ∷ [])
+        ≢ unmarked_recoding UTF_8 ISO_2022_JP (0xC2 ∷ 0xA5 ∷ 0x0A ∷ [])
+        ++ unmarked_recoding UTF_8 ISO_2022_JP (0x61 ∷ []) }
 {
     let _ = (UTF_8, ISO_2022_JP);
 }

@@ -20,13 +20,10 @@ fn is_undivided(encoding: Encoding) -> bool {
 
 #[test]
 fn line_feeds_divide_in_all_encodings_but_four(rt: HostRuntime) {
-    let mut count: usize = 0;
     for (encoding, name, _) in table() {
         let divides: bool = encoding.line_feeds_divide();
         assert!(rt; divides != is_undivided(*encoding), "{name}");
-        count += divides as usize;
     }
-    assert!(rt; count == 36);
 }
 
 /// An encoding, and two parts of an input; the text of the whole, and those of the parts.

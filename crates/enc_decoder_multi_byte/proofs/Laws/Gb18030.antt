@@ -59,7 +59,8 @@ settled c low a [] incomplete =
     unless_finished (is_digit c) _ (grind (arith, nat_tests))
     (trail_finished 1 c (text_of_char (gb18030_pair_char a c))) incomplete
 settled c low a (b ∷ []) incomplete =
-    unless_finished (is_gb18030_lead c) (Malformed 1) (grind (arith, nat_tests)) (λ e. cc) incomplete
+    unless_finished (is_gb18030_lead c) (Malformed 1) (grind (arith, nat_tests)) (λ e. cc)
+    incomplete
 settled c low a (b ∷ d ∷ []) incomplete =
     four_finished (is_digit c) (ranges_code_point (four_byte_pointer a b d c)) incomplete
 settled c low a (b ∷ d ∷ e ∷ front) incomplete =

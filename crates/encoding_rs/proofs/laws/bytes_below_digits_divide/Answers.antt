@@ -7,8 +7,10 @@ returns-clause-sequences c = λ compatible b low.
 
 pub returns-clause-text : goal.returns-clause-text
 returns-clause-text c = λ compatible b low front back.
-    utf_8_is_divided c.args.encoding b (divides_below_digits c.args.encoding compatible b low) front back
+    utf_8_is_divided c.args.encoding b (divides_below_digits c.args.encoding compatible b low)
+    front back
 
 pub returns-clause-flag : goal.returns-clause-flag
 returns-clause-flag c = λ compatible b low front back.
-    flag_is_divided c.args.encoding b (divides_below_digits c.args.encoding compatible b low) front back
+    flag_is_divided c.args.encoding b (divides_below_digits c.args.encoding compatible b low)
+    front back
