@@ -20,6 +20,7 @@ pub mod PropertyLemmas
 pub mod EncoderLemmas
 pub mod ReferenceLemmas
 pub mod JoiningLemmas
+pub mod DivisionLemmas
 pub mod EncoderProgressLemmas
 pub mod Latin1Lemmas
 pub mod SniffingLemmas

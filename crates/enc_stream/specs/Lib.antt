@@ -11,6 +11,7 @@ pub mod Names
 pub mod Labels
 pub mod Properties
 pub mod Encoder
+pub mod Recoding
 pub mod Lengths
 pub mod Need
 pub mod OneShot

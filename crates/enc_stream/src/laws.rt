@@ -1,13 +1,17 @@
 //! Laws over the definitions, each the contract of a function that does nothing.
 //! `encoding_rs::laws` passes them on, and has those of whole inputs and of both sides.
 
-ghost use Rattle.std.specs.Prelude.{◌≡◌, ◌≢◌, ◌↔◌, ℕ, ◌<◌, true, List, [], ◌∷◌, Some};
+ghost use Rattle.std.specs.Prelude.{◌≡◌, ◌≢◌, ◌↔◌, ℕ, ◌<◌, ◌||◌, true, List, [], ◌∷◌, ◌++◌, Some};
 ghost use Rattle.enc_codec.specs.Properties.{IsAsciiCompatible, IsSingleByte};
 ghost use Rattle.enc_encoder.specs.declared.character_set.CharacterSet.TheVariants.{Ascii};
+ghost use Rattle.enc_stream.specs.declared.bom.BomHandling.TheVariants.{Off};
+ghost use Rattle.enc_stream.specs.Decoding.{whole_utf_8, whole_malformed};
+ghost use Rattle.enc_stream.specs.Division.{ByteDivides};
 ghost use Rattle.enc_stream.specs.Encodings.{rule_of, output_rule};
 ghost use Rattle.enc_stream.specs.Properties.{is_ascii_compatible, is_single_byte};
+ghost use Rattle.enc_stream.specs.Recoding.{recoded_bytes, any_replaced};
 
-use crate::constants::{ISO_8859_8, ISO_8859_8_I};
+use crate::constants::{ISO_2022_JP, ISO_8859_8, ISO_8859_8_I, UTF_8};
 use crate::encoding::Encoding;
 pub use crate::table_laws::{
     constants_have_their_names, labels_name_one_encoding, second_constants_are_equal,
@@ -49,4 +53,60 @@ pub fn single_byte_decode_bytes(encoding: Encoding)
     ensures { (is_single_byte encoding ≡ true) ↔ IsSingleByte (rule_of encoding) }
 {
     let _ = encoding;
+}
+
+/// In an ASCII-compatible encoding a line feed divides an input, as each byte below 0x30 does.
+///
+/// No byte order mark is looked for. For the line feed [`Encoding::line_feeds_divide`] says so, and
+/// that it is so in no other encoding. 0x30 to 0x39, the ASCII digits, stand within sequences of
+/// gb18030.
+pub fn line_feeds_divide(encoding: Encoding)
+    // The sequences of an input are those of its bytes up to this one, and those of the bytes after
+    // it.
+    ensures sequences { is_ascii_compatible encoding ≡ true → (c : ℕ) → c < 0x30
+        → ByteDivides c encoding }
+
+    // So is the text, here in UTF-8.
+    ensures text { is_ascii_compatible encoding ≡ true → (c : ℕ) → c < 0x30
+        → (front back : List ℕ) → whole_utf_8 Off encoding (front ++ c ∷ back)
+        ≡ whole_utf_8 Off encoding (front ++ c ∷ [])
+        ++ whole_utf_8 Off encoding back }
+
+    // A sequence of the input is malformed exactly if one of either part is.
+    ensures flag { is_ascii_compatible encoding ≡ true → (c : ℕ) → c < 0x30
+        → (front back : List ℕ) → whole_malformed Off encoding (front ++ c ∷ back)
+        ≡ (whole_malformed Off encoding (front ++ c ∷ [])
+        || whole_malformed Off encoding back) }
+{
+    let _ = encoding;
+}
+
+/// Parts of an input that end with such a byte can be recoded one by one, and joined.
+///
+/// That is from an ASCII-compatible encoding, with replacement and references, and no search for
+/// byte order marks ([`line_feeds_divide`]).
+pub fn recoded_parts_are_the_whole(from: Encoding, to: Encoding)
+    // The bytes are those of the parts, joined, in every output encoding but ISO-2022-JP.
+    ensures bytes { is_ascii_compatible from ≡ true → to ≢ ISO_2022_JP → (c : ℕ) → c < 0x30
+        → (front back : List ℕ) → recoded_bytes Off from to (front ++ c ∷ back)
+        ≡ recoded_bytes Off from to (front ++ c ∷ []) ++ recoded_bytes Off from to back }
+
+    // Something of the input is replaced exactly if something of either part is.
+    ensures flag { is_ascii_compatible from ≡ true → (c : ℕ) → c < 0x30
+        → (front back : List ℕ) → any_replaced Off from to (front ++ c ∷ back)
+        ≡ (any_replaced Off from to (front ++ c ∷ []) || any_replaced Off from to back) }
+{
+    let _ = (from, to, ISO_2022_JP);
+}
+
+/// In ISO-2022-JP the bytes of the parts, joined, can be others than those of the whole.
+///
+/// Of `¥`, a line feed and `a` in UTF-8, the first part ends with an escape sequence to ASCII. In
+/// the whole it stands after `a`, since the set Roman has both.
+pub fn iso_2022_jp_parts_are_not_the_whole()
+    ensures { recoded_bytes Off UTF_8 ISO_2022_JP (0xC2 ∷ 0xA5 ∷ 0x0A ∷ 0x61 ∷ [])
+        ≢ recoded_bytes Off UTF_8 ISO_2022_JP (0xC2 ∷ 0xA5 ∷ 0x0A ∷ [])
+        ++ recoded_bytes Off UTF_8 ISO_2022_JP (0x61 ∷ []) }
+{
+    let _ = (UTF_8, ISO_2022_JP);
 }

@@ -73,7 +73,7 @@ impl Encoding {
     /// Returns whether any input can be decoded in parts that end after line feeds.
     ///
     /// If so, and no byte order mark is looked for, the sequences of an input are those of its
-    /// parts, as `laws::bytes_below_digits_divide` has it. True exactly for the ASCII-compatible
+    /// parts, as `laws::line_feeds_divide` has it. True exactly for the ASCII-compatible
     /// encodings: a byte 0A can be half of a code unit of UTF-16, the set that an escape sequence
     /// of ISO-2022-JP designates outlasts a line, and replacement reports the first byte alone.
     ///

@@ -7,7 +7,6 @@ pub mod CharsOfTextLemmas
 pub mod EncodeCallLemmas
 pub mod EncodeRunLemmas
 pub mod RoundTripLemmas
-pub mod DivisionLemmas
 pub mod WellFormedLemmas
 pub mod DecodeEndLemmas
 pub mod EncodeEndLemmas

@@ -4,7 +4,6 @@ pub mod EncodeEnd
 pub mod EncodeReport
 pub mod DecodeEnd
 pub mod Lookahead
-pub mod Recoding
 pub use Rattle.enc_names.specs.EncodingTable
 pub use Rattle.enc_names.specs.LabelIds
 pub use Rattle.enc_stream.specs.Encodings

@@ -1,7 +1,7 @@
 //! Laws over the definitions: contracts of functions that do nothing, or only what the law is
 //! about.
 
-ghost use Rattle.std.specs.Prelude.{◌≡◌, ◌≢◌, ◌↔◌, ℕ, ◌-◌, ◌<◌, ◌≤◌, ◌⊎◌, ◌||◌, take, true, false, is_some};
+ghost use Rattle.std.specs.Prelude.{◌≡◌, ◌≢◌, ◌↔◌, ℕ, ◌-◌, ◌≤◌, ◌⊎◌, take, true, false, is_some};
 ghost use Rattle.std.specs.Prelude.{IsTrue, List, [], ◌∷◌, ◌++◌, Some, None, map, length};
 ghost use Rattle.std.specs.Prelude.{if◌then◌else◌};
 ghost use Rattle.enc_stream.specs.declared.bom.BomHandling.TheVariants as handling;
@@ -15,12 +15,11 @@ ghost use Rattle.enc_names.specs.EncodingTable.{codec_by_id};
 ghost use Rattle.enc_stream.specs.Encodings.{output_rule, rule_of};
 ghost use Rattle.enc_stream.specs.LifeCycle.{mark_bytes};
 ghost use Rattle.enc_stream.specs.MarkLaws.{MayBeginMark};
-ghost use Rattle.enc_stream.specs.Decoding.{whole_sequences, whole_utf_8, whole_malformed};
-ghost use Rattle.enc_stream.specs.Division.{ByteDivides};
+ghost use Rattle.enc_stream.specs.Decoding.{whole_sequences, whole_malformed};
 ghost use Rattle.enc_stream.specs.Encoder.{whole_bytes};
 ghost use Rattle.enc_stream.specs.Labels.{encoding_of_label};
 ghost use Rattle.enc_stream.specs.Names.{name_of};
-ghost use Rattle.enc_stream.specs.Properties.{output_encoding_of, is_ascii_compatible};
+ghost use Rattle.enc_stream.specs.Properties.{output_encoding_of};
 ghost use Rattle.enc_codec.specs.Properties.{DeterminesBbByItself};
 ghost use Rattle.enc_decoder.specs.Sequence.{Sequence, sequence_bytes, sequence_text};
 ghost use Rattle.enc_decoder.specs.Segmentation.{sequences_of, IsSegmentation};
@@ -28,7 +27,6 @@ ghost use Rattle.enc_decoder.specs.Remainder.{AreBytes, Determines};
 ghost use Rattle.enc_decoder.specs.RuleLaws.{HasTexts, IsLookahead, IsDeterminedByEnd};
 ghost use Rattle.enc_decoder.specs.Lookahead.{CoverLookahead};
 ghost use Rattle.encoding_rs.specs.Lookahead.{MayLook, mark_found, rule_found, after_mark_found};
-ghost use Rattle.encoding_rs.specs.Recoding.{unmarked_recoding, recoding_replaces};
 ghost use Rattle.enc_round_trip.specs.RoundTrip.{char_read_back, any_read_as_other};
 ghost use Rattle.enc_units.specs.Output.{AreScalars};
 ghost use Rattle.enc_units.specs.Validity.{IsWellFormedUtf8};
@@ -36,7 +34,8 @@ ghost use Rattle.enc_units.specs.Validity.{IsWellFormedUtf8};
 use enc_stream::constants::{EUC_JP, GB18030, GBK, ISO_2022_JP, REPLACEMENT, SHIFT_JIS, UTF_8};
 pub use enc_stream::laws::{
     ascii_compatible_decode_ascii, ascii_compatible_encode_ascii, constants_have_their_names,
-    iso_8859_8_differs, labels_name_one_encoding, second_constants_are_equal,
+    iso_2022_jp_parts_are_not_the_whole, iso_8859_8_differs, labels_name_one_encoding,
+    line_feeds_divide, recoded_parts_are_the_whole, second_constants_are_equal,
     single_byte_decode_bytes,
 };
 use enc_stream::{BomHandling, Encoding};
@@ -246,60 +245,4 @@ pub fn encoded_text_decodes_back(encoding: Encoding)
         (whole_bytes barred encoding text) ≡ false }
 {
     let _ = (encoding, EUC_JP, SHIFT_JIS, ISO_2022_JP, GBK, GB18030);
-}
-
-/// In the ASCII-compatible encodings each byte below 0x30, as a line feed, divides an input.
-///
-/// No byte order mark is looked for. For the line feed [`Encoding::line_feeds_divide`] says so, and
-/// that it is so in no other encoding. 0x30 to 0x39, the ASCII digits, stand within sequences of
-/// gb18030.
-pub fn bytes_below_digits_divide(encoding: Encoding)
-    // The sequences of an input are those of its bytes up to this one, and those of the bytes after
-    // it.
-    ensures sequences { is_ascii_compatible encoding ≡ true → (c : ℕ) → c < 0x30
-        → ByteDivides c encoding }
-
-    // So is the text, here in UTF-8.
-    ensures text { is_ascii_compatible encoding ≡ true → (c : ℕ) → c < 0x30
-        → (front back : List ℕ) → whole_utf_8 handling.Off encoding (front ++ c ∷ back)
-        ≡ whole_utf_8 handling.Off encoding (front ++ c ∷ [])
-        ++ whole_utf_8 handling.Off encoding back }
-
-    // A sequence of the input is malformed exactly if one of either part is.
-    ensures flag { is_ascii_compatible encoding ≡ true → (c : ℕ) → c < 0x30
-        → (front back : List ℕ) → whole_malformed handling.Off encoding (front ++ c ∷ back)
-        ≡ (whole_malformed handling.Off encoding (front ++ c ∷ [])
-        || whole_malformed handling.Off encoding back) }
-{
-    let _ = encoding;
-}
-
-/// Parts of an input that end with such a byte can be recoded one by one, and joined.
-///
-/// That is from an ASCII-compatible encoding, with replacement and references, and no search for
-/// byte order marks ([`bytes_below_digits_divide`]).
-pub fn recoded_parts_are_the_whole(from: Encoding, to: Encoding)
-    // The bytes are those of the parts, joined, in every output encoding but ISO-2022-JP.
-    ensures bytes { is_ascii_compatible from ≡ true → to ≢ ISO_2022_JP → (c : ℕ) → c < 0x30
-        → (front back : List ℕ) → unmarked_recoding from to (front ++ c ∷ back)
-        ≡ unmarked_recoding from to (front ++ c ∷ []) ++ unmarked_recoding from to back }
-
-    // Something of the input is replaced exactly if something of either part is.
-    ensures flag { is_ascii_compatible from ≡ true → (c : ℕ) → c < 0x30
-        → (front back : List ℕ) → recoding_replaces from to (front ++ c ∷ back)
-        ≡ (recoding_replaces from to (front ++ c ∷ []) || recoding_replaces from to back) }
-{
-    let _ = (from, to, ISO_2022_JP);
-}
-
-/// In ISO-2022-JP the bytes of the parts, joined, can be others than those of the whole.
-///
-/// Of `¥`, a line feed and `a` in UTF-8, the first part ends with an escape sequence to ASCII. In
-/// the whole it stands after `a`, since the set Roman has both.
-pub fn iso_2022_jp_parts_are_not_the_whole()
-    ensures { unmarked_recoding UTF_8 ISO_2022_JP (0xC2 ∷ 0xA5 ∷ 0x0A ∷ 0x61 ∷ [])
-        ≢ unmarked_recoding UTF_8 ISO_2022_JP (0xC2 ∷ 0xA5 ∷ 0x0A ∷ [])
-        ++ unmarked_recoding UTF_8 ISO_2022_JP (0x61 ∷ []) }
-{
-    let _ = (UTF_8, ISO_2022_JP);
 }

@@ -27,7 +27,8 @@ use Rattle.enc_writer.specs.Sink.{AppendsContents}
 use Rattle.enc_writer.specs.Writing.{WriterState, HasWrittenText, TakesPrefix, StopsWithin, EndsText, WritesText}
 use Rattle.enc_writer.specs.Writing.{fresh_writer, owed_bytes}
 use Rattle.enc_writer.proofs.WritingLemmas.{HasWrittenText-none, StopsWithin-none}
-use Rattle.recode_engine.specs.Run.{RunsToEnd, RunsToFault, whole_text, recoded_bytes, any_replaced}
+use Rattle.enc_stream.specs.Recoding.{whole_text, recoded_bytes, any_replaced}
+use Rattle.recode_engine.specs.Run.{RunsToEnd, RunsToFault}
 use Rattle.recode_engine.proofs.SourceLemmas.{all_given, none_remaining}
 
 not_ended : {P : Type 0} → false ≡ true → P

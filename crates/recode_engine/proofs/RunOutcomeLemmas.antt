@@ -14,7 +14,8 @@ use Rattle.enc_reader.specs.Reading.{ReaderState, HandsOut}
 use Rattle.enc_reader.proofs.SourceLemmas.{ConsumesRemaining-none}
 use Rattle.recode_engine.specs.declared.engine.RecodeFault.{RecodeFault}
 use Rattle.recode_engine.specs.declared.engine.RecodeFault.TheVariants as side_fault
-use Rattle.recode_engine.specs.Run.{IsRecodeRun, Side, RunsToEnd, RunsToFault, recoded_bytes}
+use Rattle.enc_stream.specs.Recoding.{recoded_bytes}
+use Rattle.recode_engine.specs.Run.{IsRecodeRun, Side, RunsToEnd, RunsToFault}
 use Rattle.enc_writer.proofs.SinkLemmas.{AppendsContents-none}
 
 -- a text that is empty, and one that isn't

@@ -35,7 +35,7 @@ fn laws_are_called_for_what_they_state() {
     laws::constants_have_their_names();
     laws::ascii_compatible_encode_ascii(SHIFT_JIS);
     laws::slices_are_bytes(b"a");
-    laws::bytes_below_digits_divide(SHIFT_JIS);
+    laws::line_feeds_divide(SHIFT_JIS);
     laws::recoded_parts_are_the_whole(SHIFT_JIS, UTF_8);
     laws::iso_2022_jp_parts_are_not_the_whole();
 }

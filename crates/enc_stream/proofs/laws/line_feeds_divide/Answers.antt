@@ -1,5 +1,5 @@
-use Rattle.encoding_rs.proofs.DivisionLemmas.{divides_below_digits, utf_8_is_divided, flag_is_divided}
-use Rattle.encoding_rs.proofs.laws.bytes_below_digits_divide.Goals as goal
+use Rattle.enc_stream.proofs.DivisionLemmas.{divides_below_digits, utf_8_is_divided, flag_is_divided}
+use Rattle.enc_stream.proofs.laws.line_feeds_divide.Goals as goal
 
 pub returns-clause-sequences : goal.returns-clause-sequences
 returns-clause-sequences c = λ compatible b low.

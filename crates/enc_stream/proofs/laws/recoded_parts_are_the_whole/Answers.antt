@@ -1,5 +1,5 @@
-use Rattle.encoding_rs.proofs.DivisionLemmas.{divides_below_digits, bytes_are_joined, flags_are_joined}
-use Rattle.encoding_rs.proofs.laws.recoded_parts_are_the_whole.Goals as goal
+use Rattle.enc_stream.proofs.DivisionLemmas.{divides_below_digits, bytes_are_joined, flags_are_joined}
+use Rattle.enc_stream.proofs.laws.recoded_parts_are_the_whole.Goals as goal
 
 pub returns-clause-bytes : goal.returns-clause-bytes
 returns-clause-bytes c = λ compatible is_not b low front back.

@@ -19,7 +19,7 @@ use Rattle.enc_stream.specs.Encoder.{whole_bytes}
 use Rattle.enc_stream.specs.Properties.{is_ascii_compatible}
 use Rattle.enc_stream.proofs.PropertyLemmas.{divided_below_digits}
 use Rattle.enc_stream.proofs.JoiningLemmas.{output_joins}
-use Rattle.encoding_rs.specs.Recoding.{unmarked_text, unmarked_recoding, recoding_replaces}
+use Rattle.enc_stream.specs.Recoding.{whole_text, recoded_bytes, any_replaced}
 
 module _ (e : Encoding) (c : ℕ) (divides : ByteDivides c e) (front back : List ℕ) where
   up_to : List Sequence
@@ -28,8 +28,8 @@ module _ (e : Encoding) (c : ℕ) (divides : ByteDivides c e) (front back : List
   after : List Sequence
   after = whole_sequences Off e back
 
-  pub text_is_divided : unmarked_text e (front ++ c ∷ back)
-      ≡ unmarked_text e (front ++ c ∷ []) ++ unmarked_text e back
+  pub text_is_divided : whole_text Off e (front ++ c ∷ back)
+      ≡ whole_text Off e (front ++ c ∷ []) ++ whole_text Off e back
   unfolding up_to after
   text_is_divided = ap sequence_text (divides front back) ∙ sequence_text-append up_to after
 
@@ -57,18 +57,18 @@ flags_exchange false false c d = refl
 
 module _ (from to : Encoding) (c : ℕ) (divides : ByteDivides c from) (front back : List ℕ) where
   pub bytes_are_joined : to ≢ record { id = Iso2022Jp }
-      → unmarked_recoding from to (front ++ c ∷ back)
-      ≡ unmarked_recoding from to (front ++ c ∷ []) ++ unmarked_recoding from to back
+      → recoded_bytes Off from to (front ++ c ∷ back)
+      ≡ recoded_bytes Off from to (front ++ c ∷ []) ++ recoded_bytes Off from to back
   bytes_are_joined is_not =
       ap (whole_bytes [] to) (text_is_divided from c divides front back)
-      ∙ output_joins to is_not (unmarked_text from (front ++ c ∷ [])) (unmarked_text from back)
+      ∙ output_joins to is_not (whole_text Off from (front ++ c ∷ [])) (whole_text Off from back)
 
-  pub flags_are_joined : recoding_replaces from to (front ++ c ∷ back)
-      ≡ (recoding_replaces from to (front ++ c ∷ []) || recoding_replaces from to back)
+  pub flags_are_joined : any_replaced Off from to (front ++ c ∷ back)
+      ≡ (any_replaced Off from to (front ++ c ∷ []) || any_replaced Off from to back)
   flags_are_joined =
-      let first = unmarked_text from (front ++ c ∷ []) in
-      let rest = unmarked_text from back in
-      ap (λ b. b || any_unmappable (output_rule [] to) (unmarked_text from (front ++ c ∷ back)))
+      let first = whole_text Off from (front ++ c ∷ []) in
+      let rest = whole_text Off from back in
+      ap (λ b. b || any_unmappable (output_rule [] to) (whole_text Off from (front ++ c ∷ back)))
       (flag_is_divided from c divides front back)
       ∙ ap (λ b. (whole_malformed Off from (front ++ c ∷ []) || whole_malformed Off from back) || b)
       (ap (any_unmappable (output_rule [] to)) (text_is_divided from c divides front back)
@@ -81,10 +81,10 @@ module _ (from to : Encoding) (c : ℕ) (divides : ByteDivides c from) (front ba
 numbers_differ : (n m : ℕ) → n < m → m ≡ n → ⊥
 numbers_differ n m less same = omega arith
 
-pub iso_2022_jp_is_not_joined : unmarked_recoding (record { id = Utf8 }) (record { id = Iso2022Jp })
+pub iso_2022_jp_is_not_joined : recoded_bytes Off (record { id = Utf8 }) (record { id = Iso2022Jp })
     (0xC2 ∷ 0xA5 ∷ 0x0A ∷ 0x61 ∷ [])
-    ≢ unmarked_recoding (record { id = Utf8 }) (record { id = Iso2022Jp }) (0xC2 ∷ 0xA5 ∷ 0x0A ∷ [])
-    ++ unmarked_recoding (record { id = Utf8 }) (record { id = Iso2022Jp }) (0x61 ∷ [])
+    ≢ recoded_bytes Off (record { id = Utf8 }) (record { id = Iso2022Jp }) (0xC2 ∷ 0xA5 ∷ 0x0A ∷ [])
+    ++ recoded_bytes Off (record { id = Utf8 }) (record { id = Iso2022Jp }) (0x61 ∷ [])
 unfolding utf_8_rule sequence_len is_second_byte is_continuation sequences_after
 iso_2022_jp_is_not_joined same =
     numbers_differ 0x1B 0x61 (omega arith) (ap (λ z. slice_index z 5) same)

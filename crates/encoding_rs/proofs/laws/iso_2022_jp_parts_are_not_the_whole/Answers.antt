@@ -1,5 +1,0 @@
-use Rattle.encoding_rs.proofs.DivisionLemmas.{iso_2022_jp_is_not_joined}
-use Rattle.encoding_rs.proofs.laws.iso_2022_jp_parts_are_not_the_whole.Goals as goal
-
-pub returns : goal.returns
-returns c = iso_2022_jp_is_not_joined
