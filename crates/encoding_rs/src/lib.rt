@@ -15,6 +15,7 @@
 //! | the same, for UTF-16 in memory | [`Decoder::decode_to_utf16`] |
 //! | text that comes in chunks | [`Encoder::encode_from_utf8`], [`Encoder::encode_from_utf16`] |
 //! | a file or a pipe to read as text | `DecodeReader` of the crate `enc_reader` |
+//! | text to write to a file or a pipe | `EncodeWriter` of the crate `enc_writer` |
 //!
 //! These are the algorithms that the standard has for other standards (4.2, 4.3 and 6). Calls at
 //! once are methods of [`Encoding`], and so are the constructors of decoders and encoders:
@@ -104,6 +105,8 @@
 //!   formats that are always UTF-8 and may begin with the mark.
 //! - [`Encoding::new_decoder_without_bom_handling`] looks for none. A mark is part of the text, as
 //!   U+FEFF in UTF-8.
+//!
+//! [`Encoding::new_decoder_with_bom_handling`] takes the choice as a [`BomHandling`].
 //!
 //! ```rust
 //! let bytes = b"\xEF\xBB\xBFa";
