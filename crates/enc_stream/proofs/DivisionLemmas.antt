@@ -1,5 +1,5 @@
 -- Inputs that are divided after a byte, and recoded part by part.
-use Rattle.std.proofs.Common.{◌≡◌, ◌≢◌, ℕ, ◌<◌, Bool, true, false, ◌||◌, List, [], ◌∷◌, ◌++◌, refl, ap, ◌∙◌, sym}
+use Rattle.std.proofs.Common.{◌≡◌, ◌≢◌, ℕ, ◌<◌, Bool, true, false, ◌||◌, List, [], ◌∷◌, ◌++◌, refl, ap, ◌∙◌}
 use Rattle.std.proofs.Common.{arith, slice_index}
 use Rattle.std.specs.Char.{encode_utf8}
 use Rattle.enc_units.specs.Output.{units_of_text}
