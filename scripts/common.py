@@ -16,7 +16,8 @@ NAME = os.path.basename(sys.argv[0])
 os.environ["PATH"] += ":/usr/local/bin"
 # (scripts take modules of bench/ and reference_site/ too)
 sys.path += [f"{TOP}/bench", f"{TOP}/scripts/reference_site"]
-sys.stdout.reconfigure(line_buffering=True)
+if sys.stdout:  # (which may be closed)
+    sys.stdout.reconfigure(line_buffering=True)
 
 
 def is_there(path):
