@@ -7,6 +7,7 @@
 #![tactic(auto)]
 
 use enc_stream::Encoding;
+use enc_stream::constants::ISO_2022_JP;
 pub use recode_engine::{
     BomHandling, FromRead, FromWrite, RecodeFault, Sink, Source, labels, run_part, status,
 };
@@ -70,12 +71,11 @@ fn task_of(words: &Arguments) -> Result<Task, Refusal> {
     let Some(handling) = handling(words.part.as_str()) else {
         return Err(Refusal::Part);
     };
-    let written = to.output_encoding();
-    if !from.is_ascii_compatible() {
+    if !from.line_feeds_divide() {
         return Err(Refusal::Whole(from));
     }
-    if !written.is_ascii_compatible() {
-        return Err(Refusal::Whole(written));
+    if to == ISO_2022_JP {
+        return Err(Refusal::Whole(to));
     }
     Ok(Task { from, to, handling })
 }
