@@ -79,20 +79,21 @@ fn write_faults<W: Write>(bytes: &[u8], encoding: Encoding, out: &mut W) -> io::
     let mut place = Place::START;
     let mut count = 0usize;
     for _ in 0..u64::MAX {
-        let (written, fault) = match reader.read_str_without_replacement(&mut text)? {
+        match reader.read_str_without_replacement(&mut text)? {
             ReadStop::Text(0) => return Ok(count),
-            ReadStop::Text(written) => (written, None),
+            ReadStop::Text(written) => {
+                place = place.after_text(unsafe { str::from_utf8_unchecked(&text[..written]) });
+            }
             ReadStop::Malformed {
                 written,
                 offset,
                 len,
-            } => (written, Some((offset, len))),
-        };
-        place = place.after_text(unsafe { str::from_utf8_unchecked(&text[..written]) });
-        if let Some((offset, len)) = fault {
-            write_fault(offset, place, bytes_at(bytes, offset, len), out)?;
-            place = place.after('\u{FFFD}');
-            count = count.saturating_add(1);
+            } => {
+                place = place.after_text(unsafe { str::from_utf8_unchecked(&text[..written]) });
+                write_fault(offset, place, bytes_at(bytes, offset, len), out)?;
+                place = place.after('\u{FFFD}');
+                count = count.saturating_add(1);
+            }
         }
     }
     Err(Error::other("no end"))
