@@ -3,8 +3,9 @@
 
 use crate::surface::derives::{are_equal, debug_text};
 use encoding_rs::{Encoding, SHIFT_JIS, UTF_8, WINDOWS_1252};
-use recode_engine::{BomHandling, FromRead, FromWrite, RecodeFault, Sink, Source};
-use recode_engine::{labels, run, run_part, status};
+use recode_engine::{
+    BomHandling, FromRead, FromWrite, RecodeFault, Sink, Source, labels, run, run_part, status,
+};
 use std::io;
 use std::io::{ErrorKind, Read, Write};
 use std::process::Abort;
