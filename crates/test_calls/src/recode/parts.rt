@@ -2,16 +2,17 @@
 
 use encoding_rs::*;
 use recode_engine::{FromRead, FromWrite, run_part};
+use std::alloc::Global;
 use std::test::Fail;
-use test_support::devices::{ALL_BYTES, BYTE, StepReader, StepWriter};
+use test_support::cases::{Case, expect, expect_bytes};
+use test_support::devices::{BYTE, Step, StepReader, StepWriter};
 
-/// The encodings to decode from and to write, an input, and by each handling the bytes written and
-/// whether something is replaced: `Sniff`, `Remove` and `Off`.
-type HandlingRow = (
-    (Encoding, Encoding),
-    &'static [u8],
-    [(&'static [u8], bool); 3],
-);
+/// The bytes written, and whether something is replaced.
+type Wanted = (&'static [u8], bool);
+
+/// The encodings to decode from and to write, an input, and what is wanted of each handling:
+/// `Sniff`, `Remove` and `Off`.
+type HandlingRow = ((Encoding, Encoding), &'static [u8], [Wanted; 3]);
 
 const ROWS: &[HandlingRow] = &[
     // the mark of the encoding itself
@@ -80,26 +81,58 @@ const ROWS: &[HandlingRow] = &[
     ),
 ];
 
-const HANDLINGS: [BomHandling; 3] = [BomHandling::Sniff, BomHandling::Remove, BomHandling::Off];
+/// Recodes an input, which comes by these steps, by a handling.
+fn compare_steps(
+    alloc: Global,
+    (from, to): (Encoding, Encoding),
+    handling: BomHandling,
+    (input, steps): (&[u8], &[Step]),
+    (bytes, is_replaced): Wanted,
+) -> Result<(), Fail> {
+    let case = Case {
+        name: from.name(),
+        input,
+        room: 0,
+    };
+    let mut reader = StepReader::new(input, steps);
+    let mut writer = StepWriter::new(alloc, &[]);
+    let mut source = FromRead::new(&mut reader);
+    let mut sink = FromWrite::new(&mut writer);
+    let outcome = run_part(&mut source, &mut sink, from, to, handling);
+    expect(outcome == Ok(is_replaced), "another outcome", &case)?;
+    expect_bytes(&writer.taken, bytes, "other bytes", &case)
+}
+
+/// Recodes an input, which comes at once and byte by byte, by a handling.
+fn compare(
+    alloc: Global,
+    encodings: (Encoding, Encoding),
+    handling: BomHandling,
+    input: &[u8],
+    wanted: Wanted,
+) -> Result<(), Fail> {
+    compare_steps(alloc, encodings, handling, (input, &[]), wanted)?;
+    compare_steps(alloc, encodings, handling, (input, &[BYTE]), wanted)
+}
 
 #[test]
 fn looks_for_the_marks_of_each_handling(rt: HostRuntime) -> Result<(), Fail> {
-    for ((from, to), input, wanted) in ROWS {
-        for (handling, (bytes, replaced)) in HANDLINGS.iter().zip(wanted.iter()) {
-            for step in [BYTE, ALL_BYTES] {
-                let steps = [step];
-                let mut reader = StepReader::new(*input, &steps);
-                let mut writer = StepWriter::new(rt.alloc(), &[ALL_BYTES]);
-                let mut source = FromRead::new(&mut reader);
-                let mut sink = FromWrite::new(&mut writer);
-                let outcome = run_part(&mut source, &mut sink, *from, *to, *handling);
-                assert!(rt; outcome == Ok(*replaced), "of {input:?}, {handling:?}");
-                assert!(rt;
-                    writer.taken.as_slice() == *bytes,
-                    "of {input:?}, {handling:?}"
-                );
-            }
-        }
+    for (encodings, input, [sniffing, removing, plain]) in ROWS {
+        compare(
+            rt.alloc(),
+            *encodings,
+            BomHandling::Sniff,
+            *input,
+            *sniffing,
+        )?;
+        compare(
+            rt.alloc(),
+            *encodings,
+            BomHandling::Remove,
+            *input,
+            *removing,
+        )?;
+        compare(rt.alloc(), *encodings, BomHandling::Off, *input, *plain)?;
     }
     Ok(())
 }
