@@ -12,72 +12,68 @@ type Wanted = (&'static [u8], bool);
 
 /// The encodings to decode from and to write, an input, and what is wanted of each handling:
 /// `Sniff`, `Remove` and `Off`.
-type HandlingRow = ((Encoding, Encoding), &'static [u8], [Wanted; 3]);
+type HandlingRow = ((Encoding, Encoding), &'static [u8], Wanted, Wanted, Wanted);
 
 const ROWS: &[HandlingRow] = &[
     // the mark of the encoding itself
     (
         (UTF_8, UTF_8),
         b"\xEF\xBB\xBFa",
-        [(b"a", false), (b"a", false), (b"\xEF\xBB\xBFa", false)],
+        (b"a", false),
+        (b"a", false),
+        (b"\xEF\xBB\xBFa", false),
     ),
     (
         (UTF_8, SHIFT_JIS),
         b"\xEF\xBB\xBFa\xFF",
-        [
-            (b"a&#65533;", true),
-            (b"a&#65533;", true),
-            (b"&#65279;a&#65533;", true),
-        ],
+        (b"a&#65533;", true),
+        (b"a&#65533;", true),
+        (b"&#65279;a&#65533;", true),
     ),
     (
         (UTF_16LE, UTF_8),
         b"\xFF\xFEa\0",
-        [(b"a", false), (b"a", false), (b"\xEF\xBB\xBFa", false)],
+        (b"a", false),
+        (b"a", false),
+        (b"\xEF\xBB\xBFa", false),
     ),
     // the mark of another encoding
     (
         (WINDOWS_1252, UTF_8),
         b"\xEF\xBB\xBFa",
-        [
-            (b"a", false),
-            (b"\xC3\xAF\xC2\xBB\xC2\xBFa", false),
-            (b"\xC3\xAF\xC2\xBB\xC2\xBFa", false),
-        ],
+        (b"a", false),
+        (b"\xC3\xAF\xC2\xBB\xC2\xBFa", false),
+        (b"\xC3\xAF\xC2\xBB\xC2\xBFa", false),
     ),
     (
         (WINDOWS_1252, WINDOWS_1252),
         b"\xFE\xFF\0a",
-        [
-            (b"a", false),
-            (b"\xFE\xFF\0a", false),
-            (b"\xFE\xFF\0a", false),
-        ],
+        (b"a", false),
+        (b"\xFE\xFF\0a", false),
+        (b"\xFE\xFF\0a", false),
     ),
     // a mark that is broken off
     (
         (UTF_8, UTF_8),
         b"\xEF\xBB",
-        [
-            (b"\xEF\xBF\xBD", true),
-            (b"\xEF\xBF\xBD", true),
-            (b"\xEF\xBF\xBD", true),
-        ],
+        (b"\xEF\xBF\xBD", true),
+        (b"\xEF\xBF\xBD", true),
+        (b"\xEF\xBF\xBD", true),
     ),
     // no mark, and one that comes later
     (
         (UTF_8, UTF_8),
         b"a\xEF\xBB\xBF",
-        [
-            (b"a\xEF\xBB\xBF", false),
-            (b"a\xEF\xBB\xBF", false),
-            (b"a\xEF\xBB\xBF", false),
-        ],
+        (b"a\xEF\xBB\xBF", false),
+        (b"a\xEF\xBB\xBF", false),
+        (b"a\xEF\xBB\xBF", false),
     ),
     (
         (UTF_8, UTF_8),
         b"",
-        [(b"", false), (b"", false), (b"", false)],
+        (b"", false),
+        (b"", false),
+        (b"", false),
     ),
 ];
 
@@ -117,7 +113,7 @@ fn compare(
 
 #[test]
 fn looks_for_the_marks_of_each_handling(rt: HostRuntime) -> Result<(), Fail> {
-    for (encodings, input, [sniffing, removing, plain]) in ROWS {
+    for (encodings, input, sniffing, removing, plain) in ROWS {
         compare(
             rt.alloc(),
             *encodings,
