@@ -17,8 +17,9 @@ use enc_decoder_single_byte::{ReplacementDecoder, SingleByteDecoder, XUserDefine
 use enc_decoder_utf::{Utf8Decoder, Utf16Decoder};
 use enc_index::Codec;
 
-/// The decoder of a codec, and its formulas. [`Codec`] alone implements it: it is a trait since the
-/// enum is that of `enc_index`, which stands below the decoders.
+/// Makes the decoder of a [`Codec`], and its length formulas.
+///
+/// The enum stands in `enc_index`, below the decoders, so these are methods of a trait.
 pub trait NewDecoder {
     // its codec
     ghost codec: { Self → Codec };

@@ -205,7 +205,7 @@ pub fn run<C: ByteCodec, U: Units>(
     }
 }
 
-/// Does the same, as a function of its own, so that the loop that calls it stays small.
+/// [`run`], which is not inlined here, so that callers of [`report_or_run`] stay small.
 #[inline(never)]
 fn run_apart<C: ByteCodec, U: Units>(
     codec: &mut C,
@@ -225,10 +225,9 @@ fn run_apart<C: ByteCodec, U: Units>(
     run(codec, src, out, last, mode)
 }
 
-/// Does the same for a codec whose runs are long code.
+/// Decodes as [`run`] does, and is less code where it is inlined.
 ///
-/// It reports a first byte that is malformed by itself at once, and leaves all else to a function
-/// of its own.
+/// A first byte that is malformed by itself is reported at once. All else is a call of [`run`].
 #[inline(always)]
 pub fn report_or_run<C: ByteCodec, U: Units>(
     codec: &mut C,

@@ -101,8 +101,7 @@ impl TurnOutcome {
     }
 }
 
-/// Decodes the unread part of `input`. (The buffer is passed on as it is borrowed, so that its
-/// bytes are known to stay.)
+/// Decodes the unread part of `input`, whose bytes stay as they are.
 fn decode_unread(
     decoder: &mut Decoder,
     input: &mut [u8],

@@ -16,8 +16,6 @@ use Rattle.enc_stream.specs.Decoding.{whole_sequences, whole_utf_8, whole_malfor
 use Rattle.enc_stream.specs.Division.{ByteDivides}
 use Rattle.enc_stream.specs.Encodings.{output_rule}
 use Rattle.enc_stream.specs.Encoder.{whole_bytes}
-use Rattle.enc_stream.specs.Properties.{is_ascii_compatible}
-use Rattle.enc_stream.proofs.PropertyLemmas.{divided_below_digits}
 use Rattle.enc_stream.proofs.JoiningLemmas.{output_joins}
 use Rattle.enc_stream.specs.Recoding.{whole_text, recoded_bytes, any_replaced}
 
@@ -44,10 +42,6 @@ module _ (e : Encoding) (c : ℕ) (divides : ByteDivides c e) (front back : List
       ≡ (whole_malformed Off e (front ++ c ∷ []) || whole_malformed Off e back)
   unfolding up_to after
   flag_is_divided = ap any_malformed (divides front back) ∙ any_malformed-append up_to after
-
-pub divides_below_digits : (e : Encoding) → is_ascii_compatible e ≡ true → (c : ℕ) → c < 0x30
-    → ByteDivides c e
-divides_below_digits e compatible c low = divided_below_digits e compatible c low
 
 flags_exchange : (a b c d : Bool) → ((a || b) || (c || d)) ≡ ((a || c) || (b || d))
 flags_exchange true b c d = refl
@@ -78,13 +72,10 @@ module _ (from to : Encoding) (c : ℕ) (divides : ByteDivides c from) (front ba
 
 -- In ISO-2022-JP the first part ends with an escape sequence to ASCII. The whole stays in Roman.
 
-numbers_differ : (n m : ℕ) → n < m → m ≡ n → ⊥
-numbers_differ n m less same = omega arith
-
 pub iso_2022_jp_is_not_joined : recoded_bytes Off (record { id = Utf8 }) (record { id = Iso2022Jp })
     (0xC2 ∷ 0xA5 ∷ 0x0A ∷ 0x61 ∷ [])
     ≢ recoded_bytes Off (record { id = Utf8 }) (record { id = Iso2022Jp }) (0xC2 ∷ 0xA5 ∷ 0x0A ∷ [])
     ++ recoded_bytes Off (record { id = Utf8 }) (record { id = Iso2022Jp }) (0x61 ∷ [])
 unfolding utf_8_rule sequence_len is_second_byte is_continuation sequences_after
 iso_2022_jp_is_not_joined same =
-    numbers_differ 0x1B 0x61 (omega arith) (ap (λ z. slice_index z 5) same)
+    let same_byte : 0x61 ≡ 0x1B = ap (λ z. slice_index z 5) same in omega arith

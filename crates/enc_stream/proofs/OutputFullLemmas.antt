@@ -172,7 +172,7 @@ module _ {units_of : ℕ → List ℕ} (determine : DetermineTexts units_of) {ol
         done (remaining_sequences new (c.src ++ []))
         (sym with_text.same ∙ decodes.call.residual [] (λ _. refl)) no_text)
 
--- what a call does, and what that says where it stops for want of room
+-- a call that decodes a chunk answers as the contract of calls says
 pub converts : {units_of : ℕ → List ℕ} {least : ℕ} {old new : DecoderState} (c : Call)
     → DetermineTexts units_of → TakesSmallTexts units_of least → PendingAreHeldBytes old
     → has_finished old ≡ false → DecodesChunk units_of old new c

@@ -23,7 +23,7 @@ use Rattle.enc_decoder.proofs.SequenceLemmas.{or_false}
 use Rattle.encoding_rs.specs.EncodeRun.{encode_error_mode, reported_character, is_unmappable_result}
 use Rattle.encoding_rs.specs.EncodeRun.{is_input_empty_result}
 
--- what a call without replacement has reported, by its steps
+-- the reports of a call without replacement, by its steps
 report_is : (new : RawEncoderState) (rest : List ℕ) (last : Bool) (room : ℕ) (done : List Step)
     (result : EncoderResult) → EncoderStops new rest last room done result
     → (reported_character result ≡ reports_in done)
