@@ -6,8 +6,8 @@ TYPES = "Types"
 OTHERS = "Others"
 # Each group by the files of its functions and by their names.
 GROUPS = (
-    ("State", r"/(?:decoder/queries|encoder|decode_reader)\.rt$",
-     r"encoding|is_finished|has_pending_state|had_errors|latin1_byte_compatible_up_to"),
+    ("State", r"/(?:decoder/queries|encoder|decode_reader|encode_writer)\.rt$",
+     r"encoding|is_finished|has_pending_state|had_errors|had_unmappables|latin1_byte_compatible_up_to"),
     ("Lengths to allocate", r"", r"max_\w+|length|text_lengths|byte_lengths"),
     ("Encodings and labels", r"/(?:labels|properties|encoding|encoding_id|table|search|label_pair)\.rt$", r""),
     ("Byte order marks", r"/bom\.rt$", r""),
@@ -17,15 +17,16 @@ GROUPS = (
     ("Validity", r"/validity\.rt$", r""),
     ("Runs", r"/(?:run|encode_run)\.rt$", r""),
     ("Laws", r"/(?:\w+_)?laws\.rt$", r""),
-    ("Reader", r"/decode_reader\.rt$", r""),
+    ("Reader", r"/(?:decode_reader(?:/\w+)?|decoded_text)\.rt$", r""),
     ("Sources", r"/source\.rt$", r""),
-    ("Writer", r"/sink\.rt$", r""),
+    ("Writer", r"/encode_writer\.rt$", r""),
+    ("Sinks", r"/sink\.rt$", r""),
     ("Recoding", r"/(?:engine|exit)\.rt$", r""),
 )
 # The order in which they are shown.
 ORDER = (
-    "Decoding in chunks", "Encoding in chunks", "One-shot calls", "Reader", "Sources", "Recoding", "Writer", "State",
-    "Lengths to allocate", "Encodings and labels", "Byte order marks", "Validity", "Runs", "Laws", OTHERS,
+    "Decoding in chunks", "Encoding in chunks", "One-shot calls", "Reader", "Sources", "Writer", "Sinks", "Recoding",
+    "State", "Lengths to allocate", "Encodings and labels", "Byte order marks", "Validity", "Runs", "Laws", OTHERS,
 )
 
 

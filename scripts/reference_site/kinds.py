@@ -1,4 +1,4 @@
-"""The record that a part of a clause or a definition is, as far as its type is written: whose fields follow a dot."""
+"""Which record a part of a clause or of a definition is, if its type is written: the fields after a dot are its own."""
 
 import functools
 import re

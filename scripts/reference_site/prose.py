@@ -23,6 +23,8 @@ PROSE = re.compile("|".join((PICTURE, LINK, TICKED, BARE)))
 FENCE = re.compile(r"^(```.*?^```)$", re.M | re.S)
 CLAIM_LIST = re.compile(rf"(?:{CLAIM.pattern}\n)+", re.M)
 LIST_OF_NAMES = re.compile(r"^- \*([^*]+)\*:", re.M)
+# The comments around what scripts write. Others stay: they end a list.
+WRITTEN = re.compile(r"<!-- (?:scripts/|to here).*?-->\n?", re.S)
 
 
 def documents():
@@ -143,7 +145,7 @@ class Prose:
 
     def page(self, document):
         """The page of a document."""
-        page, text = page_of_document(document), re.sub(r"<!--.*?-->\n?", "", read(document), flags=re.S)
+        page, text = page_of_document(document), WRITTEN.sub("", read(document))
         lists = []
 
         def kept(match):

@@ -12,7 +12,7 @@ from common import crates, is_there, paths, read
 from sources import end_of_group
 
 # The crates that callers link, and the last library of crates.txt.
-FOR_CALLERS = ("encoding_rs", "enc_reader", "recode_engine")
+FOR_CALLERS = ("encoding_rs", "enc_reader", "enc_writer", "recode_engine")
 LAST_LIBRARY = "recode_engine"
 # Modules of tables, which are data.
 TABLES = re.compile(r"/src/(?:data|pages)(?:/|\.rt$)")
