@@ -24,7 +24,7 @@ from sources import blocks
 CLAIMS = "docs/PROVED.md"
 
 # Crates and traits all of whose public clauses are claims.
-CRATES_CLAIMED = ("enc_stream", "encoding_rs", "enc_reader", "recode_engine")
+CRATES_CLAIMED = ("enc_stream", "encoding_rs", "enc_reader", "enc_writer", "recode_engine")
 TRAITS_CLAIMED = ("Units", "Chars", "RawDecoder", "RawEncoder", "Source", "Sink")
 
 LABEL = re.compile(r"(?:`(\w+)`|(its clause|every clause))(?: \((.*?)\))?")
