@@ -116,7 +116,8 @@ def definitions():
 # Definitions
 
 The files of `crates/*/specs/`, lowest crate first, each with the sentence that heads it. Each definition has a name
-of its own, so a search for the name in `crates/*/specs/` finds it. `scripts/documents` writes this file.
+of its own, so a search for the name in `crates/*/specs/` finds it. [VERIFY.md](VERIFY.md) lists those that the main
+theorem cites. `scripts/documents` writes this file.
 """ + "".join(f"\n## {it}\n\n{''.join(map(items.get, specs_of(it)))}" for it in crates() if specs_of(it))
 
 

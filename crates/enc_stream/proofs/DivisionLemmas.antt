@@ -1,6 +1,8 @@
 -- Inputs that are divided after a byte, and recoded part by part.
-use Rattle.std.proofs.Common.{◌≡◌, ◌≢◌, ℕ, ◌<◌, Bool, true, false, ◌||◌, List, [], ◌∷◌, ◌++◌, refl, ap, ◌∙◌}
-use Rattle.std.proofs.Common.{arith, slice_index}
+use Rattle.std.specs.Prelude.{nat_lt}
+use Rattle.std.proofs.Common.{◌≡◌, ◌≢◌, ℕ, Bool, true, false, ◌||◌, List, [], ◌∷◌, ◌++◌, refl, ap, ◌∙◌}
+use Rattle.std.proofs.Common.{slice_index}
+use Rattle.std.proofs.lemmas.Bool.{false≢true}
 use Rattle.std.specs.Char.{encode_utf8}
 use Rattle.enc_units.specs.Output.{units_of_text}
 use Rattle.enc_decoder.specs.Sequence.{Sequence, sequence_text, any_malformed}
@@ -78,4 +80,4 @@ pub iso_2022_jp_is_not_joined : recoded_bytes Off (record { id = Utf8 }) (record
     ++ recoded_bytes Off (record { id = Utf8 }) (record { id = Iso2022Jp }) (0x61 ∷ [])
 unfolding utf_8_rule sequence_len is_second_byte is_continuation sequences_after
 iso_2022_jp_is_not_joined same =
-    let same_byte : 0x61 ≡ 0x1B = ap (λ z. slice_index z 5) same in omega arith
+    false≢true (ap (λ z. nat_lt (slice_index z 5) 0x20) same)

@@ -84,8 +84,7 @@ impl Encoding {
     /// Returns an encoder of its output encoding, with barred characters.
     ///
     /// The characters of `barred` are unmappable too. To bar one bars no other that has the same
-    /// bytes, as U+2212 and U+FF0D in Shift_JIS. The encoder keeps the list, also after the end of a
-    /// text.
+    /// bytes, as U+2212 and U+FF0D in Shift_JIS. The encoder keeps the list after a text too.
     /// Condition: each character of the list is U+0080 or above ([`Encoding::barred_ok`]).
     pub fn new_encoder_barring(self, barred: &'static [char]) -> Encoder
         requires beyond_ascii { are_beyond_ascii barred.now ≡ true }

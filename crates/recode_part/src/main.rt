@@ -1,10 +1,10 @@
 //! Recodes standard input to standard output, as one part of a file that is cut after line feeds.
 //!
-//! `recode_part FROM TO PART [LENGTH]` decodes by the encoding that the label FROM names, and writes
-//! the output encoding of the one that TO names. PART is the number of the part. Part 1 drops the
-//! byte order mark of FROM, and the others look for none. No other byte order mark is looked for.
-//! With LENGTH it reads that many bytes at most, so standard input may be the whole file, at the
-//! offset of the part. It refuses encodings in which a part may depend on the bytes before it.
+//! `recode_part FROM TO PART [LENGTH]` decodes by the encoding that the label FROM names, and
+//! writes the output encoding of the one that TO names. PART is the number of the part. Part 1
+//! drops the byte order mark of FROM, and the others look for none. No other mark is looked
+//! for. With LENGTH it reads that many bytes at most, so standard input may be the whole file, at
+//! the offset of the part. It refuses encodings in which a part may depend on the bytes before it.
 #![tactic(auto)]
 
 use enc_stream::Encoding;
