@@ -28,7 +28,7 @@ class Pair(NamedTuple):
 
 
 class Place(NamedTuple):
-    """What a pair changes: the file, and in it the function, by its name, its owner's head line and its own; or no function."""
+    """What a pair changes: the file, and the function in it, by its name, its owner's head line and its own; or none."""
     file: str
     name: str = ""
     owner: str = ""
@@ -38,8 +38,8 @@ class Place(NamedTuple):
 class Edit:
     """A change of a crate: a wrong one or, in the folder equal, one that means the same.
 
-    `call` is the public call that it is for, `shown` the test or the program that shows it to be wrong, `reason` why none does, and `same`
-    the test that shows it to mean the same. Each is empty where the file has no such line.
+    `call` is the public call that it is for, `shown` the test or the program that shows it to be wrong, `reason` why
+    none does, and `same` the test that shows it to mean the same. Each is empty where the file has no such line.
     """
 
     def __init__(self, crate, path):
@@ -60,7 +60,7 @@ class Edit:
 
 
 def apply(crate, pairs):
-    """The texts of the files that these pairs change, by path. A ValueError where an old text does not stand there once."""
+    """The texts of the files that these pairs change, by path. A ValueError where an old text isn't there once."""
     texts = {}
     for file, old, new in pairs:
         text = texts.get(file) or read(f"crates/{crate}/{file}")
@@ -160,7 +160,7 @@ def fits(group, edit, most):
 
 
 def groups_of(edits, most):
-    """The edits of a crate in groups that can be tried at once. Those that are not of functions are each in one of their own."""
+    """The edits of a crate in groups that can be tried at once. One that is not of a function is a group of its own."""
     groups = []
     for edit in edits:
         group = next((it for it in groups if fits(it, edit, most)), [])

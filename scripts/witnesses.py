@@ -1,15 +1,17 @@
 """Shows by runs that wrong bodies are wrong, with no proof. For scripts/edits --run.
 
-One build tries many edits. In a copy of the crates each edited function has its own body and each wrong one, and a number says which counts:
+One build tries many edits. In a copy of the crates each edited function has its own body and each wrong one, and a
+number says which counts:
 
     { if switch::is_on(17) { return { WRONG BODY }; } BODY }
 
-The crate `switch` of the copy holds that number. Beside each test that an edit names stand functions that set the number and run the test:
-one for each edit, which must fail, and one that sets none, the control, which must pass. Each test runs in a process of its own.
+The crate `switch` of the copy holds that number. Beside each test that an edit names stand functions that set the
+number and run the test: one for each edit, which must fail, and one that sets none, the control, which must pass. Each
+test runs in a process of its own.
 
-Not all changes are of bodies. One of a head, a constant or a program is built and run by itself. Ghost lines and definitions do not run, so
-of an edit that changes them too only the rest is made. An edit whose wrong body can't stand beside the right one (a value is
-moved or lent in both, say) is tried by itself too.
+Not all changes are of bodies. One of a head, a constant or a program is built and run by itself. Ghost lines and
+definitions do not run, so of an edit that changes them too only the rest is made. An edit whose wrong body can't stand
+beside the right one (a value is moved or lent in both, say) is tried by itself too.
 """
 
 import os

@@ -21,6 +21,7 @@ pub mod EncoderLemmas
 pub mod ReferenceLemmas
 pub mod JoiningLemmas
 pub mod DivisionLemmas
+pub mod FirstPartLemmas
 pub mod EncoderProgressLemmas
 pub mod Latin1Lemmas
 pub mod SniffingLemmas

@@ -4,10 +4,12 @@ use Rattle.std.proofs.Common.{Option, Some, None}
 use Rattle.std.specs.Prelude.{option_map}
 use Rattle.enc_names.specs.declared.encoding_id.EncodingId.{EncodingId}
 use Rattle.enc_names.specs.declared.encoding_id.EncodingId.TheVariants.{Utf8, Utf16be, Utf16le}
-use Rattle.enc_stream.specs.declared.bom.BomHandling.TheVariants.{Remove}
+use Rattle.enc_stream.specs.declared.bom.BomHandling.TheVariants.{Sniff, Remove}
 use Rattle.enc_stream.specs.declared.encoding.Encoding.{Encoding}
 use Rattle.enc_stream.specs.Bom.{Mark, marks, marks_of_encoding, find_mark}
-use Rattle.enc_stream.specs.Bom.{bom_of}
+use Rattle.enc_stream.specs.Bom.{bom_of, sequences_by_mark}
+use Rattle.enc_stream.specs.Decoding.{whole_sequences, whole_encoding}
+use Rattle.enc_stream.specs.LifeCycle.{encoding_of_mark_or}
 use Rattle.enc_stream.specs.MarkLaws.{bytes_after_mark}
 use Rattle.enc_stream.specs.OwnText.{mark_looked_for}
 use Rattle.enc_stream.proofs.FoundMarkLemmas.{EachMark, found_has, found_is, found_starts}
@@ -44,6 +46,34 @@ none_unless_own id bytes other = by_found (find_mark (marks_of_encoding id) byte
     by_found (Some m) at_front =
         let own = found_has (IsOwn id) (marks_of_encoding id) bytes m (own_marks id) at_front in
         absurd (other m (rw (← found_is (marks_of_encoding id) bytes m at_front) (own.1 _)) own.0)
+
+-- The one found among all three is that of the encoding that sniffing finds.
+pub sniffed_is_removed : (e : Encoding) (bytes : List ℕ)
+    → whole_sequences Sniff e bytes
+    ≡ whole_sequences Remove (whole_encoding Sniff e bytes) bytes
+sniffed_is_removed e bytes = by_found (find_mark marks bytes) refl
+  where
+    by_found : (found : Option Mark) → find_mark marks bytes ≡ found
+        → sequences_by_mark found e bytes
+        ≡ whole_sequences Remove (encoding_of_mark_or found e) bytes
+    by_found None at_front =
+        let none : find_mark (marks_of_encoding e.id) bytes ≡ None =
+        none_unless_own e.id bytes (λ m is_found own. absurd (let no : ⊥ = cc in no)) in
+        rw none refl
+    by_found (Some m) at_front =
+        rw (found_if_own m.encoding.id bytes m at_front refl) refl
+
+-- Removal keeps the encoding.
+pub removal_keeps : (e : Encoding) (bytes : List ℕ) → whole_encoding Remove e bytes ≡ e
+removal_keeps e bytes = by_found (find_mark (marks_of_encoding e.id) bytes) refl
+  where
+    by_found : (found : Option Mark) → find_mark (marks_of_encoding e.id) bytes ≡ found
+        → encoding_of_mark_or found e ≡ e
+    by_found None at_front = refl
+    by_found (Some m) at_front =
+        let own =
+        found_has (IsOwn e.id) (marks_of_encoding e.id) bytes m (own_marks e.id) at_front in
+        ap (λ (i : EncodingId). record { id = i }) own.0
 
 -- the mark that is found among all three
 

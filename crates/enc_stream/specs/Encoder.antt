@@ -67,10 +67,10 @@ steps_left v last text = length (steps_from_state (raw_state v) last text)
 abbrev pub LeavesFewerSteps : EncoderState → EncoderState → Bool → List ℕ → List ℕ → Type 0
 LeavesFewerSteps old new last text unread = steps_left new last unread < steps_left old last text
 
--- A call of an encoder. It does the
--- steps that come first, as many as fit, and writes a reference to an unmappable character, or
--- stops there and reports it. Whatever follows, the bytes of the whole text are those that it
--- wrote, a reference to the character reported, and the bytes of the text left.
+-- A call of an encoder. It does the steps that come first, as many as fit, and writes a reference
+-- to an unmappable character, or stops there and reports it. Whatever follows, the bytes of the
+-- whole text are those that it wrote, a reference to the character reported, and the bytes of the
+-- text left.
 pub record EncodesChunk (units_of : ℕ → List ℕ) (old new : EncoderState) (c : CallInMode)
     : Type 0 where
   pub encoding : new.encoding ≡ old.encoding

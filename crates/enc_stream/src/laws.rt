@@ -4,8 +4,10 @@
 ghost use Rattle.std.specs.Prelude.{◌≡◌, ◌≢◌, ◌↔◌, ℕ, ◌<◌, ◌||◌, true, List, [], ◌∷◌, ◌++◌, Some};
 ghost use Rattle.enc_codec.specs.Properties.{IsAsciiCompatible, IsSingleByte};
 ghost use Rattle.enc_encoder.specs.declared.character_set.CharacterSet.TheVariants.{Ascii};
-ghost use Rattle.enc_stream.specs.declared.bom.BomHandling.TheVariants.{Off};
-ghost use Rattle.enc_stream.specs.Decoding.{whole_utf_8, whole_malformed};
+ghost use Rattle.enc_stream.specs.declared.bom.BomHandling.{BomHandling};
+ghost use Rattle.enc_stream.specs.declared.bom.BomHandling.TheVariants.{Off, Sniff, Remove};
+ghost use Rattle.enc_stream.specs.Decoding.{whole_sequences, whole_encoding, whole_utf_8};
+ghost use Rattle.enc_stream.specs.Decoding.{whole_malformed};
 ghost use Rattle.enc_stream.specs.Division.{ByteDivides};
 ghost use Rattle.enc_stream.specs.Encodings.{rule_of, output_rule};
 ghost use Rattle.enc_stream.specs.Properties.{is_ascii_compatible, is_single_byte};
@@ -83,20 +85,41 @@ pub fn line_feeds_divide(encoding: Encoding)
 
 /// Parts of an input that end with such a byte can be recoded one by one, and joined.
 ///
-/// That is from an ASCII-compatible encoding, with replacement and references, and no search for
-/// byte order marks ([`line_feeds_divide`]).
+/// The first part may look for byte order marks. The parts after it look for none, and are decoded
+/// by the encoding of the first: that of its mark, if one is found, and else `from`
+/// ([`line_feeds_divide`]). This encoding is ASCII-compatible. Recoding is with replacement and
+/// references.
 pub fn recoded_parts_are_the_whole(from: Encoding, to: Encoding)
     // The bytes are those of the parts, joined, in every output encoding but ISO-2022-JP.
-    ensures bytes { is_ascii_compatible from ≡ true → to ≢ ISO_2022_JP → (c : ℕ) → c < 0x30
-        → (front back : List ℕ) → recoded_bytes Off from to (front ++ c ∷ back)
-        ≡ recoded_bytes Off from to (front ++ c ∷ []) ++ recoded_bytes Off from to back }
+    ensures bytes { (handling : BomHandling) (c : ℕ) (front back : List ℕ)
+        → is_ascii_compatible (whole_encoding handling from (front ++ c ∷ [])) ≡ true
+        → to ≢ ISO_2022_JP → c < 0x30
+        → recoded_bytes handling from to (front ++ c ∷ back)
+        ≡ recoded_bytes handling from to (front ++ c ∷ [])
+        ++ recoded_bytes Off (whole_encoding handling from (front ++ c ∷ [])) to back }
 
     // Something of the input is replaced exactly if something of either part is.
-    ensures flag { is_ascii_compatible from ≡ true → (c : ℕ) → c < 0x30
-        → (front back : List ℕ) → any_replaced Off from to (front ++ c ∷ back)
-        ≡ (any_replaced Off from to (front ++ c ∷ []) || any_replaced Off from to back) }
+    ensures flag { (handling : BomHandling) (c : ℕ) (front back : List ℕ)
+        → is_ascii_compatible (whole_encoding handling from (front ++ c ∷ [])) ≡ true → c < 0x30
+        → any_replaced handling from to (front ++ c ∷ back)
+        ≡ (any_replaced handling from to (front ++ c ∷ [])
+        || any_replaced Off (whole_encoding handling from (front ++ c ∷ [])) to back) }
 {
     let _ = (from, to, ISO_2022_JP);
+}
+
+/// Decoding that sniffs is decoding by the encoding that it finds, whose own mark is removed.
+///
+/// So a mark can be looked for once, before an input is recoded in parts
+/// ([`recoded_parts_are_the_whole`]).
+pub fn sniffed_is_removed(encoding: Encoding)
+    ensures sequences { (bytes : List ℕ) → whole_sequences Sniff encoding bytes
+        ≡ whole_sequences Remove (whole_encoding Sniff encoding bytes) bytes }
+
+    // Removal keeps the encoding.
+    ensures encoding { (bytes : List ℕ) → whole_encoding Remove encoding bytes ≡ encoding }
+{
+    let _ = encoding;
 }
 
 /// In ISO-2022-JP the bytes of the parts, joined, can be others than those of the whole.

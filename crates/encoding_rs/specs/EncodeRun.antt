@@ -11,7 +11,6 @@ use Rattle.enc_encoder.specs.Steps.{step_chars}
 use Rattle.enc_encoder.specs.Text.{reference_after}
 use Rattle.enc_encoder.specs.ErrorMode.{EncodeErrorMode, Fatal}
 use Rattle.enc_encoder.specs.Unmappable.{any_unmappable, reports_of}
-use Rattle.enc_encoder.specs.Text.{reference_after}
 use Rattle.enc_stream.specs.Encodings.{output_rule}
 use Rattle.enc_stream.specs.Encoder.{EncoderState, fresh_encoder, html_mode, whole_bytes, EncodesChunk}
 use Rattle.encoding_rs.specs.Run.{units_of_call}

@@ -36,7 +36,7 @@ pub use enc_stream::laws::{
     ascii_compatible_decode_ascii, ascii_compatible_encode_ascii, constants_have_their_names,
     iso_2022_jp_parts_are_not_the_whole, iso_8859_8_differs, labels_name_one_encoding,
     line_feeds_divide, recoded_parts_are_the_whole, second_constants_are_equal,
-    single_byte_decode_bytes,
+    single_byte_decode_bytes, sniffed_is_removed,
 };
 use enc_stream::{BomHandling, Encoding};
 use std::hash::{Hash, Hasher};

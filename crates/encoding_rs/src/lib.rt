@@ -16,6 +16,7 @@
 //! | text that comes in chunks | [`Encoder::encode_from_utf8`], [`Encoder::encode_from_utf16`] |
 //! | a file or a pipe to read as text | `DecodeReader` of the crate `enc_reader` |
 //! | text to write to a file or a pipe | `EncodeWriter` of the crate `enc_writer` |
+//! | a file or a pipe to recode | `run` of the crate `recode_engine` |
 //!
 //! These are the algorithms that the standard has for other standards (4.2, 4.3 and 6). Calls at
 //! once are methods of [`Encoding`], and so are the constructors of decoders and encoders:

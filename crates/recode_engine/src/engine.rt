@@ -186,8 +186,9 @@ pub fn run_part<R: Source, W: Sink>(
 /// Returns whether a sequence was malformed or a character unmappable.
 ///
 /// Errors: the side that has failed, or the source if both had failed before. The sink has taken a
-/// prefix of the bytes to be written. No side that has failed, before the run or in it, is called.
-/// A source that gives 2^64 - 1 texts, or bytes 2^64 - 1 times without a text, counts as failed.
+/// prefix of the bytes to be written. A side that has failed, before the run or in it, is not
+/// called. A source that gives 2^64 - 1 texts, or bytes 2^64 - 1 times without a text, counts as
+/// failed.
 ///
 /// Never flushes. Takes no memory except three buffers of 64 KiB on the stack.
 pub fn run<R: Source, W: Sink>(

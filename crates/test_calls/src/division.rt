@@ -114,6 +114,71 @@ fn parts_decode_by_themselves(rt: HostRuntime) -> Result<(), Fail> {
     Ok(())
 }
 
+/// A label, two parts of an input, the first of which may have a byte order mark, and their texts.
+type MarkedRow = (
+    Encoding,
+    &'static [u8],
+    &'static [u8],
+    &'static str,
+    &'static str,
+);
+
+const MARKED_ROWS: &[MarkedRow] = &[
+    (
+        WINDOWS_1252,
+        b"\xEF\xBB\xBF\xE3\x81\n",
+        b"\xEF\xBB\xBFa\xC3\xA9",
+        "\u{FFFD}\n",
+        "\u{FEFF}a\u{E9}",
+    ),
+    (
+        WINDOWS_1252,
+        b"\xEF\xBB\n",
+        b"\xBF",
+        "\u{EF}\u{BB}\n",
+        "\u{BF}",
+    ),
+    (
+        UTF_8,
+        b"\xEF\xBB\xBF\n",
+        b"\xFF\xFEa",
+        "\n",
+        "\u{FFFD}\u{FFFD}a",
+    ),
+    (
+        SHIFT_JIS,
+        b"\x82\xA0\n",
+        b"\xFE\xFF",
+        "\u{3042}\n",
+        "\u{FFFD}\u{FFFD}",
+    ),
+];
+
+fn decode_marked_row(alloc: Global, row: &MarkedRow) -> Result<(String, String, String), Fail> {
+    let (label, first, rest, _, _) = *row;
+    let mut bytes: Vec<u8> = Vec::new(alloc);
+    bytes.extend_from_slice(first)?;
+    bytes.extend_from_slice(rest)?;
+    let (whole, encoding, _) = label.decode(alloc, &bytes)?;
+    let (removed, _) = encoding.decode_with_bom_removal(alloc, first)?;
+    let (after, _) = encoding.decode_without_bom_handling(alloc, rest)?;
+    Ok((whole, removed, after))
+}
+
+#[test]
+fn a_mark_of_the_first_part_is_that_of_all(rt: HostRuntime) -> Result<(), Fail> {
+    for row in MARKED_ROWS {
+        let (whole, first, after) = decode_marked_row(rt.alloc(), row)?;
+        let (label, _, _, want_first, want_after) = row;
+        assert!(rt; &first[..] == *want_first, "{label:?}");
+        assert!(rt; &after[..] == *want_after, "{label:?}");
+        let mut joined: String = first;
+        joined.push_str(&after)?;
+        assert!(rt; whole == joined, "{label:?}");
+    }
+    Ok(())
+}
+
 #[test]
 fn parts_in_iso_2022_jp_end_in_ascii(rt: HostRuntime) -> Result<(), Fail> {
     let (whole, _, _) = ISO_2022_JP.encode(rt.alloc(), "\u{A5}\na")?;
