@@ -1,9 +1,11 @@
--- The laws of every encoding's rule: short texts, and a bounded lookahead.
-use Rattle.std.specs.Prelude.{◌≡◌, ℕ, ◌+◌, ◌<◌, ◌≤◌, ◌⊎◌, List, [], ◌++◌, length, take}
+-- The laws of every encoding's rule: a bounded lookahead, short texts, and U+FFFD for what is
+-- malformed.
+use Rattle.std.specs.Prelude.{◌≡◌, ℕ, ◌+◌, ◌<◌, ◌≤◌, ◌⊎◌, true, List, [], ◌∷◌, ◌++◌, length, take}
 use Rattle.std.specs.Char.{encode_utf8}
 use Rattle.std.specs.Char.Escape.{encode_utf16}
 use Rattle.enc_units.specs.Output.{units_of_text}
 use Rattle.enc_decoder.specs.declared.byte_codec.Kind.TheVariants.{Valid}
+use Rattle.enc_decoder.specs.Sequence.{is_malformed}
 use Rattle.enc_decoder.specs.Segmentation.{Rule}
 use Rattle.enc_decoder.specs.Remainder.{AreBytes}
 
@@ -19,6 +21,11 @@ pub record IsSmallText (text : List ℕ) : Type 0 where
 -- Each sequence has such a text.
 abbrev pub HasSmallTexts : Rule → Type 0
 HasSmallTexts rule = (set b : ℕ) (z : List ℕ) → IsSmallText (rule set b z).text
+
+-- The text of each malformed sequence is U+FFFD.
+abbrev pub ReplacesMalformed : Rule → Type 0
+ReplacesMalformed rule = (set b : ℕ) (z : List ℕ) → is_malformed (rule set b z).kind ≡ true
+    → (rule set b z).text ≡ 0xFFFD ∷ []
 
 -- The first sequence is determined by its own bytes and the next n: it is the same whatever follows
 -- those.
@@ -58,3 +65,4 @@ pub record HasLookahead (rule : Rule) : Type 0 where
 pub record IsLawfulRule (rule : Rule) : Type 0 where
   pub lookahead : HasLookahead rule
   pub small_texts : HasSmallTexts rule
+  pub replacements : ReplacesMalformed rule

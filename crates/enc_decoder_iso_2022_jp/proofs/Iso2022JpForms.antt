@@ -2,11 +2,13 @@
 -- It has a small text.
 use Rattle.std.proofs.Common.{◌≡◌, ℕ, ◌<◌, Bool, true, false, eqb, Option, Some, None, List, [], ◌∷◌, length, take}
 use Rattle.std.proofs.Common.{refl, ◌∙◌, arith, ◌⊎◌, inl, inr}
+use Rattle.std.proofs.lemmas.Bool.{false≢true}
 use Rattle.std.proofs.lemmas.Bool.Decides.{nat_tests}
 use Rattle.std.specs.Option.{is_some}
 use Rattle.enc_decoder_iso_2022_jp.specs.declared.character_set.CharacterSet.{CharacterSet}
 use Rattle.enc_decoder_iso_2022_jp.specs.declared.character_set.CharacterSet.TheVariants.{Ascii, Roman, Katakana}
 use Rattle.enc_decoder_iso_2022_jp.specs.declared.character_set.CharacterSet.TheVariants.{Jis0208}
+use Rattle.enc_decoder.specs.Sequence.{is_malformed}
 use Rattle.enc_decoder.specs.Segmentation.{Head, one_byte_head, malformed_head}
 use Rattle.enc_decoder.specs.RuleLaws.{IsSmallText}
 use Rattle.enc_decoder.specs.Need.{IsBmpText}
@@ -74,26 +76,44 @@ module _ {set : ℕ} {Holds : ℕ → List ℕ → Head → Type 0} (each : Hold
     ]
   ]
 
--- The first sequence has a small text. The text of one byte is of the Basic Multilingual Plane.
+-- The first sequence has a small text, U+FFFD if it is malformed. The text of one byte is of the
+-- Basic Multilingual Plane.
 
 pub record HasForm (z : List ℕ) (h : Head) : Type 0 where
   pub small : IsSmallText h.text
+  pub replacement : is_malformed h.kind ≡ true → h.text ≡ 0xFFFD ∷ []
   pub basic : length (take h.more z) ≡ 0 → IsBmpText h.text
 
 malformed_form : (set more : ℕ) (z : List ℕ) → HasForm z (malformed_head set more)
 malformed_form set more z =
-    record { small = one_small 0xFFFD; basic = λ _. basic_by 0xFFFD (omega arith) }
+    record {
+      small = one_small 0xFFFD;
+      replacement = λ _. refl;
+      basic = λ _. basic_by 0xFFFD (omega arith);
+    }
 
 escape_form : (set : ℕ) (s : CharacterSet) (another : Bool) (z : List ℕ)
     → HasForm z (escape_head set (Some s) another)
 escape_form set s true z =
-    record { small = one_small 0xFFFD; basic = λ _. basic_by 0xFFFD (omega arith) }
-escape_form set s false z = record { small = none_small; basic = λ _. none_basic }
+    record {
+      small = one_small 0xFFFD;
+      replacement = λ _. refl;
+      basic = λ _. basic_by 0xFFFD (omega arith);
+    }
+escape_form set s false z = record {
+  small = none_small;
+  replacement = λ skipped. absurd (false≢true skipped);
+  basic = λ _. none_basic;
+}
 
 pair_form : (set c : ℕ) (z : List ℕ) (found : Option ℕ) → HasForm (c ∷ z) (two_byte_head set found)
 pair_form set c z None = malformed_form set 1 (c ∷ z)
 pair_form set c z (Some d) =
-    record { small = one_small d; basic = λ none. absurd (omega arith) }
+    record {
+      small = one_small d;
+      replacement = λ valid. absurd (false≢true valid);
+      basic = λ none. absurd (omega arith);
+    }
 
 alone_is_basic : (s : CharacterSet) (b c : ℕ) → one_byte_char s b ≡ Some c → c < 0x1_0000
 unfolding one_byte_char
@@ -107,6 +127,7 @@ alone_form : (set b : ℕ) (z : List ℕ) (found : Option ℕ) → one_byte_char
 alone_form set b z None is_char = malformed_form set 0 z
 alone_form set b z (Some c) is_char = record {
   small = one_small c;
+  replacement = λ valid. absurd (false≢true valid);
   basic = λ _. basic_by c (alone_is_basic (set_of set) b c is_char);
 }
 

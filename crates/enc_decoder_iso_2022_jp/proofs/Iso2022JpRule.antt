@@ -205,6 +205,7 @@ pub iso_2022_jp_is_lawful : IsLawfulRule jp_rule
 iso_2022_jp_is_lawful = record {
   lookahead = lookahead_by jp_rule determined;
   small_texts = λ set b z. (has_form set b z).small;
+  replacements = λ set b z. (has_form set b z).replacement;
 }
 
 -- an ASCII byte is a character by itself at the start

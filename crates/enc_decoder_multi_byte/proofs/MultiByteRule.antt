@@ -1,7 +1,8 @@
 -- Legacy multi-byte encodings: the laws of their rules, and that incomplete bytes determine
 -- nothing.
 use Rattle.std.proofs.Common.{◌≡◌, ℕ, ◌+◌, ◌-◌, ◌<◌, zero, suc, List, [], ◌∷◌, ◌++◌, length, take, refl, ap, ◌∙◌}
-use Rattle.std.proofs.Common.{sym, arith, subst, append-nil, append_assoc, inl, inr}
+use Rattle.std.proofs.Common.{true, sym, arith, subst, append-nil, append_assoc, inl, inr}
+use Rattle.std.proofs.lemmas.Bool.{false≢true}
 use Rattle.std.proofs.lemmas.List.{length-append, take_at}
 use Rattle.enc_decoder.specs.declared.byte_codec.Kind.{Kind}
 use Rattle.enc_decoder.specs.declared.byte_codec.Kind.TheVariants as kinds
@@ -9,13 +10,14 @@ use Rattle.enc_decoder.specs.declared.byte_codec.Text.{Text}
 use Rattle.enc_decoder.specs.declared.byte_codec.Text.TheVariants.{One}
 use Rattle.enc_decoder_multi_byte.specs.declared.multi_byte.Prefix.{Prefix}
 use Rattle.enc_decoder_multi_byte.specs.declared.multi_byte.Prefix.TheVariants.{Complete, Malformed, Incomplete}
+use Rattle.enc_decoder.specs.Sequence.{is_malformed}
 use Rattle.enc_decoder.specs.Segmentation.{Head}
 use Rattle.enc_decoder.specs.Remainder.{IsUndetermined}
 use Rattle.enc_decoder.specs.CodecState.{remainder_of}
 use Rattle.enc_decoder.specs.CodecLaw.{text_chars}
 use Rattle.enc_decoder.specs.Latin1.{HasNoByteSequences}
 use Rattle.enc_decoder.specs.RuleLaws.{HasTexts, IsSmallText, IsDeterminedWithin, IsLookahead}
-use Rattle.enc_decoder.specs.RuleLaws.{IsDeterminedByEnd, IsLawfulRule}
+use Rattle.enc_decoder.specs.RuleLaws.{IsDeterminedByEnd, ReplacesMalformed, IsLawfulRule}
 use Rattle.enc_decoder_multi_byte.specs.DoubleByte.{IsPairText}
 use Rattle.enc_decoder_multi_byte.specs.MultiByte.{prefix_head, multi_byte_rule}
 use Rattle.enc_decoder_multi_byte.specs.MultiByte.{multi_byte_state, AreIncomplete, ArePrefixes}
@@ -44,6 +46,21 @@ module _ (prefix : List ℕ → Prefix) (laws : ArePrefixes prefix) where
   first_has_form : (set b : ℕ) (z : List ℕ) → HasForm (multi_byte_rule prefix set b z)
   unfolding multi_byte_rule
   first_has_form set b z = has_form set (b ∷ []) _ z refl
+
+  -- and a malformed one U+FFFD
+
+  replaced_head : (set : ℕ) (front : List ℕ) (r : Prefix) (z : List ℕ)
+      → is_malformed (prefix_head prefix set front r z).kind ≡ true
+      → (prefix_head prefix set front r z).text ≡ 0xFFFD ∷ []
+  replaced_head set front (Complete text) z valid = absurd (false≢true valid)
+  replaced_head set front (Malformed n) z malformed = refl
+  replaced_head set front Incomplete [] malformed = refl
+  replaced_head set front Incomplete (c ∷ z) malformed =
+      replaced_head set (front ++ c ∷ []) _ z malformed
+
+  replaced : ReplacesMalformed (multi_byte_rule prefix)
+  unfolding multi_byte_rule
+  replaced set b z malformed = replaced_head set (b ∷ []) _ z malformed
 
   pub multi_byte_has_texts : HasTexts (multi_byte_rule prefix)
   multi_byte_has_texts set b z no_text =
@@ -163,6 +180,7 @@ module _ (prefix : List ℕ → Prefix) (laws : ArePrefixes prefix) where
         (λ set b z. determined_from set [] (b ∷ z) b z tt refl);
     small_texts = λ set b z. let form = first_has_form set b z in
         subst IsSmallText (sym form.2) form.1.small;
+    replacements = replaced;
   }
 
   pub undetermined : (w : List ℕ) → AreIncomplete prefix [] w

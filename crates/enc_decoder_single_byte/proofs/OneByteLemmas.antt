@@ -1,13 +1,14 @@
 -- Encodings in which each byte stands alone: what a byte shows, and the laws of their rules.
-use Rattle.std.proofs.Common.{◌≡◌, ℕ, ◌<◌, Option, Some, None, List, [], ◌∷◌, drop, refl, ap, ◌∙◌, sym, arith, inl}
-use Rattle.std.proofs.lemmas.Bool.{cond-true, lt-ltb}
+use Rattle.std.proofs.Common.{◌≡◌, ℕ, ◌<◌, true, Option, Some, None, List, [], ◌∷◌, drop, refl, ap, ◌∙◌, sym, arith, inl}
+use Rattle.std.proofs.lemmas.Bool.{false≢true, cond-true, lt-ltb}
+use Rattle.enc_decoder.specs.Sequence.{is_malformed}
 use Rattle.enc_decoder.specs.declared.byte_codec.Kind.TheVariants.{Valid, Malformed}
 use Rattle.enc_decoder.specs.declared.byte_codec.Text.TheVariants.{One}
 use Rattle.enc_decoder.specs.Segmentation.{Head, head_sequence, sequences_of, one_byte_head}
 use Rattle.enc_decoder.specs.CodecState.{CodecState}
 use Rattle.enc_decoder.specs.CodecLaw.{HandlesByte}
 use Rattle.enc_decoder.specs.RuleLaws.{HasTexts, IsSmallText, HasSmallTexts, IsDeterminedWithin}
-use Rattle.enc_decoder.specs.RuleLaws.{IsLawfulRule}
+use Rattle.enc_decoder.specs.RuleLaws.{ReplacesMalformed, IsLawfulRule}
 use Rattle.enc_decoder_single_byte.specs.OneByte.{one_byte_rule, one_byte_step, single_byte_char, x_user_defined_char}
 use Rattle.enc_decoder_single_byte.specs.OneByteState.{one_byte_state}
 use Rattle.enc_decoder.proofs.SegmentationLemmas.{sequences_of-head}
@@ -79,11 +80,21 @@ module _ (character : ℕ → Option ℕ) where
   unfolding one_byte_rule
   has_small_texts set b z = small set (character b)
 
+  replaced : (set : ℕ) (found : Option ℕ) → is_malformed (one_byte_head set found).kind ≡ true
+      → (one_byte_head set found).text ≡ 0xFFFD ∷ []
+  replaced set (Some a) valid = absurd (false≢true valid)
+  replaced set None malformed = refl
+
+  replaces_malformed : ReplacesMalformed (one_byte_rule character)
+  unfolding one_byte_rule
+  replaces_malformed set b z malformed = replaced set (character b) malformed
+
   pub one_byte_is_lawful : IsLawfulRule (one_byte_rule character)
   one_byte_is_lawful = record {
     lookahead = lookahead_by (one_byte_rule character)
         (λ set b z. inl (determined_by_itself set b z));
     small_texts = has_small_texts;
+    replacements = replaces_malformed;
   }
 
 has_text : (set : ℕ) (character : Option ℕ) → (one_byte_head set character).text ≡ [] → ⊥

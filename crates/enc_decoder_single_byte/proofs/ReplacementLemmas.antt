@@ -1,11 +1,12 @@
 -- The replacement encoding: what a byte shows, and the laws of its rule.
 use Rattle.std.proofs.Common.{ℕ, zero, suc, true, false, List, refl, arith, inl}
+use Rattle.std.proofs.lemmas.Bool.{false≢true}
 use Rattle.enc_decoder.specs.declared.byte_codec.Kind.TheVariants.{Skipped, Malformed}
 use Rattle.enc_decoder.specs.declared.byte_codec.Text.TheVariants.{Nothing, One}
 use Rattle.enc_decoder.specs.declared.byte_codec.HandlerResult.TheVariants.{Emit}
 use Rattle.enc_decoder.specs.CodecLaw.{HandlesByte, lone_fault}
 use Rattle.enc_decoder.specs.Latin1.{HasNoByteSequences}
-use Rattle.enc_decoder.specs.RuleLaws.{HasSmallTexts, IsDeterminedWithin, IsLawfulRule}
+use Rattle.enc_decoder.specs.RuleLaws.{HasSmallTexts, ReplacesMalformed, IsDeterminedWithin, IsLawfulRule}
 use Rattle.enc_decoder_single_byte.specs.Replacement.{replacement_rule, replacement_state}
 use Rattle.enc_decoder.proofs.SegmentationLemmas.{sequences_of-cons}
 use Rattle.enc_decoder.proofs.EmissionLemmas.{shows_with}
@@ -40,10 +41,16 @@ unfolding replacement_rule
 has_small_texts zero b z = one_small 0xFFFD
 has_small_texts (suc set) b z = none_small
 
+replaces_malformed : ReplacesMalformed replacement_rule
+unfolding replacement_rule
+replaces_malformed zero b z malformed = refl
+replaces_malformed (suc set) b z skipped = absurd (false≢true skipped)
+
 pub replacement_is_lawful : IsLawfulRule replacement_rule
 replacement_is_lawful = record {
   lookahead = lookahead_by replacement_rule (λ set b z. inl (determined_alone set b z));
   small_texts = has_small_texts;
+  replacements = replaces_malformed;
 }
 
 -- no byte is valid

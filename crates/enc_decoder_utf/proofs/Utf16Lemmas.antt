@@ -1,9 +1,11 @@
 -- The first sequence by UTF-16's rule in each of its forms, and its scalar values. UTF-16 has no
 -- character sets: `set` is handed on.
-use Rattle.std.proofs.Common.{◌≡◌, ℕ, ◌<◌, ◌≤◌, Bool, true, false, List, [], ◌∷◌, length, refl, ◌∙◌, arith}
+use Rattle.std.proofs.Common.{◌≡◌, ℕ, ◌<◌, ◌≤◌, Bool, true, false, List, [], ◌∷◌, length, refl, ◌∙◌, sym, arith}
 use Rattle.std.proofs.Common.{inl, inr}
+use Rattle.std.proofs.lemmas.Bool.{false≢true}
 use Rattle.std.proofs.lemmas.Bool.Decides.{nat_tests}
 use Rattle.std.specs.Char.{InScalarRange}
+use Rattle.enc_decoder.specs.Sequence.{is_malformed}
 use Rattle.enc_decoder.specs.Segmentation.{Head, character_head, malformed_head}
 use Rattle.enc_decoder_utf.specs.Utf16.{code_unit, is_lead_surrogate, is_trail_surrogate, pair_scalar}
 use Rattle.enc_decoder_utf.specs.Utf16.{lead_surrogate_head, utf_16_rule}
@@ -122,19 +124,34 @@ module _ {big : Bool} {set : ℕ} {Holds : ℕ → List ℕ → Head → Type 0}
 pub record HasForm (z : List ℕ) (h : Head) : Type 0 where
   pub character : ℕ
   pub text : h.text ≡ character ∷ []
+  pub replacement : is_malformed h.kind ≡ true → character ≡ 0xFFFD
   pub some_more : 0 < length z → 0 < h.more
 
-form_of : (z : List ℕ) (h : Head) {c : ℕ} → h.text ≡ c ∷ [] → (0 < length z → 0 < h.more)
+valid_form : (z : List ℕ) (h : Head) {c : ℕ} → h.text ≡ c ∷ [] → is_malformed h.kind ≡ false
+    → (0 < length z → 0 < h.more) → HasForm z h
+valid_form z h text valid some_more = record {
+  character = _;
+  text = text;
+  replacement = λ malformed. absurd (false≢true (sym valid ∙ malformed));
+  some_more = some_more;
+}
+
+malformed_form : (z : List ℕ) (h : Head) → h.text ≡ 0xFFFD ∷ [] → (0 < length z → 0 < h.more)
     → HasForm z h
-form_of z h text some_more = record { character = _; text = text; some_more = some_more }
+malformed_form z h text some_more = record {
+  character = 0xFFFD;
+  text = text;
+  replacement = λ _. refl;
+  some_more = some_more;
+}
 
 pub has_form : (big : Bool) (set b : ℕ) (z : List ℕ) → HasForm z (utf_16_rule big set b z)
 has_form big set = holds_of_first {Holds = λ _ z h. HasForm z h} (record {
-  one_byte = λ b. form_of [] _ refl (λ some. some);
-  character = λ b c z _ _. form_of (c ∷ z) _ refl (λ _. omega arith);
-  trail = λ b c z _ _. form_of (c ∷ z) _ refl (λ _. omega arith);
-  lead_at_end = λ b c _. form_of (c ∷ []) _ refl (λ _. omega arith);
-  lead_and_byte = λ b c d _. form_of (c ∷ d ∷ []) _ refl (λ _. omega arith);
-  pair = λ b c d e z _ _. form_of (c ∷ d ∷ e ∷ z) _ refl (λ _. omega arith);
-  lead_alone = λ b c d e z _ _. form_of (c ∷ d ∷ e ∷ z) _ refl (λ _. omega arith);
+  one_byte = λ b. malformed_form [] _ refl (λ some. some);
+  character = λ b c z _ _. valid_form (c ∷ z) _ refl refl (λ _. omega arith);
+  trail = λ b c z _ _. malformed_form (c ∷ z) _ refl (λ _. omega arith);
+  lead_at_end = λ b c _. malformed_form (c ∷ []) _ refl (λ _. omega arith);
+  lead_and_byte = λ b c d _. malformed_form (c ∷ d ∷ []) _ refl (λ _. omega arith);
+  pair = λ b c d e z _ _. valid_form (c ∷ d ∷ e ∷ z) _ refl refl (λ _. omega arith);
+  lead_alone = λ b c d e z _ _. malformed_form (c ∷ d ∷ e ∷ z) _ refl (λ _. omega arith);
 })

@@ -2,7 +2,7 @@
 -- trail follows is determined by the next code unit, and the last bytes of a code unit or a pair
 -- that is cut off by the end.
 use Rattle.std.proofs.Common.{◌≡◌, ℕ, ◌<◌, Bool, true, false, cond, List, [], ◌∷◌, refl, ap, sym, arith, subst}
-use Rattle.std.proofs.Common.{◌⊎◌, inl, inr}
+use Rattle.std.proofs.Common.{◌∙◌, ◌⊎◌, inl, inr}
 use Rattle.enc_decoder.specs.declared.byte_codec.Kind.TheVariants.{Valid}
 use Rattle.enc_decoder.specs.Segmentation.{Head, character_head, malformed_head}
 use Rattle.enc_decoder.specs.RuleLaws.{HasTexts, IsSmallText, IsDeterminedWithin, IsLookahead, IsDeterminedByEnd}
@@ -97,6 +97,8 @@ module _ (big : Bool) where
     lookahead = lookahead_by (utf_16_rule big) determined;
     small_texts = λ set b z. let form = has_form big set b z in
         subst IsSmallText (sym form.text) (one_small form.character);
+    replacements = λ set b z malformed. let form = has_form big set b z in
+        form.text ∙ ap (λ c. c ∷ []) (form.replacement malformed);
   }
 
   -- a character has two bytes or four

@@ -1,5 +1,7 @@
 -- The laws of UTF-8's rule. The text of each sequence is one character.
-use Rattle.std.proofs.Common.{◌≡◌, ℕ, List, [], ◌∷◌, refl, subst, sym}
+use Rattle.std.proofs.Common.{◌≡◌, ℕ, true, List, [], ◌∷◌, refl, subst, sym}
+use Rattle.std.proofs.lemmas.Bool.{false≢true}
+use Rattle.enc_decoder.specs.Sequence.{is_malformed}
 use Rattle.enc_decoder_utf.specs.Utf8.{sequence_len, utf_8_rule}
 use Rattle.enc_decoder.specs.RuleLaws.{HasTexts, IsSmallText, IsLawfulRule}
 use Rattle.enc_decoder.specs.Latin1.{HasNoByteSequences}
@@ -20,6 +22,9 @@ utf_8_is_lawful = record {
   lookahead = utf_8_has_lookahead;
   small_texts = λ set b z. let has_text = one_character set b z in
       subst IsSmallText (sym has_text.1) (one_small has_text.0);
+  replacements = λ set b z.
+      holds_of_first (λ h. is_malformed h.kind ≡ true → h.text ≡ 0xFFFD ∷ []) set b z
+      (λ _ valid. absurd (false≢true valid)) (λ _. refl);
 }
 
 -- an ASCII byte is a character by itself

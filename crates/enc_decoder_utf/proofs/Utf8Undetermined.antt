@@ -6,6 +6,7 @@ use Rattle.enc_decoder.specs.Segmentation.{sequences_of}
 use Rattle.enc_decoder.specs.Remainder.{IsUndetermined}
 use Rattle.enc_decoder.specs.Pending.{bytes_of_pending}
 use Rattle.enc_decoder_utf.specs.Utf8.{sequence_len, is_second_byte, is_continuation, utf_8_rule}
+use Rattle.enc_decoder_utf.specs.Utf8.{is_incomplete_sequence}
 use Rattle.enc_decoder.specs.declared.pending.Pending.{Pending}
 use Rattle.enc_decoder.specs.declared.pending.Pending.TheVariants.{Nothing, One, Two, Three}
 use Rattle.enc_decoder_utf.specs.Utf8State.{is_incomplete, utf_8_state}
@@ -44,3 +45,10 @@ pub undetermined : (z : List ℕ) → AreBegun z
     → IsUndetermined (λ y. sequences_of utf_8_rule 0 (z ++ y))
 undetermined [] begun = nothing_pending (utf_8_state Nothing) refl
 undetermined (a ∷ z) begun = undetermined_by_end utf_8_rule 0 a z (within 0 a) (by_end 0 a z begun)
+
+pub incomplete_begun : (bytes : List ℕ) → is_incomplete_sequence bytes ≡ true → AreBegun bytes
+incomplete_begun [] whole = tt
+incomplete_begun (a ∷ z) incomplete = record {
+  reach = grind (arith, nat_tests);
+  short = grind (arith, nat_tests);
+}

@@ -1,7 +1,8 @@
 -- The rule of UTF-8: well-formed sequences (Unicode Standard 3.9, table 3-7), and malformed ones,
 -- each the maximal subpart of an ill-formed subsequence (D93b; Encoding Standard 8.1.1, "UTF-8
 -- decoder").
-use Rattle.std.specs.Prelude.{ℕ, ◌+◌, ◌-◌, ◌*◌, Bool, ◌&&◌, ◌==◌, nat_lt, nat_le, List, [], ◌∷◌, take, if◌then◌else◌}
+use Rattle.std.specs.Prelude.{ℕ, ◌+◌, ◌-◌, ◌*◌, Bool, false, ◌&&◌, ◌==◌, nat_lt, nat_le, List, [], ◌∷◌, length, take}
+use Rattle.std.specs.Prelude.{if◌then◌else◌}
 use Rattle.std.proofs.Common.{zero, suc}
 use Rattle.enc_decoder.specs.declared.byte_codec.Kind.TheVariants.{Valid, Malformed}
 use Rattle.enc_decoder.specs.Segmentation.{Rule}
@@ -50,6 +51,13 @@ scalar_of (a ∷ b ∷ c ∷ d ∷ z) =
 -- the number of bytes after the first that begin a well-formed sequence with it
 abbrev pub well_formed_tail_len : ℕ → List ℕ → ℕ
 well_formed_tail_len b z = continuing_len b (sequence_len b - 1) z
+
+-- The bytes begin a well-formed sequence and are not all of it: a maximal subpart that more bytes may
+-- complete.
+abbrev pub is_incomplete_sequence : List ℕ → Bool
+is_incomplete_sequence [] = false
+is_incomplete_sequence (b ∷ z) =
+    (well_formed_tail_len b z == length z) && nat_lt (length z + 1) (sequence_len b)
 
 -- A whole well-formed sequence is valid. Otherwise the longest prefix that begins one is malformed,
 -- and at least one byte.

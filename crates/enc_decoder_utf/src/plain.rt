@@ -1,7 +1,8 @@
-//! A second decoder of UTF-8, for whole inputs and without a state, by the definition. Tests
-//! compare the streaming decoder with it.
+//! UTF-8 by the definition, for bytes at hand and without a state: whether they are an incomplete
+//! sequence, and a second decoder, of whole inputs. Tests compare the streaming decoder with it.
 //!
-//! It is slow: at each sequence it looks at the bytes that follow, and it keeps nothing in between.
+//! That decoder is slow: at each sequence it looks at the bytes that follow, and it keeps nothing in
+//! between.
 
 ghost use Rattle.std.specs.Prelude.{◌≡◌, ◌+◌, ◌<◌, ◌≤◌, [], ◌∷◌, ◌++◌, length, take, drop};
 ghost use Rattle.std.specs.Prelude.{slice_index, IfOk, OnOk};
@@ -12,6 +13,7 @@ ghost use Rattle.enc_decoder.specs.Sequence.{any_malformed};
 ghost use Rattle.enc_decoder.specs.Segmentation.{sequences_of};
 ghost use Rattle.enc_decoder_utf.specs.Utf8.{continuations as continuations_of};
 ghost use Rattle.enc_decoder_utf.specs.Utf8.{well_formed_tail_len as reach_of};
+ghost use Rattle.enc_decoder_utf.specs.Utf8.{is_incomplete_sequence as incomplete};
 ghost use Rattle.enc_decoder_utf.specs.Utf8.{sequence_len as len_by_lead, scalar_of, utf_8_rule};
 
 use crate::utf_8::{
@@ -74,6 +76,21 @@ fn well_formed_tail_len(lead: u8, after: &[u8]) -> u8
             1 + continuations(len - 2, rest)
         }
     }
+}
+
+/// Returns whether the bytes are the start of a well-formed sequence and not all of it (Unicode
+/// Standard 3.9, D93b: a maximal subpart that more bytes may complete).
+///
+/// Then they determine nothing: a character may come of them, or one U+FFFD. It looks at four bytes
+/// at most.
+pub fn is_incomplete_sequence(bytes: &[u8]) -> bool
+    ensures { result ≡ incomplete bytes.now }
+{
+    let Some((lead, after)) = bytes.split_first() else {
+        return false;
+    };
+    let len = well_formed_tail_len(*lead, after);
+    len as usize == after.len() && len + 1 < sequence_len(*lead)
 }
 
 /// Returns the character of a well-formed sequence.
