@@ -1,13 +1,14 @@
 -- What holds of each sequence of a rule.
 use Rattle.std.proofs.Common.{◌≡◌, ℕ, ◌<◌, ◌≤◌, zero, suc, Bool, true, false, cond, nat_lt, List, [], ◌∷◌, ◌++◌, length}
-use Rattle.std.proofs.Common.{refl, ap, sym, arith, subst}
+use Rattle.std.proofs.Common.{refl, ap, ◌∙◌, ◌||◌, sym, arith, subst}
+use Rattle.std.proofs.lemmas.Bool.{false_from_ne_true}
 use Rattle.std.proofs.lemmas.List.{length-append, nil_from_length}
 use Rattle.std.proofs.lemmas.Str.{length-encode, len_utf8_bounds}
 use Rattle.std.specs.Char.{encode_utf8}
 use Rattle.std.specs.Char.Escape.{encode_utf16}
-use Rattle.enc_decoder.specs.Sequence.{Sequence, sequence_text}
+use Rattle.enc_decoder.specs.Sequence.{Sequence, is_malformed, any_malformed, sequence_text}
 use Rattle.enc_decoder.specs.Segmentation.{Rule, head_sequence, sequences_after, sequences_of}
-use Rattle.enc_decoder.specs.RuleLaws.{HasTexts, IsSmallText, HasSmallTexts}
+use Rattle.enc_decoder.specs.RuleLaws.{HasTexts, IsSmallText, HasSmallTexts, ReplacesMalformed}
 
 record IsOfRule (rule : Rule) (s : Sequence) : Type 0 where
   set : ℕ
@@ -65,6 +66,40 @@ pub none_without_text : (rule : Rule) → HasTexts rule
 none_without_text rule has set z [] rest whole is_empty = refl
 none_without_text rule has set z (s ∷ done) rest whole is_empty =
     absurd (no_text rule has s done (is_of_rule rule set z [] s (done ++ rest) whole) is_empty)
+
+no_fault : (rule : Rule) → ReplacesMalformed rule → (s : Sequence) (ss : List Sequence)
+    → IsOfRule rule s → sequence_text (s ∷ ss) ≡ [] → is_malformed s.kind ≡ true → ⊥
+no_fault rule replaces s ss of_rule no_text_first malformed =
+    let is_head = of_rule.is_head in
+    let fffd = replaces of_rule.set of_rule.first of_rule.following
+    (ap (λ (t : Sequence). is_malformed t.kind) (sym is_head) ∙ malformed) in
+    absurd (omega (
+      arith,
+      ap length no_text_first,
+      length-append s.text (sequence_text ss),
+      ap length (ap (λ (t : Sequence). t.text) is_head ∙ fffd),
+    ))
+
+none_malformed_of : (rule : Rule) → ReplacesMalformed rule → (done rest : List Sequence)
+    → AreOfRule rule (done ++ rest) → sequence_text done ≡ [] → any_malformed done ≡ false
+none_malformed_of rule replaces [] rest all no_text = refl
+none_malformed_of rule replaces (s ∷ done) rest all no_text =
+    let no_text_after : sequence_text done ≡ [] = nil_from_length (sequence_text done) (omega (
+      arith,
+      ap length no_text,
+      length-append s.text (sequence_text done),
+    )) in
+    ap (λ m. m || any_malformed done)
+    (false_from_ne_true _ (no_fault rule replaces s done all.0 no_text))
+    ∙ none_malformed_of rule replaces done rest all.1 no_text_after
+
+-- where malformed sequences have a text, none of those done without one is malformed
+pub none_malformed : (rule : Rule) → ReplacesMalformed rule
+    → (set : ℕ) (z : List ℕ) (done rest : List Sequence) → sequences_of rule set z ≡ done ++ rest
+    → sequence_text done ≡ [] → any_malformed done ≡ false
+none_malformed rule replaces set z done rest whole no_text =
+    none_malformed_of rule replaces done rest
+    (subst (AreOfRule rule) whole (rest_of_rule rule set 0 z)) no_text
 
 -- where each has a small text, so has this one
 pub small_text : (rule : Rule) → HasSmallTexts rule

@@ -12,7 +12,9 @@ use Rattle.enc_stream.specs.declared.bom.BomHandling.{BomHandling}
 use Rattle.enc_stream.specs.Encodings.{rule_of}
 use Rattle.enc_stream.specs.Bom.{find_mark, marks_looked_for, sequences_by_mark}
 use Rattle.enc_stream.specs.LifeCycle.{Phase, InFront, Within, Ended, phase_of, mark_bytes, sequences_in}
-use Rattle.enc_stream.specs.Decoding.{DecoderState, has_finished, whole_sequences}
+use Rattle.enc_decoder.specs.Remainder.{IsUndetermined}
+use Rattle.enc_stream.specs.Decoding.{DecoderState, has_finished, remaining_sequences, whole_sequences}
+use Rattle.enc_stream.proofs.RemainingRuleLemmas.{by_rule, none_without_bytes}
 use Rattle.enc_stream.specs.Faults.{faults_from, whole_faults, whole_start}
 use Rattle.enc_stream.proofs.FoundMarkLemmas.{found_is}
 use Rattle.enc_stream.proofs.WholeInputLemmas.{joined, joined_by}
@@ -49,6 +51,24 @@ owed_bytes s z = omega (
   length-append s.decoder.pending (s.unread ++ z),
   length-append s.unread z,
 )
+
+-- A decoder without pending bytes has no sequence to put out.
+pub nothing_remains : (d : DecoderState) → d.pending ≡ [] → remaining_sequences d [] ≡ []
+nothing_remains d none_pending =
+    let by_its_rule = by_rule (λ _. Unit {0}) tt tt tt d [] tt in
+    none_without_bytes by_its_rule.rule by_its_rule.set by_its_rule.bytes (remaining_sequences d [])
+    [] (sym by_its_rule.same ∙ sym (append-nil (remaining_sequences d [])))
+    (omega (
+      arith,
+      owed_bytes (record { decoder = d; unread = []; ended = false }) [],
+      ap length none_pending,
+    ))
+
+pub nothing_undetermined : (d : DecoderState) → d.pending ≡ []
+    → IsUndetermined (remaining_sequences d)
+nothing_undetermined d none_pending next determined =
+    let first = determined [] tt in
+    let is = sym (nothing_remains d none_pending) ∙ first.1 in cc
 
 -- The faults passed are those of the sequences done.
 module _ {k₀ k₁ : Option (List ℕ)} {old new : ReaderState} {bytes wrote : List ℕ}
@@ -224,6 +244,7 @@ HandsOut-read {replaced = replaced} counted flag exhausted = record {
   reads = counted.read.reads;
   flag = flag;
   exhausted = exhausted;
+  needed = counted.read.needed;
 }
 
 pub HandsOutCounted-read : {start now : ReaderPlace} {n₀ n₁ : ℕ} {wrote : List ℕ}

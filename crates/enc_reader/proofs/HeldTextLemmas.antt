@@ -15,7 +15,7 @@ use Rattle.std.specs.Io.{StartsWith}
 use Rattle.std.specs.Io.KnownBytes.{Consumes, Keeps, IsAtEnd}
 use Rattle.enc_units.specs.Output.{units_of_text}
 use Rattle.enc_decoder.specs.Sequence.{Sequence, sequence_text}
-use Rattle.enc_decoder.proofs.SequenceLemmas.{units-append}
+use Rattle.enc_decoder.proofs.SequenceLemmas.{units-append, or_false, or_assoc}
 use Rattle.enc_reader.specs.declared.decode_reader.ReadFault.{ReadFault}
 use Rattle.enc_reader.specs.declared.decode_reader.ReadFault.TheVariants as fault
 use Rattle.enc_reader.specs.Source.{IsExhausted}
@@ -62,9 +62,9 @@ pub by_fault : {T : Type 0} {P : Type 0} (r : Result T ReadFault) (e : ReadFault
 by_fault r fault.Reader is reader failed = reader is
 by_fault r fault.Failed is reader failed = failed is
 
--- a reader, and the text that is held for it
-abbrev pub holding : ReaderState → List ℕ → TextState
-holding reader held = record { reader = reader; held = held }
+-- a reader, the text that is held for it, and whether it had errors
+abbrev pub holding : ReaderState → List ℕ → Bool → TextState
+holding reader held had = record { reader = reader; held = held; had_errors = had }
 
 pub TakesText-none : (source : Option (List ℕ)) (s : TextState) → TakesText source source s s []
 TakesText-none source s = record {
@@ -73,6 +73,7 @@ TakesText-none source s = record {
   malformed = false;
   reads = ReadsOwed-none source s.reader;
   held = append-nil s.held;
+  flag = sym (or_false s.had_errors);
 }
 
 pub TakesText-then : {t₀ t₁ t₂ : Option (List ℕ)} {a b c : TextState} {v w : List ℕ}
@@ -89,54 +90,61 @@ TakesText-then {t₀ = t₀} {t₁ = t₁} {t₂ = t₂} {a = a} {b = b} {c = c}
           ∙ append_assoc v b.held others.text
           ∙ ap (λ l. v ++ l) others.held
           ∙ sym (append_assoc v w c.held);
+      flag = others.flag ∙ ap (λ m. m || others.malformed) first.flag
+          ∙ or_assoc a.had_errors first.malformed others.malformed;
     }
 
 -- the first bytes that are held
-pub TakesText-held : (source : Option (List ℕ)) (s : ReaderState) (held : List ℕ) (n : ℕ)
-    → TakesText source source (holding s held) (holding s (drop n held)) (take n held)
-TakesText-held source s held n = record {
+pub TakesText-held : (source : Option (List ℕ)) (s : ReaderState) (held : List ℕ) (had : Bool)
+    (n : ℕ)
+    → TakesText source source (holding s held had) (holding s (drop n held) had) (take n held)
+TakesText-held source s held had n = record {
   bytes = [];
   text = [];
   malformed = false;
   reads = ReadsOwed-none source s;
   held = append-nil held ∙ sym (take-append-drop n held);
+  flag = sym (or_false had);
 }
 
 -- nothing is held, and nothing is read
-pub TakesText-same : (source : Option (List ℕ)) (s : ReaderState) (held : List ℕ) → held ≡ []
-    → TakesText source source (holding s held) (holding s []) []
-TakesText-same source s held none = record {
+pub TakesText-same : (source : Option (List ℕ)) (s : ReaderState) (held : List ℕ) (had : Bool)
+    → held ≡ [] → TakesText source source (holding s held had) (holding s [] had) []
+TakesText-same source s held had none = record {
   bytes = [];
   text = [];
   malformed = false;
   reads = ReadsOwed-none source s;
   held = append-nil held ∙ none;
+  flag = sym (or_false had);
 }
 
 -- The text of a read is held, where none was held before.
 pub TakesText-handed : {t₀ t₁ : Option (List ℕ)} {a b : ReaderState} {text : List ℕ}
     {had_before had_after : Bool} (held : List ℕ) → held ≡ []
     → HandsOut t₀ t₁ a b text had_before had_after
-    → TakesText t₀ t₁ (holding a held) (holding b text) []
+    → TakesText t₀ t₁ (holding a held had_before) (holding b text had_after) []
 TakesText-handed {text = text} held none hands_out = record {
   bytes = hands_out.bytes;
   text = text;
   malformed = hands_out.malformed;
   reads = hands_out.reads;
   held = ap (λ l. l ++ text) none;
+  flag = hands_out.flag;
 }
 
 -- a read that fails, where none was held before
 pub TakesText-fails : {t₀ t₁ : Option (List ℕ)} {failed_before failed_after : Bool}
-    {a b : ReaderState} (held : List ℕ) → held ≡ []
-    → FailsToRead t₀ t₁ failed_before failed_after a b
-    → TakesText t₀ t₁ (holding a held) (holding b []) []
-TakesText-fails held none fails = record {
+    {a b : ReaderState} {had_before had_after : Bool} (held : List ℕ) → held ≡ []
+    → FailsToRead t₀ t₁ failed_before failed_after a b → had_after ≡ had_before
+    → TakesText t₀ t₁ (holding a held had_before) (holding b [] had_after) []
+TakesText-fails {had_before = had_before} held none fails same = record {
   bytes = fails.bytes;
   text = [];
-  malformed = fails.malformed;
+  malformed = false;
   reads = fails.reads;
   held = append-nil held ∙ none;
+  flag = same ∙ sym (or_false had_before);
 }
 
 -- Where the source models its bytes, the text to come loses what is taken.
@@ -206,10 +214,10 @@ known_none (Some xs) (Some z) s shown keeps is_held at_end_if = λ none.
 -- the state after text is taken, by the reader and the text that is held
 pub state_moved : {T : Type 0} {S : _} (mid new : DecodedText T S) {h : List ℕ}
     → new.reader ≡ mid.reader → (text_state_of new).held ≡ h
-    → holding (state_of mid.reader) h ≡ text_state_of new
+    → holding (state_of mid.reader) h mid.reader.had_errors ≡ text_state_of new
 state_moved mid new {h = h} same_reader held =
-    ap (holding (state_of mid.reader)) (sym held)
-    ∙ ap (λ r. holding (state_of r) (text_state_of new).held) (sym same_reader)
+    ap (λ l. holding (state_of mid.reader) l mid.reader.had_errors) (sym held)
+    ∙ ap (λ r. holding (state_of r) (text_state_of new).held r.had_errors) (sym same_reader)
 
 pub subst_both : {X Y : Type 0} (P : X → Y → Type 0) {x₀ x₁ : X} {y₀ y₁ : Y} → x₀ ≡ x₁ → y₀ ≡ y₁
     → P x₀ y₀ → P x₁ y₁

@@ -1,5 +1,5 @@
 -- Text that is handed out where it was read, and a read after a chunk was pulled.
-use Rattle.std.proofs.Common.{◌≡◌, ℕ, ◌+◌, ◌-◌, ◌^◌, ◌≤◌, min, inl, inr, Bool, true, false, List, [], ◌++◌}
+use Rattle.std.proofs.Common.{◌≡◌, ℕ, ◌+◌, ◌-◌, ◌^◌, ◌≤◌, min, inl, inr, Bool, true, false, List, [], ◌∷◌, ◌++◌}
 use Rattle.std.proofs.Common.{length, take, drop, Option, refl, ap, ◌∙◌, sym, subst, arith, append_assoc}
 use Rattle.std.proofs.Common.{length-append}
 use Rattle.std.proofs.Math.ListN.{length-drop}
@@ -8,7 +8,11 @@ use Rattle.std.proofs.lemmas.Str.{chars_from_encodes, scalars-chars}
 use Rattle.std.specs.Char.{encode_utf8}
 use Rattle.enc_units.specs.Output.{AreScalars, units_of_text}
 use Rattle.enc_units.proofs.Utf8CharsLemmas.{their_units}
+use Rattle.enc_decoder.specs.Remainder.{AreDetermined}
 use Rattle.enc_decoder.specs.Segmentation.{sequences_of}
+use Rattle.enc_decoder_utf.specs.Utf8.{utf_8_rule, is_incomplete_sequence}
+use Rattle.enc_decoder_utf.proofs.Utf8Undetermined.{undetermined, incomplete_begun}
+use Rattle.enc_stream.specs.declared.constants.TheConstants.{UTF_8}
 use Rattle.enc_decoder.proofs.SequenceLemmas.{or_false}
 use Rattle.enc_stream.specs.LifeCycle.{phase_of, mark_in, encoding_of_mark_or, sequences_in}
 use Rattle.enc_stream.specs.Encodings.{rule_of}
@@ -19,6 +23,8 @@ use Rattle.enc_stream.proofs.PropertyLemmas.{shows_ascii_compatible}
 use Rattle.enc_stream.proofs.OwnTextLemmas.{HasOwnText, has_own_text, own, own_first, own_text, own_utf_8, own_valid}
 use Rattle.enc_reader.specs.Source.{IsExhausted}
 use Rattle.enc_reader.specs.Reading.{ReaderState, ReadsOwed, HandsOut, FailsToRead, owed_sequences}
+use Rattle.enc_reader.specs.Reading.{NoneDetermined, NoTextDetermined}
+use Rattle.enc_reader.proofs.NextSequenceLemmas.{none_determined_is_no_text}
 use Rattle.enc_reader.specs.Turn.{AreOwnBytes, FillsBuffer, IsOwnText}
 use Rattle.enc_reader.specs.Counting.{HasGiven, CountsBytes, FillsCounted, HandsOutCounted}
 use Rattle.enc_reader.proofs.SourceLemmas.{ConsumesRemaining-none}
@@ -45,6 +51,21 @@ module _ (d : DecoderState) (may_be_latin1 : DecoderMayBeLatin1 d) where
 
   unfinished : has_finished d ≡ false
   unfinished = ap has_ended may_be_latin1.converting
+
+-- Unread bytes that are an incomplete sequence of UTF-8 determine nothing.
+pub incomplete_determines_none : (s : ReaderState) → DecoderMayBeLatin1 s.decoder
+    → s.decoder.encoding ≡ UTF_8 → is_incomplete_sequence s.unread ≡ true → s.ended ≡ false
+    → NoneDetermined s
+incomplete_determines_none s between is_utf_8 incomplete not_ended next determined =
+    let by_rule : (y : List ℕ) → remaining_sequences s.decoder y ≡ sequences_of utf_8_rule 0 y =
+    λ y. between_sequences s.decoder between y
+    ∙ ap (λ e. sequences_of (rule_of e) 0 y) is_utf_8 in
+    let from_unread = subst
+    (λ l. AreDetermined l (remaining_sequences s.decoder) s.unread (next ∷ [])) not_ended
+    determined in
+    undetermined s.unread (incomplete_begun s.unread incomplete) next
+    (λ z bytes. let first = from_unread z bytes in
+    (first.0, sym (by_rule (s.unread ++ z)) ∙ first.1))
 
 -- the part of a chunk that is lent
 module _ (d : DecoderState) (src : List ℕ) (ended : Bool) (n : ℕ) (within : n ≤ length src)
@@ -126,19 +147,21 @@ HandsOut-chunk source d filled at n xs ended had within_filled w within o none =
       reads = ReadsOwed-lent d src ended n few o source;
       flag = sym (or_false had);
       exhausted = none;
+      needed = inl refl;
     })
 
 -- a chunk that can't be pulled
 pub FailsToRead-pull : {t₀ t₁ : Option (List ℕ)} {failed_before failed_after : Bool}
     {a b : ReaderState}
     → t₁ ≡ t₀ → failed_after ≡ true → b ≡ a
-    → a.ended ≡ false → failed_before ≡ false → FailsToRead t₀ t₁ failed_before failed_after a b
-FailsToRead-pull {t₀ = t₀} {a = a} same failed stays unended going =
+    → a.ended ≡ false → failed_before ≡ false → NoneDetermined a
+    → FailsToRead t₀ t₁ failed_before failed_after a b
+FailsToRead-pull {t₀ = t₀} {a = a} same failed stays unended going none =
     rw (same, stays)
     (record {
       bytes = [];
-      malformed = false;
       reads = ReadsOwed-none t₀ a;
+      none_determined = none;
       not_ended = unended;
       not_before = going;
       why = inl failed;
@@ -157,6 +180,13 @@ module _ {t₀ t₁ t₂ : Option (List ℕ)} {a b c : ReaderState} (fills_buffe
           fills_buffer.reads hands_out.reads;
       flag = hands_out.flag;
       exhausted = hands_out.exhausted;
+      needed = elim fills_buffer.needed [
+        | inl none ↦ elim hands_out.needed [
+          | inl none_given ↦ inl (ap (λ x. x ++ hands_out.bytes) none.0 ∙ none_given)
+          | inr no_text ↦ inr (subst NoTextDetermined none.1 no_text)
+        ]
+        | inr none ↦ inr (none_determined_is_no_text a none)
+      ];
     }
 
     pub FailsToRead-filled : {failed_before failed_between failed_after : Bool}
@@ -165,9 +195,9 @@ module _ {t₀ t₁ t₂ : Option (List ℕ)} {a b c : ReaderState} (fills_buffe
         → FailsToRead t₀ t₂ failed_before failed_after a c
     FailsToRead-filled e fails = record {
       bytes = fills_buffer.bytes ++ fails.bytes;
-      malformed = fails.malformed;
       reads = ReadsOwed-then (reader_at t₀ a) (reader_at t₁ b) (reader_at t₂ c)
           fills_buffer.reads fails.reads;
+      none_determined = fails.none_determined;
       not_ended = fails.not_ended;
       not_before = sym e ∙ fails.not_before;
       why = elim fails.why [

@@ -1,4 +1,5 @@
 pub mod SourceLemmas
+pub mod NextSequenceLemmas
 pub mod ReadingLemmas
 pub mod CountingLemmas
 pub mod TurnLemmas

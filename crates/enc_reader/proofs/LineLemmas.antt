@@ -44,19 +44,19 @@ AppendsLine-end line takes at_end = record {
 
 -- the first bytes of the text that is held, up to and with the first line feed, or all
 pub AppendsLine-held : {t₀ t₁ : Option (List ℕ)} {a : TextState} {s : ReaderState}
-    (held : List ℕ) {line_before line_after : List ℕ} (len : ℕ) (is_whole : Bool)
-    → TakesText t₀ t₁ a (holding s held) [] → 0 < len → len ≤ length held
+    (held : List ℕ) {had : Bool} {line_before line_after : List ℕ} (len : ℕ) (is_whole : Bool)
+    → TakesText t₀ t₁ a (holding s held had) [] → 0 < len → len ≤ length held
     → All (λ b. b ≢ 10) (take (len - 1) held) → is_whole ≡ (get_or held (len - 1) 0 == 10)
     → line_after ≡ line_before ++ take len held
-    → AppendsLine t₀ t₁ a (holding s (drop len held)) line_before line_after is_whole
-AppendsLine-held {t₁ = t₁} {s = s} held len is_whole filled some within before is appended =
+    → AppendsLine t₀ t₁ a (holding s (drop len held) had) line_before line_after is_whole
+AppendsLine-held {t₁ = t₁} {s = s} held {had = had} len is_whole filled some within before is appended =
     let last : len - 1 < length held = omega (arith, some, within) in
     let all : len - 1 + 1 ≡ len = omega (arith, some) in
     let long = length-take-le len held within in
     record {
       wrote = take len held;
       appended = appended;
-      takes = TakesText-then filled (TakesText-held t₁ s held len);
+      takes = TakesText-then filled (TakesText-held t₁ s held had len);
       stops = StopsAt-take held 10 len within before;
       part = λ no. subst (λ k. All is_no_feed (take k held)) all
           (All-more is_no_feed held (len - 1) 0 last before
@@ -131,11 +131,13 @@ AppendsText-known {t₀ = t₀} {t₁ = t₁} {a = a} {b = b} {l₀ = l₀} {l�
 
 -- a source that fails after parts without a line feed
 module _ {t₀ t₁ t₂ : Option (List ℕ)} {failed_before failed_between failed_after : Bool} where
-  pub SourceFails-after : {a b : TextState} {c : ReaderState} {l₀ l₁ : List ℕ}
+  pub SourceFails-after : {a b c : TextState} {l₀ l₁ : List ℕ}
       → AppendsLine t₀ t₁ a b l₀ l₁ false → failed_between ≡ failed_before
-      → FailsToRead t₁ t₂ failed_between failed_after b.reader c
-      → SourceFails t₀ t₂ failed_before failed_after
-  SourceFails-after so_far kept fails = record {
+      → FailsToRead t₁ t₂ failed_between failed_after b.reader c.reader → c.held ≡ []
+      → SourceFails t₀ t₂ failed_before failed_after c
+  SourceFails-after so_far kept fails none_held = record {
+    none_held = none_held;
+    none_determined = fails.none_determined;
     bytes = so_far.takes.bytes ++ fails.bytes;
     given = ConsumesRemaining-then t₀ t₁ t₂ so_far.takes.bytes fails.bytes
         so_far.takes.reads.given fails.reads.given;

@@ -1,6 +1,6 @@
 -- Successive reads are one read, and what a read is made of.
-use Rattle.std.proofs.Common.{◌≡◌, ℕ, ◌+◌, ◌-◌, ◌*◌, ◌<◌, ◌≤◌, inl, inr, Bool, true, false, ◌||◌, List, [], ◌++◌}
-use Rattle.std.proofs.Common.{length, take, drop, Option, refl, ap, ◌∙◌, sym, arith, append_assoc, append-nil}
+use Rattle.std.proofs.Common.{◌≡◌, ℕ, ◌+◌, ◌-◌, ◌*◌, ◌^◌, ◌<◌, ◌≤◌, ◌⊎◌, inl, inr, Bool, true, false, ◌||◌, List, []}
+use Rattle.std.proofs.Common.{◌++◌, length, take, drop, Option, refl, ap, ◌∙◌, sym, subst, arith, append_assoc, append-nil}
 use Rattle.std.proofs.Common.{length-append, if◌then◌else◌, IsUtf8, nat_eq}
 use Rattle.std.proofs.Math.ListN.{length-drop}
 use Rattle.std.proofs.Math.Seq.{take-add}
@@ -14,10 +14,12 @@ use Rattle.enc_decoder.specs.Sequence.{sequence_text, any_malformed}
 use Rattle.enc_decoder.proofs.SequenceLemmas.{units-append, any_malformed-append, scalars_of-append}
 use Rattle.enc_stream.specs.Decoding.{DecoderState, has_finished, remaining_sequences}
 use Rattle.enc_reader.specs.Source.{ConsumesRemaining}
-use Rattle.enc_reader.specs.Reading.{ReaderState, ReadsOwed, owed_sequences, owed_encoding}
+use Rattle.enc_reader.specs.Reading.{ReaderState, ReadsOwed, FailsToRead, NoTextDetermined}
+use Rattle.enc_reader.specs.Reading.{owed_sequences, owed_encoding}
 use Rattle.enc_reader.specs.Reading.{distance_to_end}
 use Rattle.enc_reader.specs.Turn.{IsWaiting, PullsChunk, IsTurn}
 use Rattle.enc_reader.proofs.SourceLemmas.{ConsumesRemaining-none, ConsumesRemaining-then}
+use Rattle.enc_reader.proofs.NextSequenceLemmas.{no_text_before, unreplaced, waiting_determines_none}
 
 -- A reader over a source that models these bytes.
 pub record ReaderPlace : Type 0 where
@@ -130,7 +132,8 @@ PullsChunk-after {d = d} {ended = ended} {xs = xs} held n ys not_ended going hel
       );
     }
 
--- A read up to now: the text handed out, and whether it waits, after `pulls` pulls.
+-- A read up to now: the text handed out, and whether it waits, after `pulls` pulls. None was made
+-- while text was determined.
 pub record HasRead (start now : ReaderPlace) (wrote : List ℕ) (replaced waits : Bool)
     (pulls : ℕ) : Type 0 where
   pub bytes : List ℕ
@@ -138,6 +141,7 @@ pub record HasRead (start now : ReaderPlace) (wrote : List ℕ) (replaced waits 
   pub enough : waits ≡ true → pulls ≤ length bytes
   pub waiting : waits ≡ true → IsWaiting now.state
   pub text_or_end : waits ≡ false → wrote ≡ [] → has_finished now.state.decoder ≡ true
+  pub needed : (bytes ≡ []) ⊎ NoTextDetermined start.state
 
 abbrev pub HasRead-turn : {known : Option (List ℕ)} {s₀ s : ReaderState} {wrote : List ℕ}
     {replaced waits : Bool}
@@ -150,6 +154,7 @@ HasRead-turn {known = known} turn =
       enough = λ _. omega arith;
       waiting = turn.waiting;
       text_or_end = turn.text_or_end;
+      needed = inl refl;
     }
 
 -- a chunk more, and a turn
@@ -173,7 +178,26 @@ HasRead-more {start = start} {now = now} {next = next} {pulled = pulled} so_far 
       ];
       waiting = turn.waiting;
       text_or_end = turn.text_or_end;
+      needed = inr (elim so_far.needed [
+        | inl none ↦ no_text_before so_far.reads none (so_far.waiting refl)
+        | inr no_text ↦ no_text
+      ]);
     }
+
+-- a read that fails while it waits
+pub FailsToRead-waiting : {start now : ReaderPlace} {failed_before failed_after : Bool}
+    {r : Bool} {pulls : ℕ} (read : HasRead start now [] r true pulls)
+    → failed_before ≡ false → (failed_after ≡ true) ⊎ (2 ^ 64 - 1 ≤ length read.bytes)
+    → FailsToRead start.remaining now.remaining failed_before failed_after start.state now.state
+FailsToRead-waiting {start = start} {now = now} read going why = record {
+  bytes = read.bytes;
+  reads = subst (ReadsOwed start.remaining now.remaining start.state now.state read.bytes [])
+      (unreplaced read.reads) read.reads;
+  none_determined = waiting_determines_none (read.waiting refl);
+  not_ended = (read.waiting refl).not_ended;
+  not_before = going;
+  why = why;
+}
 
 -- the text handed out is UTF-8
 pub handed_utf_8 : {t₀ t : Option (List ℕ)} {s₀ s : ReaderState} {bytes wrote : List ℕ}

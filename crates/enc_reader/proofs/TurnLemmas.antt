@@ -1,5 +1,5 @@
 -- What a turn of the decoder hands out.
-use Rattle.std.proofs.Common.{◌≡◌, ℕ, ◌+◌, ◌-◌, ◌*◌, ◌^◌, ◌<◌, ◌≤◌, min, inl, inr, Bool, true, false, List, []}
+use Rattle.std.proofs.Common.{◌≡◌, ℕ, ◌+◌, ◌-◌, ◌*◌, ◌^◌, ◌<◌, ◌≤◌, min, inl, inr, Bool, true, false, List, [], ◌∷◌}
 use Rattle.std.proofs.Common.{length, take, drop, Option, None, refl, ap, ◌∙◌, sym, subst, arith}
 use Rattle.std.proofs.Common.{◌&&◌, not, nat_eq, drop-drop}
 use Rattle.std.proofs.Math.ListN.{length-drop}
@@ -17,18 +17,20 @@ use Rattle.enc_units.specs.declared.coder_result.CoderResult.TheVariants as resu
 use Rattle.enc_units.specs.declared.decoder_result.DecoderResult.{DecoderResult}
 use Rattle.enc_units.specs.declared.decoder_result.DecoderResult.TheVariants.{InputEmpty, OutputFull, Malformed}
 use Rattle.enc_units.specs.Results.{decoder_result_of}
-use Rattle.enc_stream.specs.Decoding.{DecoderState, has_finished, DecodesChunk, replacing_call}
+use Rattle.enc_stream.specs.Decoding.{DecoderState, has_finished, DecodesChunk, replacing_call, remaining_sequences}
+use Rattle.enc_decoder.specs.Remainder.{AreDetermined, IsUndetermined}
 use Rattle.enc_stream.proofs.WholeEncodingLemmas.{still_ahead}
 use Rattle.enc_stream.proofs.DecoderProgressLemmas.{nearer, ends_read}
 use Rattle.enc_stream.proofs.DecoderCallLemmas.{bytes_done, only_put}
 use Rattle.enc_stream.proofs.EndOfInputLemmas.{finishes}
 use Rattle.enc_stream.proofs.OutputFullLemmas.{four_bytes, some_written}
-use Rattle.enc_reader.specs.Reading.{ReaderState, ReadsOwed}
+use Rattle.enc_reader.specs.Reading.{ReaderState, ReadsOwed, FillsRoom}
 use Rattle.enc_reader.specs.Reading.{distance_to_end}
 use Rattle.enc_reader.specs.Turn.{IsWaiting, IsTurn}
 use Rattle.enc_reader.specs.Counting.{CountsBytes}
 use Rattle.enc_reader.specs.Reporting.{lens_of_result}
 use Rattle.enc_reader.proofs.ReadingLemmas.{ended_at, before_end}
+use Rattle.enc_reader.proofs.NextSequenceLemmas.{call_settles, call_fills_room}
 use Rattle.enc_reader.proofs.SourceLemmas.{ConsumesRemaining-none}
 
 -- What a reader decodes next: its decoder is not finished, a byte is unread or the end is seen, and
@@ -112,6 +114,10 @@ module _ (before : ReaderState) {new : DecoderState} {mode : DecodeErrorMode} {r
         by_result InputEmpty at_empty said = record {
           unread = ap (λ n. drop n before.unread) at_empty.call.stops.all_read
               ∙ drop-length before.unread;
+          undetermined =
+              let not_last = sym (finishes at_empty) ∙ going in
+              call_settles (unread_call before mode room InputEmpty read wrote replaced) at_empty
+              not_last at_empty.call.stops.all_read (can_decode.some not_last);
           not_ended = sym (finishes at_empty) ∙ going;
           going = going;
         }
@@ -154,7 +160,7 @@ module _ (before : ReaderState) {new : DecoderState} {mode : DecodeErrorMode} {r
     })
 
 -- a call with replacement, which reports nothing
-unreported : (result : CoderResult) → lens_of_result (decoder_result_of result) ≡ None
+pub unreported : (result : CoderResult) → lens_of_result (decoder_result_of result) ≡ None
 unreported result.InputEmpty = refl
 unreported result.OutputFull = refl
 
@@ -217,6 +223,52 @@ chunk_can_decode filled at xs {ended = ended} going decoded within tested roomy 
       );
   roomy = roomy;
 }
+
+-- after a call with it, by the places in the buffer
+module _ {d new : DecoderState} {mode : DecodeErrorMode} {room : ℕ} {result : DecoderResult}
+    {read : ℕ} {wrote : List ℕ} {replaced ended : Bool} (filled at : ℕ) (xs : List ℕ)
+    (decodes : DecodesChunk encode_utf8 d new (unread_call (record {
+      decoder = d;
+      unread = take (filled - at) (drop at xs);
+      ended = ended;
+    }) mode room result read wrote replaced))
+    (decoded : at ≤ filled) (within : filled ≤ length xs) where
+  abbrev made : Call
+  made = unread_call (record {
+    decoder = d;
+    unread = take (filled - at) (drop at xs);
+    ended = ended;
+  }) mode room result read wrote replaced
+
+  -- bytes all of which are decoded determine nothing more
+  pub chunk_settles : CanDecode (record {
+    decoder = d;
+    unread = take (filled - at) (drop at xs);
+    ended = ended;
+  }) room → at + read ≡ filled → ended ≡ false → IsUndetermined (remaining_sequences new)
+  chunk_settles can_decode all_read not_ended =
+      call_settles made decodes not_ended
+      (omega (
+        arith,
+        decoded,
+        within,
+        all_read,
+        length-take (filled - at) (drop at xs),
+        length-drop at xs,
+      ))
+      (can_decode.some not_ended)
+
+  pub chunk_fills_room : (n : ℕ) → length wrote ≡ n → lens_of_result result ≡ None
+      → FillsRoom room n (record {
+        decoder = new;
+        unread = take (filled - (at + read)) (drop (at + read) xs);
+        ended = ended;
+      })
+  chunk_fills_room n is_length unreported next determined =
+      subst (λ k. room < k + length (units_of_text encode_utf8 next.text)) is_length
+      (call_fills_room made decodes unreported next
+      (subst (λ x. AreDetermined ended (remaining_sequences new) x (next ∷ []))
+      (sym (left_of filled at read xs decoded decodes.call.within)) determined))
 
 pub some_text : (n : ℕ) (xs : List ℕ) → 0 < n → n ≤ length xs → take n xs ≡ [] → ⊥
 some_text n xs h w e = omega (arith, h, w, ap length e, length-take n xs)

@@ -1,5 +1,5 @@
 -- Text that is taken byte by byte or line by line, from a reader whose text is held in between.
-use Rattle.std.specs.Prelude.{◌≡◌, ◌≢◌, ℕ, ◌-◌, ◌^◌, ◌<◌, ◌≤◌, ◌⊎◌, Bool, true, false, List, [], ◌++◌}
+use Rattle.std.specs.Prelude.{◌≡◌, ◌≢◌, ℕ, ◌-◌, ◌^◌, ◌<◌, ◌≤◌, ◌⊎◌, Bool, true, false, ◌||◌, List, [], ◌++◌}
 use Rattle.std.specs.Prelude.{length, drop, slice_index, All, Option, option_map}
 use Rattle.std.specs.Char.{encode_utf8}
 use Rattle.std.specs.Io.{StopsAt}
@@ -7,19 +7,21 @@ use Rattle.enc_units.specs.Output.{units_of_text}
 use Rattle.enc_decoder.specs.Sequence.{sequence_text}
 use Rattle.enc_reader.specs.declared.decoded_text.DecodedText.{DecodedText}
 use Rattle.enc_reader.specs.Source.{ConsumesRemaining}
-use Rattle.enc_reader.specs.Reading.{ReaderState, ReadsOwed, IsReaderAtEnd, owed_sequences}
+use Rattle.enc_reader.specs.Reading.{ReaderState, ReadsOwed, IsReaderAtEnd, NoneDetermined, owed_sequences}
 use Rattle.enc_reader.specs.Reader.{state_of, handed_text}
 
--- The state between two calls: that of the reader, and the text that the reader has handed out and
--- that is not taken yet.
+-- The state between two calls: that of the reader, the text that the reader has handed out and that
+-- is not taken yet, and whether a sequence handed out was malformed.
 pub record TextState : Type 0 where
   pub reader : ReaderState
   pub held : List ℕ
+  pub had_errors : Bool
 
 abbrev pub text_state_of : {T : Type 0} {S : _} → DecodedText T S → TextState
 text_state_of t = record {
   reader = state_of t.reader;
   held = drop t.at (handed_text t.reader t.text.now t.handed);
+  had_errors = t.reader.had_errors;
 }
 
 -- The text still to be taken, in UTF-8, if the source still gives exactly the bytes z.
@@ -31,7 +33,8 @@ abbrev pub remaining_text : Option (List ℕ) → TextState → Option (List ℕ
 remaining_text remaining s = option_map (owed_text s) remaining
 
 -- The text `wrote` is taken: that which was held, and then that which the reader hands out, except
--- what is held now. Nothing is lost, and nothing comes twice.
+-- what is held now. Nothing is lost, and nothing comes twice. The reader remembers whether a sequence
+-- was malformed.
 pub record TakesText (remaining_before remaining_after : Option (List ℕ)) (old new : TextState)
     (wrote : List ℕ) : Type 0 where
   pub bytes : List ℕ
@@ -39,6 +42,7 @@ pub record TakesText (remaining_before remaining_after : Option (List ℕ)) (old
   pub malformed : Bool
   pub reads : ReadsOwed remaining_before remaining_after old.reader new.reader bytes text malformed
   pub held : old.held ++ text ≡ wrote ++ new.held
+  pub flag : new.had_errors ≡ (old.had_errors || malformed)
 
 -- The end: nothing is held, and the reader is at its end.
 pub record IsTextAtEnd (remaining : Option (List ℕ)) (s : TextState) : Type 0 where
@@ -68,10 +72,13 @@ pub record AppendsLine (remaining_before remaining_after : Option (List ℕ)) (o
   pub part : is_whole ≡ false → All (λ b. b ≢ 10) wrote
   pub whole : is_whole ≡ true → EndsWithByte 10 wrote ⊎ IsTextAtEnd remaining_after new
 
--- The source, which had not failed before, failed meanwhile, or gave at least 2^64 - 1 bytes.
+-- The source, which had not failed before, failed meanwhile, or gave at least 2^64 - 1 bytes. All
+-- text that was determined has been taken.
 pub record SourceFails (remaining_before remaining_after : Option (List ℕ))
-    (failed_before failed_after : Bool) : Type 0 where
+    (failed_before failed_after : Bool) (new : TextState) : Type 0 where
   pub bytes : List ℕ
   pub given : ConsumesRemaining remaining_before remaining_after bytes
+  pub none_held : new.held ≡ []
+  pub none_determined : NoneDetermined new.reader
   pub not_before : failed_before ≡ false
   pub why : (failed_after ≡ true) ⊎ (2 ^ 64 - 1 ≤ length bytes)

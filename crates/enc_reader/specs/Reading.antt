@@ -1,10 +1,11 @@
 -- Reading text from a source through a buffer (Encoding Standard 6, "decode", a chunk at a time).
-use Rattle.std.specs.Prelude.{◌≡◌, ℕ, ◌+◌, ◌*◌, ◌-◌, ◌^◌, ◌≤◌, ◌⊎◌, min, Bool, true, false, ◌||◌, List, [], ◌++◌}
-use Rattle.std.specs.Prelude.{length, Option, if◌then◌else◌}
+use Rattle.std.specs.Prelude.{◌≡◌, ℕ, ◌+◌, ◌*◌, ◌-◌, ◌^◌, ◌<◌, ◌≤◌, ◌⊎◌, min, Bool, true, false, ◌||◌, List, [], ◌∷◌}
+use Rattle.std.specs.Prelude.{◌++◌, length, Option, if◌then◌else◌}
 use Rattle.std.specs.Char.{encode_utf8}
 use Rattle.std.specs.Io.KnownBytes.{IsAtEnd}
 use Rattle.enc_units.specs.Output.{AreScalars, units_of_text}
 use Rattle.enc_decoder.specs.Sequence.{Sequence, sequence_text, any_malformed}
+use Rattle.enc_decoder.specs.Remainder.{AreDetermined}
 use Rattle.enc_stream.specs.declared.bom.BomHandling.{BomHandling}
 use Rattle.enc_stream.specs.declared.bom.BomHandling.TheVariants.{Sniff}
 use Rattle.enc_stream.specs.declared.encoding.Encoding.{Encoding}
@@ -32,6 +33,25 @@ sniffing_reader e = fresh_reader Sniff e
 -- z. Their text is still to be handed out.
 abbrev pub owed_sequences : ReaderState → List ℕ → List Sequence
 owed_sequences s z = remaining_sequences s.decoder (s.unread ++ z)
+
+-- These sequences come next: the bytes pending and unread determine them, whatever the source still
+-- gives. At its end it gives nothing.
+abbrev pub AreNext : ReaderState → List Sequence → Type 0
+AreNext s ss = AreDetermined s.ended (remaining_sequences s.decoder) s.unread ss
+
+-- no sequence is determined
+abbrev pub NoneDetermined : ReaderState → Type 0
+NoneDetermined s = (next : Sequence) → AreNext s (next ∷ []) → ⊥
+
+-- No text is determined: at most sequences without one, as escape sequences.
+abbrev pub NoTextDetermined : ReaderState → Type 0
+NoTextDetermined s = (ss : List Sequence) → AreNext s ss → sequence_text ss ≡ []
+
+-- Text of `written` bytes fills the room as far as whole characters do: what is determined next
+-- does not fit.
+abbrev pub FillsRoom : ℕ → ℕ → ReaderState → Type 0
+FillsRoom room written s = (next : Sequence) → AreNext s (next ∷ [])
+    → room < written + length (units_of_text encode_utf8 next.text)
 
 -- The encoding of these sequences: that of the byte order mark that they begin with, if one may
 -- come, or else the decoder's.
@@ -65,7 +85,8 @@ pub record ReadsOwed (remaining_before remaining_after : Option (List ℕ)) (old
   pub nearer : distance_to_end new + min 1 (length wrote) ≤ distance_to_end old + 2 * length bytes
 
 -- A read that returns `Ok`. The reader remembers whether U+FFFD was handed out for a malformed
--- sequence. After its end the source has no more bytes.
+-- sequence. After its end the source has no more bytes. The source is read only if no text is
+-- determined.
 pub record HandsOut (remaining_before remaining_after : Option (List ℕ)) (old new : ReaderState)
     (wrote : List ℕ) (had_before had_after : Bool) : Type 0 where
   pub bytes : List ℕ
@@ -73,6 +94,7 @@ pub record HandsOut (remaining_before remaining_after : Option (List ℕ)) (old 
   pub reads : ReadsOwed remaining_before remaining_after old new bytes wrote malformed
   pub flag : had_after ≡ (had_before || malformed)
   pub exhausted : new.ended ≡ true → IsExhausted remaining_after
+  pub needed : (bytes ≡ []) ⊎ NoTextDetermined old
 
 -- The end: the source is at its end, and nothing is owed.
 pub record IsReaderAtEnd (remaining : Option (List ℕ)) (s : ReaderState) : Type 0 where
@@ -81,13 +103,13 @@ pub record IsReaderAtEnd (remaining : Option (List ℕ)) (s : ReaderState) : Typ
   pub finished : has_finished s.decoder ≡ true
   pub none_owed : owed_sequences s [] ≡ []
 
--- A read that fails: it hands out nothing and has seen no end. The source, which had not failed
--- before, failed in this read, or gave at least 2^64 - 1 bytes.
+-- A read that fails: it hands out nothing, has seen no end, and leaves nothing that is determined.
+-- The source, which had not failed before, failed in this read, or gave at least 2^64 - 1 bytes.
 pub record FailsToRead (remaining_before remaining_after : Option (List ℕ))
     (failed_before failed_after : Bool) (old new : ReaderState) : Type 0 where
   pub bytes : List ℕ
-  pub malformed : Bool
-  pub reads : ReadsOwed remaining_before remaining_after old new bytes [] malformed
+  pub reads : ReadsOwed remaining_before remaining_after old new bytes [] false
+  pub none_determined : NoneDetermined new
   pub not_ended : new.ended ≡ false
   pub not_before : failed_before ≡ false
   pub why : (failed_after ≡ true) ⊎ (2 ^ 64 - 1 ≤ length bytes)

@@ -1,16 +1,19 @@
 -- The steps of a read: pulling a chunk from the source, and a turn of the decoder.
 use Rattle.std.specs.Prelude.{◌≡◌, ℕ, ◌<◌, ◌⊎◌, Bool, true, false, List, [], length, Option}
 use Rattle.enc_units.specs.Validity.{IsWellFormedUtf8, AreAscii}
+use Rattle.enc_decoder.specs.Remainder.{IsUndetermined}
 use Rattle.enc_codec.specs.Properties.{IsAsciiCompatible}
 use Rattle.enc_stream.specs.declared.constants.TheConstants.{UTF_8}
 use Rattle.enc_stream.specs.Encodings.{rule_of}
-use Rattle.enc_stream.specs.Decoding.{DecoderState, has_finished}
+use Rattle.enc_stream.specs.Decoding.{DecoderState, has_finished, remaining_sequences}
 use Rattle.enc_stream.specs.Latin1.{DecoderMayBeLatin1}
-use Rattle.enc_reader.specs.Reading.{ReaderState, ReadsOwed}
+use Rattle.enc_reader.specs.Reading.{ReaderState, ReadsOwed, NoneDetermined}
 
--- The reader has nothing to decode, and its source is not at its end.
+-- The reader has nothing to decode, its pending bytes determine nothing, and its source is not at
+-- its end.
 pub record IsWaiting (s : ReaderState) : Type 0 where
   pub unread : s.unread ≡ []
+  pub undetermined : IsUndetermined (remaining_sequences s.decoder)
   pub not_ended : s.ended ≡ false
   pub going : has_finished s.decoder ≡ false
 
@@ -28,11 +31,12 @@ pub record IsTurn (old new : ReaderState) (wrote : List ℕ) (replaced waits : B
   pub waiting : waits ≡ true → IsWaiting new
   pub text_or_end : waits ≡ false → wrote ≡ [] → has_finished new.decoder ≡ true
 
--- A chunk is pulled if the buffer lacks bytes. Nothing is handed out.
+-- A chunk is pulled only if nothing is determined. Nothing is handed out.
 pub record FillsBuffer (remaining_before remaining_after : Option (List ℕ))
     (old new : ReaderState) : Type 0 where
   pub bytes : List ℕ
   pub reads : ReadsOwed remaining_before remaining_after old new bytes [] false
+  pub needed : ((bytes ≡ []) × (new ≡ old)) ⊎ NoneDetermined old
 
 -- These bytes are their own text to a decoder between two sequences: in UTF-8 if they are
 -- well-formed, and in an ASCII-compatible encoding if they are ASCII.

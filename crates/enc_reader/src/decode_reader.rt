@@ -10,14 +10,16 @@ ghost use Rattle.std.specs.Char.{encode_utf8};
 ghost use Rattle.std.specs.Io.KnownBytes.{IsAtEnd};
 ghost use Rattle.enc_units.specs.Results.{decoder_result_of};
 ghost use Rattle.enc_decoder.specs.Call.{Replacement};
+ghost use Rattle.enc_decoder.specs.Remainder.{IsUndetermined};
 ghost use Rattle.enc_stream.specs.Latin1.{DecoderMayBeLatin1};
-ghost use Rattle.enc_stream.specs.Decoding.{has_finished, AnswersDecode};
+ghost use Rattle.enc_stream.specs.Decoding.{has_finished, remaining_sequences, AnswersDecode};
 ghost use Rattle.enc_reader.specs.Source.{ConsumesRemaining, IsExhausted};
 ghost use Rattle.std.proofs.Props.{props};
 
 mod reporting;
 
 use crate::source::Source;
+use enc_decoder_utf::plain::is_incomplete_sequence;
 use enc_stream::constants::UTF_8;
 use enc_stream::laws::ascii_compatible_decode_ascii;
 use enc_stream::{BomHandling, CoderResult, Decoder, Encoding};
@@ -164,17 +166,6 @@ fn pull_after<R: Source>(reader: &mut R, input: &mut [u8], held: usize) -> Resul
     reader.pull(&mut input[held..])
 }
 
-/// Returns whether the bytes are the start of a character in UTF-8, by the first of them, and other
-/// bytes of it are to follow.
-fn is_cut(bytes: &[u8]) -> bool {
-    match bytes.first() {
-        Some(0xC2..=0xDF) => bytes.len() < 2,
-        Some(0xE0..=0xEF) => bytes.len() < 3,
-        Some(0xF0..=0xF4) => bytes.len() < 4,
-        _ => false,
-    }
-}
-
 /// Returns the length of the longest prefix that is well-formed UTF-8, sooner if all is ASCII.
 fn utf_8_len(bytes: &[u8]) -> usize
     ensures within { result ≤ length bytes.now }
@@ -215,6 +206,8 @@ pub struct DecodeReader<'a, R: Source> {
     ghost exhausted: { ended ≡ true
         → IsExhausted (R.remaining reader.now) } by { Prim.hlevel props },
     ghost going: { failed ≡ false → R.has_failed reader.now ≡ false },
+    ghost settled: { at ≡ filled → ended ≡ false
+        → IsUndetermined (remaining_sequences decoder) } by { Prim.hlevel props },
 }
 
 impl<'a, R: Source> fmt::Debug for DecodeReader<'a, R> {
@@ -236,6 +229,7 @@ impl<'a, R: Source> DecodeReader<'a, R> {
     ghost use Rattle.enc_reader.specs.Reading.{FailsToRead, HandsOut, IsReaderAtEnd};
     ghost use Rattle.enc_reader.specs.Reading.{fresh_reader, sniffing_reader};
     ghost use Rattle.enc_reader.specs.Reading.{owed_sequences, owed_encoding};
+    ghost use Rattle.enc_reader.specs.Reading.{NoneDetermined, FillsRoom};
     ghost use Rattle.enc_stream.specs.Faults.{whole_faults};
     ghost use Rattle.enc_reader.specs.Turn.{IsOwnText, IsTurn};
     ghost use Rattle.enc_reader.specs.Counting.{HasGiven, owed_faults, CountsBytes};
@@ -352,6 +346,7 @@ impl<'a, R: Source> DecodeReader<'a, R> {
             (take result.written dst.new) result.replaced result.waits }
         ensures counts { CountsBytes (state_of self.old) (state_of self.new) self.old.given
             self.new.given [] }
+        ensures full { FillsRoom (length dst.old) result.written (state_of self.new) }
         ensures written { result.written ≤ length dst.new }
         ensures rest { drop result.written dst.new ≡ drop result.written dst.old }
         ensures waits { result.waits ≡ true → result.written ≡ 0 }
@@ -409,6 +404,7 @@ impl<'a, R: Source> DecodeReader<'a, R> {
             (R.remaining self.new.reader.now) (state_of self.old) (state_of self.new)
             self.old.given self.new.given (take n dst.new) self.old.had_errors
             self.new.had_errors) }
+        ensures full { IfOk result (λ n. FillsRoom (length dst.old) n (state_of self.new)) }
         ensures within { IfOk result (λ n. n ≤ length dst.new) }
         ensures utf_8 { IfOk result (λ n. IsUtf8 (take n dst.new)) }
         ensures rest { IfOk result (λ n. drop n dst.new ≡ drop n dst.old) }
@@ -455,23 +451,25 @@ impl<'a, R: Source> DecodeReader<'a, R> {
         self.decoder.latin1_byte_compatible_up_to(&[]).is_some()
     }
 
-    /// Returns whether no sequence is in the buffer whole: every byte is decoded, or the rest is
-    /// cut within a character of UTF-8. It may be false for a rest that fills the buffer.
+    /// Returns whether no sequence is determined: every byte is decoded, or the rest is an
+    /// incomplete sequence of UTF-8. It may be false for a rest that fills the buffer.
     fn lacks_bytes(&self) -> bool
+        requires going { self.now.ended ≡ false }
         ensures room { result ≡ true
             → self.now.filled - self.now.at < length self.now.input.now }
+        ensures none_determined { result ≡ true → NoneDetermined (state_of self.now) }
     {
         if self.at == self.filled {
             return true;
         }
         let unread = &self.input[self.at..self.filled];
         unread.len() < self.input.len()
-            && is_cut(unread)
+            && is_incomplete_sequence(unread)
             && self.decoder.encoding() == UTF_8
             && self.is_between()
     }
 
-    /// Reads the next chunk if the buffer lacks bytes and the source is not at its end. After an
+    /// Reads the next chunk if nothing is determined and the source is not at its end. After an
     /// `Err`, which is `Reader`, the source has failed.
     fn fill(&mut self) -> Result<(), ReadFault>
         requires going { self.old.failed ≡ false }

@@ -93,6 +93,7 @@ impl<'a, R: Source> DecodedText<'a, R> {
             → IsTextAtEnd (R.remaining self.new.reader.reader.now) (text_state_of self.new)) }
         ensures utf_8 { IsUtf8 (text_state_of self.old).held
             → IsUtf8 (text_state_of self.new).held }
+        ensures none_held { OnErr result ((text_state_of self.new).held ≡ []) }
         ensures reader_fault { IsErrOf result ReadFault.Reader
             → FailsToRead (R.remaining self.old.reader.reader.now)
             (R.remaining self.new.reader.reader.now) (R.has_failed self.old.reader.reader.now)
@@ -140,6 +141,8 @@ impl<'a, R: Source> DecodedText<'a, R> {
             → IsUtf8 (text_state_of self.new).held }
         ensures cut { IsErrOf result LineFault.MidCharacter
             → IsUtf8 (text_state_of self.old).held → ⊥ }
+        ensures none_held { IsErrOf result (LineFault.Read ReadFault.Reader)
+            → (text_state_of self.new).held ≡ [] }
         ensures reader_fault { IsErrOf result (LineFault.Read ReadFault.Reader)
             → FailsToRead (R.remaining self.old.reader.reader.now)
             (R.remaining self.new.reader.reader.now) (R.has_failed self.old.reader.reader.now)
@@ -199,7 +202,7 @@ impl<'a, R: Source> DecodedText<'a, R> {
         ensures reader_fault { IsErrOf result (LineFault.Read ReadFault.Reader)
             → SourceFails (R.remaining self.old.reader.reader.now)
             (R.remaining self.new.reader.reader.now) (R.has_failed self.old.reader.reader.now)
-            (R.has_failed self.new.reader.reader.now) }
+            (R.has_failed self.new.reader.reader.now) (text_state_of self.new) }
         ensures failed_before { IsErrOf result (LineFault.Read ReadFault.Failed)
             → self.old.reader.failed ≡ true }
         ensures kept { OnOk result (R.has_failed self.new.reader.reader.now

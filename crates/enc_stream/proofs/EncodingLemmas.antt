@@ -1,6 +1,6 @@
 -- The laws of the rule of each encoding: those of its codec.
 use Rattle.std.proofs.Common.{◌≡◌, ◌∙◌, ap, sym, subst, refl, true, Bool}
-use Rattle.enc_decoder.specs.RuleLaws.{HasLookahead, HasTexts, HasSmallTexts}
+use Rattle.enc_decoder.specs.RuleLaws.{HasLookahead, HasTexts, HasSmallTexts, ReplacesMalformed}
 use Rattle.enc_codec.specs.Codecs.{codec_facts}
 use Rattle.enc_codec.specs.CodecLaws.{Decides, KeepsCodecLaws}
 use Rattle.enc_codec.proofs.CodecLaws.{codec_laws}
@@ -18,6 +18,9 @@ lookahead_of e = (laws_of e).lawful.lookahead
 
 pub small_texts : (e : Encoding) → HasSmallTexts (rule_of e)
 small_texts e = (laws_of e).lawful.small_texts
+
+pub replacements : (e : Encoding) → ReplacesMalformed (rule_of e)
+replacements e = (laws_of e).lawful.replacements
 
 -- In two encodings some sequences have no text.
 

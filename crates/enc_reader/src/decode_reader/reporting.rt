@@ -117,7 +117,7 @@ fn waits_on(written: usize, malformed: Option<MalformedLens>, finished: bool) ->
 }
 
 impl<'a, R: Source> DecodeReader<'a, R> {
-    ghost use Rattle.enc_reader.specs.Reading.{FailsToRead, IsReaderAtEnd};
+    ghost use Rattle.enc_reader.specs.Reading.{FailsToRead, IsReaderAtEnd, FillsRoom};
     ghost use Rattle.enc_reader.specs.Turn.{IsTurn};
     ghost use Rattle.enc_reader.specs.Counting.{CountsBytes};
     ghost use Rattle.enc_reader.specs.Reporting.{ReportsFaults, TurnPassesFaults, written_of};
@@ -134,6 +134,8 @@ impl<'a, R: Source> DecodeReader<'a, R> {
             result.malformed }
         ensures counts { CountsBytes (state_of self.old) (state_of self.new) self.old.given
             self.new.given [] }
+        ensures full { result.malformed ≡ None
+            → FillsRoom (length dst.old) result.written (state_of self.new) }
         ensures written { result.written ≤ length dst.new }
         ensures text { IsUtf8 (take result.written dst.new) }
         ensures rest { drop result.written dst.new ≡ drop result.written dst.old }
@@ -208,6 +210,8 @@ impl<'a, R: Source> DecodeReader<'a, R> {
             (R.remaining self.new.reader.now) (state_of self.old) (state_of self.new)
             self.old.given self.new.given (take (written_of stop) dst.new ++ replacement_of stop)
             (faults_of stop) self.old.had_errors self.new.had_errors) }
+        ensures full { IfOk result (λ stop. faults_of stop ≡ []
+            → FillsRoom (length dst.old) (written_of stop) (state_of self.new)) }
         ensures within { IfOk result (λ stop. written_of stop ≤ length dst.new) }
         ensures utf_8 { IfOk result (λ stop. IsUtf8 (take (written_of stop) dst.new)) }
         ensures rest { IfOk result (λ stop. drop (written_of stop) dst.new

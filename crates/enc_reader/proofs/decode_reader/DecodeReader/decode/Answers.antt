@@ -1,9 +1,9 @@
-use Rattle.std.proofs.Common.{rules, ◌≡◌, ◌≤◌, length, take, [], false, not, ap, sym, ◌∙◌}
+use Rattle.std.proofs.Common.{rules, arith, ◌≡◌, ◌≤◌, length, take, [], false, not, ap, sym, ◌∙◌, length-take-le}
 use Rattle.std.proofs.lemmas.Bool.{false≢true, not-true, not-false}
 use Rattle.enc_stream.specs.Decoding.{has_finished}
 use Rattle.enc_reader.specs.Reader.{state_of}
 use Rattle.enc_reader.proofs.TurnLemmas.{IsTurn-call, CountsBytes-call, chunk_can_decode, left_of, some_text, all_read}
-use Rattle.enc_reader.proofs.TurnLemmas.{only_at_end}
+use Rattle.enc_reader.proofs.TurnLemmas.{only_at_end, unreported, chunk_settles, chunk_fills_room}
 use Rattle.enc_reader.proofs.decode_reader.DecodeReader.decode.Goals as goal
 
 pub returns-then-call-gt0-clause-turn : goal.returns-then-call-gt0-clause-turn
@@ -71,3 +71,34 @@ returns-clause-counts g c =
     (chunk_can_decode reader.filled reader.at reader.input.now (search rules) reader.decoded
     reader.within c.if-self.false c.requires.room)
     (left_of reader.filled reader.at _ reader.input.now reader.decoded decodes.call.within))
+
+pub invariant_of-self-clause-settled : goal.invariant_of-self-clause-settled
+invariant_of-self-clause-settled g c =
+    let reader = c.args.self.now in
+    λ all_read not_ended.
+    chunk_settles reader.filled reader.at reader.input.now
+    c.decode_unread-call.ensures.call.decodes reader.decoded reader.within
+    (chunk_can_decode reader.filled reader.at reader.input.now (search rules) reader.decoded
+    reader.within c.if-self.false c.requires.room)
+    all_read not_ended
+
+pub returns-then-call-gt0-clause-full : goal.returns-then-call-gt0-clause-full
+returns-then-call-gt0-clause-full g c =
+    let reader = c.args.self.now in
+    let call = c.decode_unread-call in
+    let within : call.result.written ≤ length call.new.dst = search rules in
+    rw call.ensures.kept
+    (chunk_fills_room reader.filled reader.at reader.input.now call.ensures.call.decodes
+    reader.decoded reader.within call.result.written
+    (length-take-le call.result.written call.new.dst within) (unreported call.result.result))
+
+pub returns-clause-full : goal.returns-clause-full
+returns-clause-full g c =
+    let reader = c.args.self.now in
+    let call = c.decode_unread-call in
+    let within : call.result.written ≤ length call.new.dst = search rules in
+    rw (call.ensures.kept, c.without_text-2.ensures.written)
+    (chunk_fills_room reader.filled reader.at reader.input.now call.ensures.call.decodes
+    reader.decoded reader.within 0
+    (length-take-le call.result.written call.new.dst within ∙ omega arith)
+    (unreported call.result.result))

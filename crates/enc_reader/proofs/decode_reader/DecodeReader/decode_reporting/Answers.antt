@@ -1,7 +1,8 @@
-use Rattle.std.proofs.Common.{rules, ◌≡◌, ◌≤◌, length, take, true, false, ap, sym, ◌∙◌}
+use Rattle.std.proofs.Common.{rules, ◌≡◌, ◌≤◌, length, take, true, false, ap, sym, ◌∙◌, length-take-le}
 use Rattle.enc_stream.specs.Decoding.{has_finished}
 use Rattle.enc_reader.specs.Reader.{state_of}
 use Rattle.enc_reader.proofs.TurnLemmas.{CountsBytes-call, chunk_can_decode, left_of, all_read}
+use Rattle.enc_reader.proofs.TurnLemmas.{chunk_settles, chunk_fills_room}
 use Rattle.enc_stream.proofs.DecoderProgressLemmas.{ends_read}
 use Rattle.enc_reader.proofs.ReportingLemmas.{IsTurn-reporting, TurnPassesFaults-call, nothing_handed}
 use Rattle.enc_reader.proofs.decode_reader.DecodeReader.decode_reporting.Goals as goal
@@ -57,3 +58,25 @@ invariant_of-self-clause-decoded g c =
 pub invariant_of-self-clause-seen : goal.invariant_of-self-clause-seen
 invariant_of-self-clause-seen g c =
     λ f. (ends_read _ c.report_unread-call.ensures.call.decodes f).0
+
+pub invariant_of-self-clause-settled : goal.invariant_of-self-clause-settled
+invariant_of-self-clause-settled g c =
+    let reader = c.args.self.now in
+    λ all_read not_ended.
+    chunk_settles reader.filled reader.at reader.input.now
+    c.report_unread-call.ensures.call.decodes reader.decoded reader.within
+    (chunk_can_decode reader.filled reader.at reader.input.now (search rules) reader.decoded
+    reader.within c.if-self.false c.requires.room)
+    all_read not_ended
+
+pub returns-clause-full : goal.returns-clause-full
+returns-clause-full g c =
+    let reader = c.args.self.now in
+    let call = c.report_unread-call in
+    let within : call.result.written ≤ length call.new.dst = search rules in
+    λ none.
+    rw call.ensures.kept
+    (chunk_fills_room reader.filled reader.at reader.input.now call.ensures.call.decodes
+    reader.decoded reader.within call.result.written
+    (length-take-le call.result.written call.new.dst within)
+    (sym c.reported_lens-malformed.ensures ∙ none))

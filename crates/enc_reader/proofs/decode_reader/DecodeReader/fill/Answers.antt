@@ -1,4 +1,4 @@
-use Rattle.std.proofs.Common.{rules, ◌≡◌, [], false}
+use Rattle.std.proofs.Common.{rules, ◌≡◌, [], false, inl, inr, refl}
 use Rattle.enc_reader.proofs.ReadingLemmas.{ReadsOwed-none}
 use Rattle.enc_reader.specs.Reader.{state_of}
 use Rattle.enc_reader.proofs.SourceLemmas.{on_err}
@@ -13,13 +13,13 @@ returns-in_err-pull-clause-err g c =
     let failed = c.in_err-pull.ensures in
     on_err c.from_residual.result _
     (FailsToRead-pull failed.none_given failed.err failed.same unended
-    (reader.going c.requires.going))
+    (reader.going c.requires.going) (c.lacks_bytes.ensures.none_determined (search rules)))
 
 pub returns-else-not-self-clause-ok : goal.returns-else-not-self-clause-ok
 returns-else-not-self-clause-ok g c =
     let reader = c.args.self.now in
     record {
-      fills = record { bytes = []; reads = ReadsOwed-none _ _ };
+      fills = record { bytes = []; reads = ReadsOwed-none _ _; needed = inl (refl, refl) };
       counts = CountsBytes-none (state_of reader) reader.given;
     }
 
@@ -27,6 +27,10 @@ pub returns-in_ok-pull-clause-ok : goal.returns-in_ok-pull-clause-ok
 returns-in_ok-pull-clause-ok g c =
     let pull = c.in_ok-pull.ensures.ok in
     record {
-      fills = record { bytes = pull.pulls.bytes; reads = pull.pulls.reads };
+      fills = record {
+        bytes = pull.pulls.bytes;
+        reads = pull.pulls.reads;
+        needed = inr (c.lacks_bytes.ensures.none_determined (search rules));
+      };
       counts = pull.counts;
     }

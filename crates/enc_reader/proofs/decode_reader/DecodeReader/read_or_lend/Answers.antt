@@ -1,5 +1,6 @@
 use Rattle.std.proofs.Common.{arith, rules, ◌<◌}
 use Rattle.enc_reader.proofs.ReadingLemmas.{handed_utf_8}
+use Rattle.enc_reader.proofs.CountingLemmas.{nothing_undetermined}
 use Rattle.enc_reader.proofs.LendingLemmas.{HandsOutCounted-filled, HandsOutCounted-lent, CountsBytes-lent}
 use Rattle.enc_reader.proofs.LendingLemmas.{HandsOut-filled, HandsOut-chunk, FailsToRead-filled}
 use Rattle.enc_reader.proofs.decode_reader.DecodeReader.read_or_lend.Goals as goal
@@ -53,3 +54,9 @@ pub returns-clause-counted : goal.returns-clause-counted
 returns-clause-counted g c =
     rw (← c.fill.ensures.had_errors)
     (HandsOutCounted-filled c.in_ok-fill.ensures.ok c.in_ok-len.ensures.counted)
+
+pub invariant_of-self-clause-settled : goal.invariant_of-self-clause-settled
+invariant_of-self-clause-settled g c =
+    let some : 0 < c.text_ahead-len.result = omega arith in
+    λ _ _. nothing_undetermined c.fill.new.self.decoder
+    (c.text_ahead-len.ensures.own some).between.none_pending

@@ -1,5 +1,6 @@
 use Rattle.std.proofs.Common.{◌≡◌, ◌-◌, ◌^◌, ◌≤◌, length, take, drop, true, false}
 use Rattle.enc_reader.specs.Reader.{state_of}
+use Rattle.enc_reader.specs.Reading.{FillsRoom}
 use Rattle.enc_reader.proofs.ReadingLemmas.{HasRead, reader_at}
 use Rattle.enc_reader.proofs.CountingLemmas.{HasCounted}
 use Rattle.enc_reader.proofs.decode_reader.DecodeReader.read_str.Given as goal
@@ -13,6 +14,7 @@ invariant-pulls g l = record {
       (reader_at (g.R.Source.remaining l.fn.self.reader.now) (state_of l.fn.self))
       (reader_at (g.R.Source.remaining l.self.reader.now) (state_of l.self)) l.fn.self.given
       l.self.given (take l.turn.written l.dst) l.replaced l.turn.waits l.pulls;
+  full : FillsRoom (length l.fn.dst) l.turn.written (state_of l.self);
   within : l.turn.written ≤ length l.dst;
   rest : drop l.turn.written l.dst ≡ drop l.turn.written l.fn.dst;
   none : l.turn.waits ≡ true → l.turn.written ≡ 0;

@@ -1,4 +1,8 @@
-use Rattle.std.proofs.Common.{rules, ◌≡◌, ◌-◌, length, take, drop, [], ◌∷◌, None, refl, ap, sym, ◌∙◌, arith}
+use Rattle.std.proofs.Common.{rules, ◌≡◌, ◌-◌, length, take, drop, [], ◌∷◌, None, refl, ap, sym, subst, ◌∙◌, arith}
+use Rattle.std.proofs.Common.{inl, inr}
+use Rattle.enc_reader.specs.Reader.{state_of}
+use Rattle.enc_reader.specs.Reading.{FillsRoom}
+use Rattle.enc_reader.proofs.ReadingLemmas.{FailsToRead-waiting}
 use Rattle.std.proofs.Math.ListN.{length-drop}
 use Rattle.std.proofs.lemmas.List.{length-take}
 use Rattle.enc_decoder.proofs.SequenceLemmas.{or_false, or_true}
@@ -11,6 +15,7 @@ pulls-init g c =
     record {
       reported = rw turn.ensures.reader
           (HasReported-turn turn.ensures.turn turn.ensures.faults turn.ensures.counts);
+      full = turn.ensures.full;
       within = search rules;
       text = search rules;
       rest = search rules;
@@ -35,6 +40,8 @@ pulls-preserved g c =
       reported = rw turn.ensures.reader
           (HasReported-more waited c.in_ok-pull.ensures.ok turn.ensures.turn turn.ensures.faults
           turn.ensures.counts);
+      full = λ unreported. subst (λ n. FillsRoom n turn.result.written (state_of turn.new.self))
+          invariant.room (turn.ensures.full unreported);
       within = search rules;
       text = search rules;
       rest = search rules;
@@ -70,3 +77,25 @@ returns-clause-ok g c =
     ReportsFaults-read reported (sym (or_true c.args.self.now.had_errors)) reader.exhausted
     (ap (λ n. (reader.given - n - lens.after - lens.len, lens.len) ∷ []) unread
     ∙ ap (λ n. (n, lens.len) ∷ []) (sym c.offset_of.ensures))
+
+pub returns-then-pulls-clause-reader_fault : goal.returns-then-pulls-clause-reader_fault
+returns-then-pulls-clause-reader_fault g c =
+    let invariant = c.pulls.invariant in
+    let none : take c.pulls.turn.written c.pulls.dst ≡ [] =
+    ap (λ n. take n c.pulls.dst) (invariant.none c.pulls-test.true) in
+    let waited = rw (none, invariant.unreported c.pulls-test.true, c.pulls-test.true)
+    at invariant.reported in
+    λ _. FailsToRead-waiting waited.so_far.read (c.args.self.now.going c.if-self.false)
+    (inr (omega (arith, waited.so_far.read.enough refl, c.if-pulls.true)))
+
+pub returns-in_err-pull-clause-reader_fault : goal.returns-in_err-pull-clause-reader_fault
+returns-in_err-pull-clause-reader_fault g c =
+    let invariant = c.pulls.invariant in
+    let failed = c.in_err-pull.ensures in
+    let none : take c.pulls.turn.written c.pulls.dst ≡ [] =
+    ap (λ n. take n c.pulls.dst) (invariant.none c.pulls-test.true) in
+    let waited = rw (none, invariant.unreported c.pulls-test.true, c.pulls-test.true)
+    at invariant.reported in
+    λ _. rw (failed.same, failed.none_given)
+    (FailsToRead-waiting waited.so_far.read (c.args.self.now.going c.if-self.false)
+    (inl failed.err))

@@ -1,5 +1,6 @@
 use Rattle.std.proofs.Common.{◌≡◌, ◌-◌, ◌^◌, ◌≤◌, ◌++◌, length, take, drop, true, false, None, IsUtf8}
 use Rattle.enc_reader.specs.Reader.{state_of}
+use Rattle.enc_reader.specs.Reading.{FillsRoom}
 use Rattle.enc_reader.specs.Reporting.{replacement_of_lens}
 use Rattle.enc_reader.proofs.ReadingLemmas.{reader_at}
 use Rattle.enc_reader.proofs.ReportingLemmas.{HasReported}
@@ -12,6 +13,8 @@ invariant-pulls g l = record {
       (reader_at (g.R.Source.remaining l.self.reader.now) (state_of l.self)) l.fn.self.given
       l.self.given (take l.turn.written l.dst ++ replacement_of_lens l.turn.malformed)
       l.turn.malformed l.turn.waits l.pulls;
+  full : l.turn.malformed ≡ None
+      → FillsRoom (length l.fn.dst) l.turn.written (state_of l.self);
   within : l.turn.written ≤ length l.dst;
   text : IsUtf8 (take l.turn.written l.dst);
   rest : drop l.turn.written l.dst ≡ drop l.turn.written l.fn.dst;

@@ -1,4 +1,5 @@
-use Rattle.enc_reader.proofs.CountingLemmas.{HasGiven-fresh, fresh_faults}
+use Rattle.std.proofs.Common.{refl}
+use Rattle.enc_reader.proofs.CountingLemmas.{HasGiven-fresh, fresh_faults, nothing_undetermined}
 use Rattle.enc_reader.proofs.decode_reader.DecodeReader.with_bom_handling.Goals as goal
 
 pub returns-clause-given : goal.returns-clause-given
@@ -8,3 +9,7 @@ returns-clause-given g c =
 pub returns-clause-faults : goal.returns-clause-faults
 returns-clause-faults g c =
     λ z. rw c.new_decoder_with_bom_handling.ensures (fresh_faults c.args.handling c.args.encoding z)
+
+pub invariant_of-result-clause-settled : goal.invariant_of-result-clause-settled
+invariant_of-result-clause-settled g c =
+    λ _ _. rw c.new_decoder_with_bom_handling.ensures (nothing_undetermined _ refl)

@@ -37,12 +37,13 @@ returns-in-Err-clause-takes g c =
     let none = none_held text.handed.lent text.handed.len text.reader.at text.at
     text.reader.input.now text.text.now within text.at_hand (omega (arith, c.if-self.false)) in
     by_fault c.read_or_lend.result c.in-Err.fault c.in-Err.is
-    (λ reader. TakesText-fails _ none (c.read_or_lend.ensures.reader_fault reader))
+    (λ reader. TakesText-fails _ none (c.read_or_lend.ensures.reader_fault reader)
+    (c.in-Err.ensures.no_error))
     (λ failed. subst
     (λ r. TakesText (g.R.Source.remaining text.reader.reader.now)
-    (g.R.Source.remaining r.reader.now) (text_state_of text) (holding (state_of r) []) [])
+    (g.R.Source.remaining r.reader.now) (text_state_of text) (holding (state_of r) [] r.had_errors) [])
     (sym (c.read_or_lend.ensures.unchanged failed))
-    (TakesText-same _ _ _ none))
+    (TakesText-same _ _ _ _ none))
 
 pub returns-in-Err-clause-reader_fault : goal.returns-in-Err-clause-reader_fault
 returns-in-Err-clause-reader_fault g c = λ is_reader.

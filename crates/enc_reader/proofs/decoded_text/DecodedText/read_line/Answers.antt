@@ -94,6 +94,7 @@ pub returns-in_err-append_part-clause-reader_fault
 returns-in_err-append_part-clause-reader_fault g c = λ is_reader.
     SourceFails-after c.parts.invariant.so_far c.parts.invariant.kept
     (c.append_part.ensures.reader_fault (search rules))
+    (c.append_part.ensures.none_held (search rules))
 
 pub returns-in_err-append_part-clause-failed_before
     : goal.returns-in_err-append_part-clause-failed_before

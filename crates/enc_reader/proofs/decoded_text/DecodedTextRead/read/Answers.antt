@@ -37,9 +37,10 @@ returns-clause-bytes g c =
     c.advance.ensures.held in (
       subst (Consumes before _) (sym bytes)
           (subst_both (λ t s. Consumes before (remaining_text t s) (take len shown)) same_source
-          moved (takes_known _ source _ (holding (state_of filled.reader) (drop len shown))
+          moved (takes_known _ source _ (holding (state_of filled.reader) (drop len shown)
+          filled.reader.had_errors)
           (take len shown) (TakesText-then c.fill.ensures.takes
-          (TakesText-held source (state_of filled.reader) shown len))
+          (TakesText-held source (state_of filled.reader) shown filled.reader.had_errors len))
           filled.reader.exhausted)),
       λ zero some.
           let none : shown ≡ [] = nil_from_length shown (omega (
@@ -54,6 +55,7 @@ returns-clause-bytes g c =
           )) in
           subst_both (λ t s. IsAtEnd (remaining_text t s)) same_source moved
           (subst
-          (λ n. IsAtEnd (remaining_text source (holding (state_of filled.reader) (drop n shown))))
+          (λ n. IsAtEnd (remaining_text source (holding (state_of filled.reader) (drop n shown)
+          filled.reader.had_errors)))
           (sym zero) (known_end source (text_state_of filled) (c.in_default.ensures.end none))),
     )
