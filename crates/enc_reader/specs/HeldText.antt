@@ -1,6 +1,7 @@
 -- Text that is taken byte by byte or line by line, from a reader whose text is held in between.
 use Rattle.std.specs.Prelude.{◌≡◌, ◌≢◌, ℕ, ◌-◌, ◌^◌, ◌<◌, ◌≤◌, ◌⊎◌, Bool, true, false, ◌||◌, List, [], ◌++◌}
-use Rattle.std.specs.Prelude.{length, drop, slice_index, All, Option, option_map}
+use Rattle.std.specs.Prelude.{length, take, drop, slice_index, All, Option, option_map}
+use Rattle.std.specs.Str.{IsUtf8}
 use Rattle.std.specs.Char.{encode_utf8}
 use Rattle.std.specs.Io.{StopsAt}
 use Rattle.enc_units.specs.Output.{units_of_text}
@@ -48,6 +49,13 @@ pub record TakesText (remaining_before remaining_after : Option (List ℕ)) (old
 pub record IsTextAtEnd (remaining : Option (List ℕ)) (s : TextState) : Type 0 where
   pub none_held : s.held ≡ []
   pub reader : IsReaderAtEnd remaining s.reader
+
+-- A text begins with a whole character.
+pub record BeginsWithCharacter (text : List ℕ) : Type 0 where
+  pub len : ℕ
+  pub some : 0 < len
+  pub within : len ≤ length text
+  pub utf_8 : IsUtf8 (take len text)
 
 -- the last byte of a text
 pub record EndsWithByte (byte : ℕ) (text : List ℕ) : Type 0 where

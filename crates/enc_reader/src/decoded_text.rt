@@ -39,6 +39,7 @@ impl<'a, R: Source> DecodedText<'a, R> {
     ghost use Rattle.enc_reader.specs.Reader.{state_of};
     ghost use Rattle.enc_reader.specs.Reading.{FailsToRead};
     ghost use Rattle.enc_reader.specs.HeldText.{IsTextAtEnd, AppendsText, AppendsLine, SourceFails};
+    ghost use Rattle.enc_reader.specs.HeldText.{BeginsWithCharacter};
 
     /// Returns the text that `reader` still hands out, through the buffer `text`.
     ///
@@ -150,6 +151,12 @@ impl<'a, R: Source> DecodedText<'a, R> {
             (state_of self.new.reader) }
         ensures failed_before { IsErrOf result (LineFault.Read ReadFault.Failed)
             → self.old.reader.failed ≡ true }
+        ensures memory { IsErrOf result LineFault.Memory
+            → self.new.reader.failed ≡ self.old.reader.failed }
+        ensures memory_of_text { IsErrOf result LineFault.Memory
+            → BeginsWithCharacter (text_state_of self.new).held }
+        ensures cut_going { IsErrOf result LineFault.MidCharacter
+            → self.new.reader.failed ≡ self.old.reader.failed }
         ensures kept { OnOk result (R.has_failed self.new.reader.reader.now
             ≡ R.has_failed self.old.reader.reader.now) }
         ensures going { OnOk result (self.new.reader.failed ≡ self.old.reader.failed) }
@@ -205,6 +212,12 @@ impl<'a, R: Source> DecodedText<'a, R> {
             (R.has_failed self.new.reader.reader.now) (text_state_of self.new) }
         ensures failed_before { IsErrOf result (LineFault.Read ReadFault.Failed)
             → self.old.reader.failed ≡ true }
+        ensures memory { IsErrOf result LineFault.Memory
+            → self.new.reader.failed ≡ self.old.reader.failed }
+        ensures memory_of_text { IsErrOf result LineFault.Memory
+            → BeginsWithCharacter (text_state_of self.new).held }
+        ensures cut_going { IsErrOf result LineFault.MidCharacter
+            → self.new.reader.failed ≡ self.old.reader.failed }
         ensures kept { OnOk result (R.has_failed self.new.reader.reader.now
             ≡ R.has_failed self.old.reader.reader.now) }
         ensures going { OnOk result (self.new.reader.failed ≡ self.old.reader.failed) }

@@ -22,12 +22,17 @@ pub enum LineFault {
 }
 
 impl fmt::Display for LineFault {
-    /// Writes the reason.
+    ghost use Rattle.std.specs.Prelude.{Some};
+    ghost use Rattle.enc_reader.specs.Errors.{line_fault_text};
+
+    ghost output = { λ fault. Some (line_fault_text fault) };
+
+    /// Writes the reason: a phrase in lower case, without a full stop.
     fn fmt<W: fmt::Write>(&self, f: &mut fmt::Formatter<W>) -> fmt::Result {
         match self {
             LineFault::Read(fault) => fault.fmt(f),
-            LineFault::Memory => write!(f, "out of memory"),
-            LineFault::MidCharacter => write!(f, "a part of a character is taken"),
+            LineFault::Memory => f.write_str("out of memory"),
+            LineFault::MidCharacter => f.write_str("a part of a character is taken"),
         }
     }
 }

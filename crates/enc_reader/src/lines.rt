@@ -33,6 +33,7 @@ pub(crate) fn append(line: &mut String, bytes: &[u8]) -> Result<(), LineFault>
     ensures utf_8 { OnOk result (IsUtf8 bytes.now) }
     ensures no_read { (fault : ReadFault) → IsErrOf result (LineFault.Read fault) → ⊥ }
     ensures cut { IsErrOf result LineFault.MidCharacter → IsUtf8 bytes.now → ⊥ }
+    ensures memory { IsErrOf result LineFault.Memory → IsUtf8 bytes.now }
 {
     let Ok(text) = str::from_utf8(bytes) else {
         return Err(LineFault::MidCharacter);

@@ -3,13 +3,16 @@
 ghost use Rattle.std.specs.Prelude.{◌≡◌};
 ghost use Rattle.std.specs.IoError.{error_kind};
 ghost use Rattle.std.specs.declared.io.ErrorKind.TheVariants.{Other};
+ghost use Rattle.enc_reader.specs.Errors.{read_fault_text};
 
 use crate::decode_reader::ReadFault;
 use std::error::Error;
 use std::{fmt, io};
 
 /// Returns what a fault says.
-fn fault_text(fault: &ReadFault) -> &'static str {
+fn fault_text(fault: &ReadFault) -> &'static str
+    ensures { result.now ≡ read_fault_text fault.now }
+{
     match fault {
         ReadFault::Reader => "the source of the text failed",
         ReadFault::Failed => "the reader of the text has failed before",
@@ -17,6 +20,11 @@ fn fault_text(fault: &ReadFault) -> &'static str {
 }
 
 impl fmt::Display for ReadFault {
+    ghost use Rattle.std.specs.Prelude.{Some};
+    ghost use Rattle.enc_reader.specs.Errors.{read_fault_text as text_of};
+
+    ghost output = { λ fault. Some (text_of fault) };
+
     /// Writes one phrase.
     fn fmt<W: fmt::Write>(&self, f: &mut fmt::Formatter<W>) -> fmt::Result {
         f.pad(fault_text(self))

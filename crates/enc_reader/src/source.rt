@@ -1,7 +1,9 @@
 //! Sources of bytes.
 
 ghost use Rattle.std.specs.Prelude.{◌≡◌, ◌≢◌, ℕ, ◌≤◌, ◌<◌, length, List, take, Option, Bool};
-ghost use Rattle.std.specs.Prelude.{true, false, None, IfOk, OnOk, OnErr, IfErr, IsSomeAnd};
+ghost use Rattle.std.specs.Prelude.{◌↔◌, true, false, None, Some, IfOk, OnOk, OnErr, IfErr, IsErrAnd};
+ghost use Rattle.std.specs.Prelude.{IsNone, IfSome, IsSomeAnd};
+ghost use Rattle.std.specs.declared.io.Error.{Error};
 ghost use Rattle.std.specs.IoError.{error_kind};
 ghost use Rattle.std.specs.Io.KnownBytes.{IsAtEnd, ReadConsumes};
 ghost use Rattle.enc_reader.specs.Source.{ConsumesRemaining};
@@ -20,6 +22,9 @@ pub trait Source {
     // Returns whether a pull has failed.
     ghost has_failed: { Self → Bool };
 
+    // The error for which it has failed, if it keeps one.
+    ghost kept_error: { Self → Option Error } = { λ _. None };
+
     /// Writes the next bytes to the start of `buf`, and returns their number.
     ///
     /// It is 0 for a buffer that is not empty only at the end. After an `Err` the source has failed
@@ -37,6 +42,38 @@ pub trait Source {
     /// Returns whether a pull has failed.
     fn failed(&self) -> bool
         ensures { result ≡ has_failed self.now };
+
+    /// Returns the error for which it has failed, if it keeps one. By default it keeps none.
+    fn error(&self) -> Option<io::Error>
+        ensures { IfSome result (λ error. kept_error self.now ≡ Some error) }
+    {
+        None
+    }
+}
+
+/// Returns the outcome of a read, or `None` if the read was interrupted and is to be made again.
+fn settled(outcome: io::Result<usize>) -> Option<io::Result<usize>>
+    ensures again { IsNone result ↔ IsErrAnd outcome
+        (λ error. error_kind error ≡ ErrorKind.Interrupted) }
+    ensures same { IfSome result (λ settled. settled ≡ outcome) }
+{
+    match outcome {
+        Ok(n) => Some(Ok(n)),
+        Err(error) => {
+            if error.kind() == ErrorKind::Interrupted {
+                None
+            } else {
+                Some(Err(error))
+            }
+        }
+    }
+}
+
+/// Returns the error of a pull whose reads were all interrupted.
+fn all_interrupted() -> io::Error
+    ensures { error_kind result ≡ ErrorKind.TimedOut }
+{
+    io::Error::new(ErrorKind::TimedOut, "every read was interrupted")
 }
 
 /// Reads once, and again after each error of the kind `Interrupted`, up to [`MOST_READS`] times.
@@ -48,17 +85,11 @@ fn read_uninterrupted<R: Read>(reader: &mut R, buf: &mut [u8]) -> io::Result<usi
     ensures retried { IfErr result (λ error. error_kind error ≢ ErrorKind.Interrupted) }
 {
     for _ in 0..MOST_READS {
-        match reader.read(buf) {
-            Ok(n) => return Ok(n),
-            Err(error) => {
-                if error.kind() != ErrorKind::Interrupted {
-                    return Err(error);
-                }
-            }
+        if let Some(outcome) = settled(reader.read(buf)) {
+            return outcome;
         }
     }
-    let message = "every read was interrupted";
-    Err(io::Error::new(ErrorKind::TimedOut, message))
+    Err(all_interrupted())
 }
 
 /// A source over any reader. It models no bytes, since a reader may not know them.
@@ -100,6 +131,16 @@ impl<R: Read> FromRead<R> {
         self.error.take()
     }
 
+    /// Fails for an error of the reader, which is kept.
+    fn fail(&mut self, error: io::Error)
+        ensures failed { self.new.failed ≡ true }
+        ensures error { self.new.error ≡ Some error }
+        ensures inner { self.new.inner ≡ self.old.inner }
+    {
+        self.failed = true;
+        self.error = Some(error);
+    }
+
     /// Returns the reader, after a failure too. An error that was not taken is lost.
     pub fn into_inner(self) -> R
         ensures { result ≡ self.inner }
@@ -123,10 +164,12 @@ impl<R: Read> Source for FromRead<R> {
 
     ghost has_failed = { λ source. source.failed };
 
+    ghost kept_error = { λ source. source.error };
+
     /// Reads from the reader, again after each error of the kind `Interrupted`.
     ///
-    /// Any other error is a failure, and is kept. After 2^32 - 1 interrupted reads the pull fails
-    /// with an error of the kind `TimedOut`.
+    /// Any other error is a failure for good, one of the kind `WouldBlock` too, and is kept. After
+    /// 2^32 - 1 interrupted reads the pull fails with an error of the kind `TimedOut`.
     fn pull(&mut self, buf: &mut [u8]) -> Result<usize, ()>
         requires going { self.old.failed ≡ false }
         ensures bound { IfOk result (λ n. n ≤ length buf.new) }
@@ -140,8 +183,7 @@ impl<R: Read> Source for FromRead<R> {
         match read_uninterrupted(&mut self.inner, buf) {
             Ok(n) => Ok(n),
             Err(error) => {
-                self.failed = true;
-                self.error = Some(error);
+                self.fail(error);
                 Err(())
             }
         }
@@ -149,5 +191,12 @@ impl<R: Read> Source for FromRead<R> {
 
     fn failed(&self) -> bool {
         self.failed
+    }
+
+    /// Returns the error for which it has failed, until it is taken.
+    fn error(&self) -> Option<io::Error>
+        ensures { result ≡ self.now.error }
+    {
+        self.error
     }
 }

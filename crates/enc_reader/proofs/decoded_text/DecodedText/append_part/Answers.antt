@@ -5,7 +5,7 @@ use Rattle.std.proofs.lemmas.Bool.{eqb-false}
 use Rattle.std.specs.Str.{IsUtf8}
 use Rattle.std.specs.Prelude.{Err}
 use Rattle.enc_reader.specs.declared.decode_reader.ReadFault.TheVariants as fault
-use Rattle.enc_reader.specs.HeldText.{text_state_of, AppendsLine}
+use Rattle.enc_reader.specs.HeldText.{text_state_of, AppendsLine, BeginsWithCharacter}
 use Rattle.enc_reader.proofs.HeldTextLemmas.{state_moved, subst_both, parts_utf_8}
 use Rattle.enc_reader.proofs.LineLemmas.{AppendsLine-held}
 use Rattle.enc_reader.proofs.decoded_text.DecodedText.append_part.Goals as goal
@@ -87,3 +87,17 @@ returns-in_err-append-clause-reader_fault g c = λ is_reader.
 pub returns-in_err-append-clause-failed_before : goal.returns-in_err-append-clause-failed_before
 returns-in_err-append-clause-failed_before g c = λ is_failed.
     absurd (c.append.ensures.no_read fault.Failed (search rules))
+
+pub returns-in_err-append-clause-memory_of_text : goal.returns-in_err-append-clause-memory_of_text
+returns-in_err-append-clause-memory_of_text g c =
+    let held = c.held-held.result.now in
+    let value = c.held-held.ensures.value in
+    let line = c.line_len-len.ensures in
+    let no_end : nat_eq (length held) 0 ≡ false = search rules in
+    λ no_memory.
+    subst BeginsWithCharacter value (record {
+      len = c.line_len-len.result;
+      some = line.some (omega (arith, eqb-false (length held) 0 no_end));
+      within = line.within;
+      utf_8 = c.append.ensures.memory (search rules);
+    })
