@@ -1,6 +1,8 @@
 -- Text that is taken byte by byte or line by line, from a reader whose text is held in between.
 use Rattle.std.specs.Prelude.{◌≡◌, ◌≢◌, ℕ, ◌-◌, ◌^◌, ◌<◌, ◌≤◌, ◌⊎◌, Bool, true, false, ◌||◌, List, [], ◌++◌}
 use Rattle.std.specs.Prelude.{length, take, drop, slice_index, All, Option, option_map}
+use Rattle.std.specs.Prelude.{Ok, Err}
+use Rattle.std.specs.declared.result.Result.{Result}
 use Rattle.std.specs.Str.{IsUtf8}
 use Rattle.std.specs.Char.{encode_utf8}
 use Rattle.std.specs.Io.{StopsAt}
@@ -44,6 +46,11 @@ pub record TakesText (remaining_before remaining_after : Option (List ℕ)) (old
   pub reads : ReadsOwed remaining_before remaining_after old.reader new.reader bytes text malformed
   pub held : old.held ++ text ≡ wrote ++ new.held
   pub flag : new.had_errors ≡ (old.had_errors || malformed)
+
+-- the bytes that a read has taken into a buffer
+abbrev pub taken_bytes : {E : Type 0} → Result ℕ E → List ℕ → List ℕ
+taken_bytes (Ok n) buf = take n buf
+taken_bytes (Err e) buf = []
 
 -- The end: nothing is held, and the reader is at its end.
 pub record IsTextAtEnd (remaining : Option (List ℕ)) (s : TextState) : Type 0 where

@@ -24,7 +24,8 @@ use enc_stream::constants::UTF_8;
 use enc_stream::laws::ascii_compatible_decode_ascii;
 use enc_stream::{BomHandling, CoderResult, Decoder, Encoding};
 pub use reporting::ReadStop;
-use std::fmt;
+use std::io::ErrorKind;
+use std::{fmt, io};
 
 /// The least number of bytes that are lent. Fewer are decoded together with those that
 /// follow, since a caller writes each text by itself.
@@ -231,6 +232,8 @@ impl<'a, R: Source> DecodeReader<'a, R> {
     ghost use Rattle.enc_reader.specs.Reading.{owed_sequences, owed_encoding};
     ghost use Rattle.enc_reader.specs.Reading.{NoneDetermined, FillsRoom};
     ghost use Rattle.enc_stream.specs.Faults.{whole_faults};
+    ghost use Rattle.std.specs.Prelude.{IfSome};
+    ghost use Rattle.enc_reader.specs.Errors.{IsErrorOfReader};
     ghost use Rattle.enc_reader.specs.Turn.{IsOwnText, IsTurn};
     ghost use Rattle.enc_reader.specs.Counting.{HasGiven, owed_faults, CountsBytes};
     ghost use Rattle.enc_reader.specs.Counting.{PullsCounted, FillsCounted, HandsOutCounted};
@@ -580,6 +583,27 @@ impl<'a, R: Source> DecodeReader<'a, R> {
             &self.input[self.at - handed.len..self.at]
         } else {
             &dst[..handed.len]
+        }
+    }
+
+    /// Returns the error for which the source has failed, if the source keeps it.
+    ///
+    /// It may be called after a fault.
+    pub fn error(&self) -> Option<io::Error>
+        ensures { IfSome result (λ error. R.kept_error self.now.reader.now ≡ Some error) }
+    {
+        self.reader.error()
+    }
+
+    /// Returns a fault as an I/O error: the error that the source keeps, or one of the kind `Other`.
+    ///
+    /// An error of the kind `Interrupted` would ask for another call, so it is not passed on.
+    pub(crate) fn io_error(&self, fault: ReadFault) -> io::Error
+        ensures { IsErrorOfReader (R.kept_error self.now.reader.now) result }
+    {
+        match self.error() {
+            Some(error) if error.kind() != ErrorKind::Interrupted => error,
+            _ => io::Error::from(fault),
         }
     }
 

@@ -1,7 +1,7 @@
 //! The text of a reader for the traits of `std`, and line by line.
 
 ghost use Rattle.std.specs.Prelude.{◌≡◌, ◌+◌, ◌-◌, ◌<◌, ◌≤◌, length, drop, []};
-ghost use Rattle.std.specs.Prelude.{true, false, Some, IfOk, OnOk, OnErr, IsErrOf};
+ghost use Rattle.std.specs.Prelude.{true, false, Some, IfOk, OnOk, OnErr, IfErr, IsErrOf};
 ghost use Rattle.std.specs.Prelude.{string_bytes, string_len};
 ghost use Rattle.std.specs.Str.{IsUtf8};
 ghost use Rattle.std.specs.Io.{appended_bytes};
@@ -95,6 +95,7 @@ impl<'a, R: Source> DecodedText<'a, R> {
         ensures utf_8 { IsUtf8 (text_state_of self.old).held
             → IsUtf8 (text_state_of self.new).held }
         ensures none_held { OnErr result ((text_state_of self.new).held ≡ []) }
+        ensures failed { OnErr result (self.new.reader.failed ≡ true) }
         ensures reader_fault { IsErrOf result ReadFault.Reader
             → FailsToRead (R.remaining self.old.reader.reader.now)
             (R.remaining self.new.reader.reader.now) (R.has_failed self.old.reader.reader.now)
@@ -234,17 +235,51 @@ impl<'a, R: Source> DecodedText<'a, R> {
 }
 
 impl<'a, R: Source> Read for DecodedText<'a, R> {
+    ghost use Rattle.std.specs.Prelude.{Ok};
+    ghost use Rattle.std.specs.Io.{ReadsAtMost};
+    ghost use Rattle.std.specs.Io.KnownBytes.{ReadConsumes};
+    ghost use Rattle.enc_reader.specs.Errors.{IsErrorOfReader as IsErrorOf};
     ghost use Rattle.enc_reader.specs.HeldText.{text_state_of as state_in_read, remaining_text as text_in_read};
+    ghost use Rattle.enc_reader.specs.HeldText.{TakesText as Takes, IsTextAtEnd as IsAtTextEnd, SourceFails as Fails, taken_bytes};
 
     // the text still to be taken, if the source models its bytes
     ghost remaining = { λ t. text_in_read (R.remaining t.reader.reader.now) (state_in_read t) };
 
     /// Takes the next bytes of the text: those that are held, or else of one read of the reader.
     ///
-    /// A fault of the reader is an error of the kind `Other`. Nothing is lost then.
-    fn read(&mut self, buf: &mut [u8]) -> io::Result<usize> {
+    /// `Ok(0)` only at the end, and for an empty buffer, for which nothing is read. Nothing is lost
+    /// after an error: all text that is determined has been taken. It is the error that the source
+    /// keeps, as [`crate::FromRead`] does, or one of the kind `Other`, and never of the kind
+    /// `Interrupted`. The same error follows in each later read.
+    fn read(&mut self, buf: &mut [u8]) -> io::Result<usize>
+        ensures bound { ReadsAtMost result buf.new }
+        ensures bytes { ReadConsumes
+            (text_in_read (R.remaining self.old.reader.reader.now) (state_in_read self.old))
+            (text_in_read (R.remaining self.new.reader.reader.now) (state_in_read self.new))
+            result buf.new }
+        ensures takes { Takes (R.remaining self.old.reader.reader.now)
+            (R.remaining self.new.reader.reader.now) (state_in_read self.old)
+            (state_in_read self.new) (taken_bytes result buf.new) }
+        ensures end { result ≡ Ok 0 → 0 < length buf.new
+            → IsAtTextEnd (R.remaining self.new.reader.reader.now) (state_in_read self.new) }
+        ensures none { length buf.old ≡ 0 → result ≡ Ok 0 }
+        ensures unread { length buf.old ≡ 0 → self.new ≡ self.old }
+        ensures error { IfErr result
+            (λ error. IsErrorOf (R.kept_error self.new.reader.reader.now) error) }
+        ensures source_fails { OnErr result (self.old.reader.failed ≡ false
+            → Fails (R.remaining self.old.reader.reader.now)
+            (R.remaining self.new.reader.reader.now) (R.has_failed self.old.reader.reader.now)
+            (R.has_failed self.new.reader.reader.now) (state_in_read self.new)) }
+        ensures failed { OnErr result (self.new.reader.failed ≡ true) }
+        ensures going { OnOk result (self.new.reader.failed ≡ self.old.reader.failed) }
+        ensures same_reader { self.new.reader.reader.ghost_name
+            ≡ self.old.reader.reader.ghost_name }
+    {
+        if buf.is_empty() {
+            return Ok(0);
+        }
         if let Err(fault) = self.fill() {
-            return Err(io::Error::from(fault));
+            return Err(self.reader.io_error(fault));
         }
         let held = self.held();
         let len = held.len().min(buf.len());
@@ -262,10 +297,10 @@ impl<'a, R: Source> BufRead for DecodedText<'a, R> {
     /// Returns the text that is held, after one read of the reader if none is. It is empty only at
     /// the end.
     ///
-    /// A fault of the reader is an error of the kind `Other`. Nothing is lost then.
+    /// Errors are those of `read`.
     fn fill_buf(&mut self) -> io::Result<&[u8]> {
         if let Err(fault) = self.fill() {
-            return Err(io::Error::from(fault));
+            return Err(self.reader.io_error(fault));
         }
         Ok(self.held())
     }

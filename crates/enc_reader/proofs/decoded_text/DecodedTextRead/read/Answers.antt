@@ -4,9 +4,9 @@ use Rattle.std.proofs.Math.ListN.{length-drop}
 use Rattle.std.proofs.lemmas.List.{nil_from_length}
 use Rattle.std.specs.Io.KnownBytes.{Consumes, IsAtEnd}
 use Rattle.enc_reader.specs.Reader.{state_of}
-use Rattle.enc_reader.specs.HeldText.{text_state_of, remaining_text}
+use Rattle.enc_reader.specs.HeldText.{text_state_of, remaining_text, IsTextAtEnd}
 use Rattle.enc_reader.proofs.HeldTextLemmas.{holding, state_moved, subst_both, takes_known, keeps_known, known_end}
-use Rattle.enc_reader.proofs.HeldTextLemmas.{TakesText-then, TakesText-held}
+use Rattle.enc_reader.proofs.HeldTextLemmas.{TakesText-none, TakesText-then, TakesText-held}
 use Rattle.enc_reader.proofs.decoded_text.DecodedTextRead.read.Goals as goal
 
 pub returns-in-Err-clause-bytes : goal.returns-in-Err-clause-bytes
@@ -59,3 +59,36 @@ returns-clause-bytes g c =
           filled.reader.had_errors)))
           (sym zero) (known_end source (text_state_of filled) (c.in_default.ensures.end none))),
     )
+
+pub returns-then-is_empty-clause-takes : goal.returns-then-is_empty-clause-takes
+returns-then-is_empty-clause-takes g c = TakesText-none _ _
+
+pub returns-clause-end : goal.returns-clause-end
+returns-clause-end g c =
+    let filled = c.fill.new.self in
+    let value = c.held-held.ensures.value in
+    let shown = (text_state_of filled).held in
+    let len = c.min-len.result in
+    let source = g.R.Source.remaining filled.reader.reader.now in
+    λ is_zero some.
+    let zero : len ≡ 0 = cc in
+    let copied_len : length c.copy_from_slice.new.self ≡ len =
+    ap length c.copy_from_slice.ensures.after
+    ∙ length-take-le len c.held-held.result.now (omega (arith, c.min-len.ensures)) in
+    let none : shown ≡ [] = nil_from_length shown (omega (
+      arith,
+      zero,
+      some,
+      c.min-len.ensures,
+      copied_len,
+      ap length value,
+      length-append c.copy_from_slice.new.self (drop len c.args.buf.now),
+      length-drop len c.args.buf.now,
+    )) in
+    subst_both (λ t s. IsTextAtEnd t s)
+    (ap (λ r. g.R.Source.remaining r.reader.now) (sym c.advance.ensures.reader))
+    (state_moved filled c.advance.new.self c.advance.ensures.reader c.advance.ensures.held)
+    (subst
+    (λ n. IsTextAtEnd source (holding (state_of filled.reader) (drop n shown)
+    filled.reader.had_errors))
+    (sym zero) (c.in_default.ensures.end none))
