@@ -14,7 +14,7 @@ use crate::line_fault::LineFault;
 use crate::lines::{append, line_len};
 use crate::source::Source;
 use std::io;
-use std::io::{BufRead, Read};
+use std::io::{BufRead, ErrorKind, Read};
 
 /// The text of a [`DecodeReader`], in UTF-8, line by line and as a reader of `std`.
 ///
@@ -40,6 +40,7 @@ impl<'a, R: Source> DecodedText<'a, R> {
     ghost use Rattle.enc_reader.specs.Reading.{FailsToRead};
     ghost use Rattle.enc_reader.specs.HeldText.{IsTextAtEnd, AppendsText, AppendsLine, SourceFails};
     ghost use Rattle.enc_reader.specs.HeldText.{BeginsWithCharacter};
+    ghost use Rattle.enc_reader.specs.Errors.{IsErrorOfReader};
 
     /// Returns the text that `reader` still hands out, through the buffer `text`.
     ///
@@ -96,6 +97,8 @@ impl<'a, R: Source> DecodedText<'a, R> {
             → IsUtf8 (text_state_of self.new).held }
         ensures none_held { OnErr result ((text_state_of self.new).held ≡ []) }
         ensures failed { OnErr result (self.new.reader.failed ≡ true) }
+        ensures unchanged { OnErr result (self.old.reader.failed ≡ true
+            → self.new.reader ≡ self.old.reader) }
         ensures reader_fault { IsErrOf result ReadFault.Reader
             → FailsToRead (R.remaining self.old.reader.reader.now)
             (R.remaining self.new.reader.reader.now) (R.has_failed self.old.reader.reader.now)
@@ -123,6 +126,32 @@ impl<'a, R: Source> DecodedText<'a, R> {
                 Ok(())
             }
             Err(fault) => Err(fault),
+        }
+    }
+
+    /// Does [`DecodedText::fill`], with the error of the reader in place of its fault.
+    fn fill_or_error(&mut self) -> io::Result<()>
+        ensures takes { TakesText (R.remaining self.old.reader.reader.now)
+            (R.remaining self.new.reader.reader.now) (text_state_of self.old)
+            (text_state_of self.new) [] }
+        ensures end { OnOk result ((text_state_of self.new).held ≡ []
+            → IsTextAtEnd (R.remaining self.new.reader.reader.now) (text_state_of self.new)) }
+        ensures error { IfErr result
+            (λ error. IsErrorOfReader (R.kept_error self.new.reader.reader.now) error) }
+        ensures source_fails { OnErr result (self.old.reader.failed ≡ false
+            → SourceFails (R.remaining self.old.reader.reader.now)
+            (R.remaining self.new.reader.reader.now) (R.has_failed self.old.reader.reader.now)
+            (R.has_failed self.new.reader.reader.now) (text_state_of self.new)) }
+        ensures failed { OnErr result (self.new.reader.failed ≡ true) }
+        ensures unchanged { OnErr result (self.old.reader.failed ≡ true
+            → self.new.reader ≡ self.old.reader) }
+        ensures going { OnOk result (self.new.reader.failed ≡ self.old.reader.failed) }
+        ensures same_reader { self.new.reader.reader.ghost_name
+            ≡ self.old.reader.reader.ghost_name }
+    {
+        match self.fill() {
+            Ok(()) => Ok(()),
+            Err(fault) => Err(self.reader.io_error(fault)),
         }
     }
 
@@ -278,8 +307,8 @@ impl<'a, R: Source> Read for DecodedText<'a, R> {
         if buf.is_empty() {
             return Ok(0);
         }
-        if let Err(fault) = self.fill() {
-            return Err(self.reader.io_error(fault));
+        if let Err(error) = self.fill_or_error() {
+            return Err(error);
         }
         let held = self.held();
         let len = held.len().min(buf.len());
@@ -291,6 +320,14 @@ impl<'a, R: Source> Read for DecodedText<'a, R> {
 
 impl<'a, R: Source> BufRead for DecodedText<'a, R> {
     ghost use Rattle.enc_reader.specs.HeldText.{text_state_of as state_held, remaining_text as text_held};
+    ghost use Rattle.enc_reader.specs.Errors.{IsErrorOfReader as IsReaderError};
+    ghost use Rattle.std.specs.Prelude.{◌≢◌, IfSome};
+    ghost use Rattle.std.specs.IoError.{error_kind};
+    ghost use types.Logic.{sem};
+    ghost use mir.Syntax.{named};
+    ghost use Rattle.std.specs.Io.{StartsWith};
+    ghost use Rattle.std.specs.Io.BufRead.{Rests, FillKeeps};
+    ghost use Rattle.enc_reader.specs.contracts.decoded_text.DecodedText.{the_row as text-row};
 
     ghost consumable_len = { λ t. Some (length (state_held t).held) };
 
@@ -298,9 +335,21 @@ impl<'a, R: Source> BufRead for DecodedText<'a, R> {
     /// the end.
     ///
     /// Errors are those of `read`.
-    fn fill_buf(&mut self) -> io::Result<&[u8]> {
-        if let Err(fault) = self.fill() {
-            return Err(self.reader.io_error(fault));
+    fn fill_buf(&mut self) -> io::Result<&[u8]>
+        ensures front { IfSome (text_held (R.remaining self.old.reader.reader.now)
+            (state_held self.old)) (λ xs. IfOk result (λ s. StartsWith xs s.now)) }
+        ensures end { IfSome (text_held (R.remaining self.old.reader.reader.now)
+            (state_held self.old)) (λ xs. IfOk result (λ s. length s.now ≡ 0 → xs ≡ [])) }
+        ensures* after_borrow { sem 𝓛 (Rests (text-row (record { mir = named 1; lft = [] }) R.row R.Source) self.entry (λ new.
+            FillKeeps (text_held (R.remaining self.old.reader.reader.now) (state_held self.old))
+            (text_held (R.remaining new.reader.reader.now) (state_held new))
+            (Some (length (state_held new).held)) result)) }
+        ensures retried { IfErr result (λ error. error_kind error ≢ ErrorKind.Interrupted) }
+        ensures failed_before { IfErr result (λ error. self.old.reader.failed ≡ true
+            → IsReaderError (R.kept_error self.old.reader.reader.now) error) }
+    {
+        if let Err(error) = self.fill_or_error() {
+            return Err(error);
         }
         Ok(self.held())
     }

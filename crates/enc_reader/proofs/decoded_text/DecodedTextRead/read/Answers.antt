@@ -12,11 +12,11 @@ use Rattle.enc_reader.proofs.decoded_text.DecodedTextRead.read.Goals as goal
 pub returns-in-Err-clause-bytes : goal.returns-in-Err-clause-bytes
 returns-in-Err-clause-bytes g c =
     keeps_known _ _
-    (takes_known _ _ _ _ [] c.fill.ensures.takes c.fill.new.self.reader.exhausted)
+    (takes_known _ _ _ _ [] c.fill_or_error.ensures.takes c.fill_or_error.new.self.reader.exhausted)
 
 pub returns-clause-bytes : goal.returns-clause-bytes
 returns-clause-bytes g c =
-    let filled = c.fill.new.self in
+    let filled = c.fill_or_error.new.self in
     let held = c.held-held.result.now in
     let value = c.held-held.ensures.value in
     let shown = (text_state_of filled).held in
@@ -39,7 +39,7 @@ returns-clause-bytes g c =
           (subst_both (λ t s. Consumes before (remaining_text t s) (take len shown)) same_source
           moved (takes_known _ source _ (holding (state_of filled.reader) (drop len shown)
           filled.reader.had_errors)
-          (take len shown) (TakesText-then c.fill.ensures.takes
+          (take len shown) (TakesText-then c.fill_or_error.ensures.takes
           (TakesText-held source (state_of filled.reader) shown filled.reader.had_errors len))
           filled.reader.exhausted)),
       λ zero some.
@@ -65,7 +65,7 @@ returns-then-is_empty-clause-takes g c = TakesText-none _ _
 
 pub returns-clause-end : goal.returns-clause-end
 returns-clause-end g c =
-    let filled = c.fill.new.self in
+    let filled = c.fill_or_error.new.self in
     let value = c.held-held.ensures.value in
     let shown = (text_state_of filled).held in
     let len = c.min-len.result in
