@@ -6,5 +6,6 @@
 
 mod lending;
 mod lines;
+mod pauses;
 mod reads;
 mod reporting;
