@@ -21,6 +21,13 @@ impl<R: Source> Bounded<R> {
     {
         Bounded { inner, left: most }
     }
+
+    /// Returns the source of the bytes.
+    pub(crate) fn into_inner(self) -> R
+        ensures { result ≡ self.inner }
+    {
+        self.inner
+    }
 }
 
 /// Returns the smaller of a length and a bound.

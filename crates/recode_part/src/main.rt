@@ -51,7 +51,8 @@ fn run(rt: &HostRuntime) -> Ending {
         Ok(task) => {
             let reader = FromRead::new(rt.stdin());
             let mut writer = FromWrite::new(rt.stdout());
-            Ending::Ran(recode_part(&task, reader, &mut writer))
+            let (_reader, outcome) = recode_part(&task, reader, &mut writer);
+            Ending::Ran(outcome)
         }
         Err(refusal) => Ending::Refused(refusal),
     }

@@ -162,7 +162,8 @@ fn arguments_are_refused_in_order(rt: HostRuntime) -> Result<(), Fail> {
 fn recoded(alloc: Global, task: &Task, input: &[u8]) -> Result<(Vec<u8>, bool), Fail> {
     let mut out = Vec::new(alloc);
     let mut writer = FromWrite::new(&mut out);
-    match recode_part(task, FromRead::new(input), &mut writer) {
+    let (_reader, outcome) = recode_part(task, FromRead::new(input), &mut writer);
+    match outcome {
         Ok(replaced) => Ok((out, replaced)),
         Err(_) => Err(Fail::new("a device fails that cannot")),
     }
@@ -178,6 +179,9 @@ fn a_run_recodes_the_bytes_of_its_part(rt: HostRuntime) -> Result<(), Fail> {
     };
     let (out, replaced) = recoded(rt.alloc(), &task, b"\xC3\xA9a\n")?;
     assert!(rt; (out.as_slice(), replaced) == (b"\xE9a".as_slice(), false));
+    task.length = Some(1);
+    let (out, _) = recoded(rt.alloc(), &task, b"ab")?;
+    assert!(rt; out.as_slice() == b"a".as_slice());
     task.length = Some(0);
     let (out, _) = recoded(rt.alloc(), &task, b"a")?;
     assert!(rt; out.is_empty());
