@@ -23,11 +23,9 @@ fn words(rt: &HostRuntime) -> io::Result<Option<(String, String)>> {
 
 /// Writes to standard error why a run has stopped, unless it has reached the end of the input.
 fn report(rt: &HostRuntime, outcome: &Result<bool, RecodeFault>) {
-    let _ = match outcome {
-        Ok(_) => Ok(()),
-        Err(RecodeFault::Read) => eprintln!(rt; "recode: read failed"),
-        Err(RecodeFault::Write) => eprintln!(rt; "recode: write failed"),
-    };
+    if let Err(fault) = outcome {
+        let _ = eprintln!(rt; "recode: {fault}");
+    }
 }
 
 fn main(rt: HostRuntime) -> ExitCode {

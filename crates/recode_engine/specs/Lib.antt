@@ -1,3 +1,4 @@
 pub mod Run
 pub mod Labels
 pub mod Status
+pub mod Fault

@@ -35,11 +35,17 @@ fn numbers() -> (u8, u8)
 }
 
 impl fmt::Display for RecodeFault {
+    ghost use Rattle.std.specs.Prelude.{Some};
+    ghost use Rattle.recode_engine.specs.Fault.{recode_fault_text};
+
+    ghost output = { λ fault. Some (recode_fault_text fault) };
+
+    /// Writes which side has failed: a phrase in lower case, without a full stop.
     fn fmt<W: fmt::Write>(&self, f: &mut fmt::Formatter<W>) -> fmt::Result {
-        match self {
-            RecodeFault::Read => write!(f, "read failed"),
-            RecodeFault::Write => write!(f, "write failed"),
-        }
+        f.write_str(match self {
+            RecodeFault::Read => "read failed",
+            RecodeFault::Write => "write failed",
+        })
     }
 }
 

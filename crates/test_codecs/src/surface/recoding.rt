@@ -18,6 +18,9 @@ fn faults_of_a_run_are_compared_and_printed(rt: HostRuntime) -> Result<(), Fail>
     assert!(rt; (RecodeFault::Read as u8, RecodeFault::Write as u8) == (1, 2));
     let text = debug_text(rt.alloc(), &RecodeFault::Write)?;
     assert!(rt; text.as_str() == "Write");
+    let read = format!(in rt.alloc(); "{}", RecodeFault::Read)?;
+    let write = format!(in rt.alloc(); "{}", RecodeFault::Write)?;
+    assert!(rt; (read.as_str(), write.as_str()) == ("read failed", "write failed"));
     Ok(())
 }
 
