@@ -2,4 +2,5 @@ pub mod SinkLemmas
 pub mod EncodingLemmas
 pub mod UnencodedLemmas
 pub mod WritingLemmas
+pub mod StoppingLemmas
 pub mod ReportLemmas

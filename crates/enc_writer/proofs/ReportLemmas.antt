@@ -1,5 +1,5 @@
 -- Calls of a writer that report unmappable characters.
-use Rattle.std.proofs.Common.{◌≡◌, ℕ, ◌+◌, Bool, true, false, not}
+use Rattle.std.proofs.Common.{◌≡◌, ℕ, ◌+◌, Bool, false, not}
 use Rattle.std.proofs.Common.{◌||◌, is_some, Option, Some, None, List, [], ◌∷◌}
 use Rattle.std.proofs.Common.{◌++◌, take, drop, refl, ap, ◌∙◌, sym, append_assoc, append-nil}
 use Rattle.std.proofs.Math.Seq.{take-add}
@@ -20,12 +20,14 @@ use Rattle.enc_stream.specs.Encodings.{output_rule}
 use Rattle.enc_stream.specs.Encoder.{EncoderState, EncodesChunk, raw_state}
 use Rattle.enc_writer.specs.Sink.{AppendsPrefix}
 use Rattle.enc_writer.specs.EncodedText.{bytes_from_state}
-use Rattle.enc_writer.specs.Writing.{WriterState, PushesBytes, HasWrittenText}
-use Rattle.enc_writer.specs.Writing.{TakesPrefix, WritesText, flag_after, owed_bytes}
+use Rattle.enc_writer.specs.Writing.{WriterState, PushesBytes}
+use Rattle.enc_writer.specs.Writing.{WritesText}
+use Rattle.enc_writer.specs.Stopping.{HasStopped}
 use Rattle.enc_writer.specs.Reporting.{ReportsText}
 use Rattle.enc_writer.proofs.SinkLemmas.{AppendsContents-none, AppendsContents-then}
 use Rattle.enc_writer.proofs.EncodingLemmas.{not_ended}
 use Rattle.enc_writer.proofs.WritingLemmas.{WritesText-alone, or_false}
+use Rattle.enc_writer.proofs.StoppingLemmas.{SameState, same_state}
 
 -- the steps of a call, by why it stopped
 
@@ -157,21 +159,28 @@ module _ {k₀ k₁ k₂ : Option (List ℕ)} {a b c : WriterState} where
       }
 
 -- a part is taken, and a push of the bytes held fails
-pub TakesPrefix-reported : {k₀ k₁ k₂ : Option (List ℕ)} {a b : WriterState} {t u : List ℕ}
-    → ReportsText k₀ k₁ a b t u OutputFull → AppendsPrefix k₁ k₂ b.held
-    → TakesPrefix k₀ k₂ a t false
-TakesPrefix-reported {k₀} {k₁} {k₂} {a} {b} {u = u} first part = record {
-  pushed = first.pushed ++ part.wrote;
-  taken = AppendsContents-then k₀ k₁ k₂ first.pushed part.wrote first.taken part.taken;
-  prefix = λ z ends.
-      let later = bytes_from_state b.encoder (u ++ z) in (
-        part.unwritten ++ later,
-        first.owed z
-            ∙ ap (λ x. first.pushed ++ x) (ap (λ x. x ++ later) part.prefix
-            ∙ append_assoc part.wrote part.unwritten later)
-            ∙ sym (append_assoc first.pushed part.wrote (part.unwritten ++ later)),
-      );
-}
+pub HasStopped-reported : {k₀ k₁ k₂ : Option (List ℕ)} {a b c : WriterState} {t u : List ℕ}
+    → ReportsText k₀ k₁ a b t u OutputFull → b.had_unmappables ≡ a.had_unmappables
+    → AppendsPrefix k₁ k₂ b.held → SameState b c → HasStopped k₀ k₂ a c t false
+HasStopped-reported {k₀} {k₁} {k₂} {a} {b} {c} {t} {u} first had part same =
+    same_state (λ w. HasStopped k₀ k₂ a w t false) b c same (record {
+      encoding = first.encoding;
+      barred = first.barred;
+      front = first.front;
+      rest = u;
+      reads = first.reads;
+      flag = had ∙ or_false a.had_unmappables
+          ∙ ap (λ x. a.had_unmappables || x) (sym (first.mappable (λ x e. cc)));
+      pushed = first.pushed ++ part.wrote;
+      lost = part.unwritten;
+      taken = AppendsContents-then k₀ k₁ k₂ first.pushed part.wrote first.taken part.taken;
+      owed = λ z ends.
+          let later = bytes_from_state b.encoder (u ++ z) in
+          first.owed z
+          ∙ ap (λ x. first.pushed ++ x) (ap (λ x. x ++ later) part.prefix
+          ∙ append_assoc part.wrote part.unwritten later)
+          ∙ sym (append_assoc first.pushed part.wrote (part.unwritten ++ later));
+    })
 
 -- all of a text is taken
 module _ {k₀ k₁ : Option (List ℕ)} {a b : WriterState} {t : List ℕ}

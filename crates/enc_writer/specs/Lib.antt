@@ -1,5 +1,7 @@
 pub mod Sink
+pub mod Faults
 pub mod EncodedText
 pub mod Writing
+pub mod Stopping
 pub mod Reporting
 pub mod Writer

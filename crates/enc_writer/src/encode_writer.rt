@@ -1,7 +1,8 @@
 //! The writer of text.
 
 ghost use Rattle.std.specs.Prelude.{◌≡◌, ◌↔◌, ◌+◌, ◌≤◌, length, drop, [], true, false, ◌++◌, chars};
-ghost use Rattle.std.specs.Prelude.{IfOk, OnOk, OnErr, IsErrOf, IfErr, IfSome, IfNone};
+ghost use Rattle.std.specs.Prelude.{◌≢◌, IfOk, OnOk, OnErr, OnSome, IsErrOf, IfErr, IfSome, IfNone, Some};
+ghost use Rattle.std.specs.IoError.{error_kind};
 ghost use Rattle.std.specs.Str.{IsCharBoundary};
 ghost use Rattle.std.specs.Char.Utf16.{utf16_lossy_chars};
 
@@ -11,7 +12,8 @@ use crate::pushing::push_both;
 use crate::sink::Sink;
 use crate::unencoded::unencoded_len;
 use enc_stream::{CoderResult, Encoder, EncoderResult, Encoding};
-use std::fmt;
+use std::io::ErrorKind;
+use std::{fmt, io};
 
 /// The least room for a call of the encoder: four bytes, and ten that it keeps free for references.
 const LEAST_ROOM: usize = 14;
@@ -47,7 +49,8 @@ impl<'a, W: Sink> EncodeWriter<'a, W> {
     ghost use Rattle.enc_stream.specs.Encoder.{raw_state, whole_bytes, LeavesFewerSteps};
     ghost use Rattle.enc_writer.specs.Sink.{AppendsContents, AppendsPrefix};
     ghost use Rattle.enc_writer.specs.Writing.{WritesText, EndsText, HasEncoded};
-    ghost use Rattle.enc_writer.specs.Writing.{PushesBytes, StopsWithin, TakesPrefix};
+    ghost use Rattle.enc_writer.specs.Writing.{PushesBytes, StopsWithin};
+    ghost use Rattle.enc_writer.specs.Stopping.{HasStopped, StopsText};
     ghost use Rattle.enc_writer.specs.Writing.{ended_writer, flag_after, fresh_writer, owed_bytes};
     ghost use Rattle.enc_writer.specs.Reporting.{ReportsText};
     ghost use Rattle.enc_writer.specs.Writer.{writer_of};
@@ -93,6 +96,8 @@ impl<'a, W: Sink> EncodeWriter<'a, W> {
         ensures going { OnOk result (self.new.failed ≡ false) }
         ensures err { OnErr result (AppendsPrefix (W.contents self.old.writer.now)
             (W.contents self.new.writer.now) ((writer_of self.old).held ++ bytes.now)) }
+        ensures encoder { self.new.encoder ≡ self.old.encoder }
+        ensures flag { self.new.had_unmappables ≡ self.old.had_unmappables }
         ensures sink_failed { OnErr result (W.has_failed self.new.writer.now ≡ true) }
         ensures failed { OnErr result (self.new.failed ≡ true) }
         ensures fault { IfErr result (λ fault. fault ≡ WriteFault.Writer) }
@@ -117,6 +122,8 @@ impl<'a, W: Sink> EncodeWriter<'a, W> {
         ensures going { OnOk result (self.new.failed ≡ false) }
         ensures err { OnErr result (AppendsPrefix (W.contents self.old.writer.now)
             (W.contents self.new.writer.now) ((writer_of self.old).held ++ bytes.now)) }
+        ensures encoder { self.new.encoder ≡ self.old.encoder }
+        ensures flag { self.new.had_unmappables ≡ self.old.had_unmappables }
         ensures sink_failed { OnErr result (W.has_failed self.new.writer.now ≡ true) }
         ensures failed { OnErr result (self.new.failed ≡ true) }
         ensures fault { IfErr result (λ fault. fault ≡ WriteFault.Writer) }
@@ -139,6 +146,8 @@ impl<'a, W: Sink> EncodeWriter<'a, W> {
         ensures going { OnOk result (self.new.failed ≡ false) }
         ensures err { OnErr result (AppendsPrefix (W.contents self.old.writer.now)
             (W.contents self.new.writer.now) (writer_of self.old).held) }
+        ensures encoder { self.new.encoder ≡ self.old.encoder }
+        ensures flag { self.new.had_unmappables ≡ self.old.had_unmappables }
         ensures sink_failed { OnErr result (W.has_failed self.new.writer.now ≡ true) }
         ensures failed { OnErr result (self.new.failed ≡ true) }
         ensures fault { IfErr result (λ fault. fault ≡ WriteFault.Writer) }
@@ -184,8 +193,9 @@ impl<'a, W: Sink> EncodeWriter<'a, W> {
         ensures kept { OnOk result (W.has_failed self.new.writer.now
             ≡ W.has_failed self.old.writer.now) }
         ensures going { OnOk result (self.new.failed ≡ false) }
-        ensures err { OnErr result (TakesPrefix (W.contents self.old.writer.now)
-            (W.contents self.new.writer.now) (writer_of self.old) (chars text.now) last) }
+        ensures err { OnErr result (HasStopped (W.contents self.old.writer.now)
+            (W.contents self.new.writer.now) (writer_of self.old) (writer_of self.new)
+            (chars text.now) last) }
         ensures sink_failed { OnErr result (W.has_failed self.new.writer.now ≡ true) }
         ensures failed { OnErr result (self.new.failed ≡ true) }
         ensures fault { IfErr result (λ fault. fault ≡ WriteFault.Writer) }
@@ -221,6 +231,9 @@ impl<'a, W: Sink> EncodeWriter<'a, W> {
         ensures going { OnOk result (self.new.failed ≡ false) }
         ensures err { OnErr result (StopsWithin (W.contents self.old.writer.now)
             (W.contents self.new.writer.now) (writer_of self.old) (chars text.now) false) }
+        ensures stopped { OnErr result (StopsText (W.contents self.old.writer.now)
+            (W.contents self.new.writer.now) (writer_of self.old) (writer_of self.new)
+            (chars text.now) false) }
         ensures sink_failed { OnErr result (W.has_failed self.new.writer.now ≡ true) }
         ensures failed { OnErr result (self.new.failed ≡ true) }
         ensures from_then_on { IsErrOf result WriteFault.Failed ↔ self.old.failed ≡ true }
@@ -273,6 +286,9 @@ impl<'a, W: Sink> EncodeWriter<'a, W> {
         ensures err { OnErr result (StopsWithin (W.contents self.old.writer.now)
             (W.contents self.new.writer.now) (writer_of self.old) (utf16_lossy_chars text.now)
             false) }
+        ensures stopped { OnErr result (StopsText (W.contents self.old.writer.now)
+            (W.contents self.new.writer.now) (writer_of self.old) (writer_of self.new)
+            (utf16_lossy_chars text.now) false) }
         ensures sink_failed { OnErr result (W.has_failed self.new.writer.now ≡ true) }
         ensures failed { OnErr result (self.new.failed ≡ true) }
         ensures from_then_on { IsErrOf result WriteFault.Failed ↔ self.old.failed ≡ true }
@@ -346,6 +362,9 @@ impl<'a, W: Sink> EncodeWriter<'a, W> {
         ensures going { OnOk result (self.new.failed ≡ false) }
         ensures err { OnErr result (StopsWithin (W.contents self.old.writer.now)
             (W.contents self.new.writer.now) (writer_of self.old) (chars text.now) false) }
+        ensures stopped { OnErr result (StopsText (W.contents self.old.writer.now)
+            (W.contents self.new.writer.now) (writer_of self.old) (writer_of self.new)
+            (chars text.now) false) }
         ensures sink_failed { OnErr result (W.has_failed self.new.writer.now ≡ true) }
         ensures failed { OnErr result (self.new.failed ≡ true) }
         ensures from_then_on { IsErrOf result WriteFault.Failed ↔ self.old.failed ≡ true }
@@ -374,7 +393,59 @@ impl<'a, W: Sink> EncodeWriter<'a, W> {
         }
     }
 
-    /// Pushes the bytes held.
+    /// Pushes the bytes held. The sink is not flushed.
+    ///
+    /// No escape sequence is added: in ISO-2022-JP the bytes pushed may end in another character
+    /// set than ASCII.
+    ///
+    /// Errors: `Writer` if the sink failed in this call, and `Failed` in each later call. The sink
+    /// has taken a prefix of the bytes of all text written, and nothing more is written.
+    pub fn push_held(&mut self) -> Result<(), WriteFault>
+        ensures ok { OnOk result (WritesText (W.contents self.old.writer.now)
+            (W.contents self.new.writer.now) (writer_of self.old) (writer_of self.new) []) }
+        ensures none_held { OnOk result (writer_of self.new
+            ≡ record (writer_of self.old) { held = [] }) }
+        ensures kept { OnOk result (W.has_failed self.new.writer.now
+            ≡ W.has_failed self.old.writer.now) }
+        ensures going { OnOk result (self.new.failed ≡ false) }
+        ensures err { OnErr result (StopsWithin (W.contents self.old.writer.now)
+            (W.contents self.new.writer.now) (writer_of self.old) [] false) }
+        ensures stopped { OnErr result (StopsText (W.contents self.old.writer.now)
+            (W.contents self.new.writer.now) (writer_of self.old) (writer_of self.new)
+            [] false) }
+        ensures sink_failed { OnErr result (W.has_failed self.new.writer.now ≡ true) }
+        ensures failed { OnErr result (self.new.failed ≡ true) }
+        ensures from_then_on { IsErrOf result WriteFault.Failed ↔ self.old.failed ≡ true }
+        ensures unchanged { IsErrOf result WriteFault.Failed → self.new ≡ self.old }
+        ensures same_writer { self.new.writer.ghost_name ≡ self.old.writer.ghost_name }
+    {
+        if self.failed {
+            return Err(WriteFault::Failed);
+        }
+        self.push(b"")
+    }
+
+    /// Flushes the sink. After an `Err`, which is `Writer`, the sink has failed.
+    fn flush_sink(&mut self) -> Result<(), WriteFault>
+        requires going { self.old.failed ≡ false }
+        ensures contents { W.contents self.new.writer.now ≡ W.contents self.old.writer.now }
+        ensures unchanged { writer_of self.new ≡ writer_of self.old }
+        ensures kept { OnOk result (W.has_failed self.new.writer.now
+            ≡ W.has_failed self.old.writer.now) }
+        ensures going { OnOk result (self.new.failed ≡ false) }
+        ensures sink_failed { OnErr result (W.has_failed self.new.writer.now ≡ true) }
+        ensures failed { OnErr result (self.new.failed ≡ true) }
+        ensures fault { IfErr result (λ fault. fault ≡ WriteFault.Writer) }
+        ensures same_writer { self.new.writer.ghost_name ≡ self.old.writer.ghost_name }
+    {
+        let Ok(()) = self.writer.flush() else {
+            self.failed = true;
+            return Err(WriteFault::Writer);
+        };
+        Ok(())
+    }
+
+    /// Pushes the bytes held, and flushes the sink.
     ///
     /// No escape sequence is added: in ISO-2022-JP the bytes pushed may end in another character
     /// set than ASCII.
@@ -391,6 +462,40 @@ impl<'a, W: Sink> EncodeWriter<'a, W> {
         ensures going { OnOk result (self.new.failed ≡ false) }
         ensures err { OnErr result (StopsWithin (W.contents self.old.writer.now)
             (W.contents self.new.writer.now) (writer_of self.old) [] false) }
+        ensures stopped { OnErr result (StopsText (W.contents self.old.writer.now)
+            (W.contents self.new.writer.now) (writer_of self.old) (writer_of self.new)
+            [] false) }
+        ensures sink_failed { OnErr result (W.has_failed self.new.writer.now ≡ true) }
+        ensures failed { OnErr result (self.new.failed ≡ true) }
+        ensures from_then_on { IsErrOf result WriteFault.Failed ↔ self.old.failed ≡ true }
+        ensures unchanged { IsErrOf result WriteFault.Failed → self.new ≡ self.old }
+        ensures same_writer { self.new.writer.ghost_name ≡ self.old.writer.ghost_name }
+    {
+        self.push_held()?;
+        self.flush_sink()
+    }
+
+    /// Ends the text: writes the last escape sequence, if one is due, and pushes the bytes held. The
+    /// sink is not flushed.
+    ///
+    /// Returns whether a character was unmappable since [`EncodeWriter::new`]. The writer is then
+    /// at the start of another text.
+    ///
+    /// Errors: `Writer` if the sink failed in this call, and `Failed` in each later call. The sink
+    /// has taken a prefix of the bytes of the text, and nothing more is written.
+    pub fn end_text(&mut self) -> Result<bool, WriteFault>
+        ensures ok { OnOk result (EndsText (W.contents self.old.writer.now)
+            (W.contents self.new.writer.now) (writer_of self.old)) }
+        ensures flag { IfOk result (λ had. had ≡ self.old.had_unmappables) }
+        ensures ended { OnOk result (writer_of self.new ≡ ended_writer (writer_of self.old)) }
+        ensures kept { OnOk result (W.has_failed self.new.writer.now
+            ≡ W.has_failed self.old.writer.now) }
+        ensures going { OnOk result (self.new.failed ≡ false) }
+        ensures err { OnErr result (StopsWithin (W.contents self.old.writer.now)
+            (W.contents self.new.writer.now) (writer_of self.old) [] true) }
+        ensures stopped { OnErr result (StopsText (W.contents self.old.writer.now)
+            (W.contents self.new.writer.now) (writer_of self.old) (writer_of self.new)
+            [] true) }
         ensures sink_failed { OnErr result (W.has_failed self.new.writer.now ≡ true) }
         ensures failed { OnErr result (self.new.failed ≡ true) }
         ensures from_then_on { IsErrOf result WriteFault.Failed ↔ self.old.failed ≡ true }
@@ -400,10 +505,13 @@ impl<'a, W: Sink> EncodeWriter<'a, W> {
         if self.failed {
             return Err(WriteFault::Failed);
         }
-        self.push(b"")
+        self.encode("", true)?;
+        self.push(&[])?;
+        Ok(self.had_unmappables)
     }
 
-    /// Ends the text: writes the last escape sequence, if one is due, and pushes the bytes held.
+    /// Ends the text: writes the last escape sequence, if one is due, pushes the bytes held, and
+    /// flushes the sink.
     ///
     /// Returns whether a character was unmappable since [`EncodeWriter::new`]. The writer is then
     /// at the start of another text.
@@ -420,18 +528,18 @@ impl<'a, W: Sink> EncodeWriter<'a, W> {
         ensures going { OnOk result (self.new.failed ≡ false) }
         ensures err { OnErr result (StopsWithin (W.contents self.old.writer.now)
             (W.contents self.new.writer.now) (writer_of self.old) [] true) }
+        ensures stopped { OnErr result (StopsText (W.contents self.old.writer.now)
+            (W.contents self.new.writer.now) (writer_of self.old) (writer_of self.new)
+            [] true) }
         ensures sink_failed { OnErr result (W.has_failed self.new.writer.now ≡ true) }
         ensures failed { OnErr result (self.new.failed ≡ true) }
         ensures from_then_on { IsErrOf result WriteFault.Failed ↔ self.old.failed ≡ true }
         ensures unchanged { IsErrOf result WriteFault.Failed → self.new ≡ self.old }
         ensures same_writer { self.new.writer.ghost_name ≡ self.old.writer.ghost_name }
     {
-        if self.failed {
-            return Err(WriteFault::Failed);
-        }
-        self.encode("", true)?;
-        self.push(&[])?;
-        Ok(self.had_unmappables)
+        let had_unmappables = self.end_text()?;
+        self.flush_sink()?;
+        Ok(had_unmappables)
     }
 
     /// Ends the writer, and returns the sink. The bytes held stay unwritten.
@@ -441,6 +549,18 @@ impl<'a, W: Sink> EncodeWriter<'a, W> {
     {
         let EncodeWriter { writer, .. } = self;
         writer
+    }
+
+    /// Returns the error for which the sink has failed, if the sink keeps it.
+    ///
+    /// A [`crate::FromWrite`] keeps it: a full disk, for one, is an error of kind `StorageFull`. A
+    /// [`WriteFault`] names no cause.
+    pub fn error(&self) -> Option<io::Error>
+        ensures kept { IfSome result (λ e. W.error self.now.writer.now ≡ Some e) }
+        ensures failed { OnSome result (self.now.failed ≡ true) }
+        ensures retried { IfSome result (λ e. error_kind e ≢ ErrorKind.Interrupted) }
+    {
+        self.writer.error()
     }
 
     /// Returns the encoding that it writes, which is an output encoding.

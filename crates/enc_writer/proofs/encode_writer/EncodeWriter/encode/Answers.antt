@@ -2,7 +2,8 @@ use Rattle.std.proofs.Common.{rules, ◌≡◌, refl, ap, chars}
 use Rattle.enc_units.specs.declared.coder_result.CoderResult.TheVariants.{InputEmpty}
 use Rattle.enc_writer.specs.Writer.{writer_of}
 use Rattle.enc_writer.proofs.SinkLemmas.{on_err}
-use Rattle.enc_writer.proofs.WritingLemmas.{HasEncoded-none, HasEncoded-push, HasEncoded-then, TakesPrefix-held}
+use Rattle.enc_writer.proofs.WritingLemmas.{HasEncoded-none, HasEncoded-push, HasEncoded-then}
+use Rattle.enc_writer.proofs.StoppingLemmas.{HasStopped-held}
 use Rattle.enc_writer.proofs.encode_writer.EncodeWriter.encode.Goals as goal
 
 pub calls-init : goal.calls-init
@@ -19,7 +20,8 @@ calls-init g c = (
 pub returns-in_err-make_room-clause-err : goal.returns-in_err-make_room-clause-err
 returns-in_err-make_room-clause-err g c =
     on_err c.from_residual.result _
-    (TakesPrefix-held c.calls.invariant.1.encoded c.in_err-make_room.ensures.err)
+    (HasStopped-held c.calls.invariant.1.encoded c.in_err-make_room.ensures.err
+    (c.in_err-make_room.ensures.encoder, c.in_err-make_room.ensures.flag))
 
 pub returns-then-eq-clause-ok : goal.returns-then-eq-clause-ok
 returns-then-eq-clause-ok g c =

@@ -1,4 +1,4 @@
-use Rattle.std.proofs.Common.{rules, refl, ◌∙◌}
+use Rattle.std.proofs.Common.{refl, ◌∙◌}
 use Rattle.enc_encoder.specs.Steps.{step_chars}
 use Rattle.enc_stream.proofs.UnreadTextLemmas.{chars_after}
 use Rattle.enc_writer.proofs.ReportLemmas.{ReportsText-call, none_left}

@@ -1,4 +1,4 @@
-use Rattle.std.proofs.Common.{rules, ◌≡◌, ◌≤◌, ◌+◌, ◌-◌, refl, ap, sym, ◌∙◌}
+use Rattle.std.proofs.Common.{rules, ◌≡◌, ◌+◌, refl, ap, ◌∙◌}
 use Rattle.std.proofs.Common.{subst, chars, drop, length, arith, false, true, IsUtf8}
 use Rattle.std.proofs.Math.ListN.{length-drop}
 use Rattle.std.proofs.lemmas.List.{drop-drop}
@@ -6,14 +6,20 @@ use Rattle.std.proofs.lemmas.Str.{IsCharBoundary-from_drop, IsUtf8-drop}
 use Rattle.enc_units.specs.declared.encoder_result.EncoderResult.TheVariants.{InputEmpty, OutputFull, Unmappable}
 use Rattle.enc_writer.specs.Writer.{writer_of}
 use Rattle.enc_writer.proofs.SinkLemmas.{on_err}
-use Rattle.enc_writer.proofs.WritingLemmas.{PushesBytes-none, StopsWithin-by, StopsWithin-none}
+use Rattle.enc_writer.proofs.WritingLemmas.{PushesBytes-none}
+use Rattle.enc_writer.proofs.StoppingLemmas.{HasStopped-none, StopsText-by, StopsWithin-stopped}
 use Rattle.enc_writer.proofs.ReportLemmas.{ReportsText-push, ReportsText-then, ReportsText-flag}
-use Rattle.enc_writer.proofs.ReportLemmas.{WritesText-reported, TakesPrefix-reported, none_unmappable}
+use Rattle.enc_writer.proofs.ReportLemmas.{WritesText-reported, HasStopped-reported, none_unmappable}
 use Rattle.enc_writer.proofs.encode_writer.EncodeWriter.write_str_without_replacement.Goals as goal
 
 pub returns-then-self-clause-err : goal.returns-then-self-clause-err
 returns-then-self-clause-err g c =
-    StopsWithin-none _ (writer_of c.args.self.now) (chars c.args.text.now) false
+    StopsWithin-stopped _
+    (HasStopped-none _ (writer_of c.args.self.now) (chars c.args.text.now) false)
+
+pub returns-then-self-clause-stopped : goal.returns-then-self-clause-stopped
+returns-then-self-clause-stopped g c =
+    StopsText-by (HasStopped-none _ (writer_of c.args.self.now) (chars c.args.text.now) false)
 
 pub calls-init : goal.calls-init
 calls-init g c = (
@@ -33,8 +39,16 @@ calls-init g c = (
 pub returns-in_err-make_room-clause-err : goal.returns-in_err-make_room-clause-err
 returns-in_err-make_room-clause-err g c =
     on_err c.from_residual.result _
-    (StopsWithin-by
-    (TakesPrefix-reported c.calls.invariant.1.reports c.in_err-make_room.ensures.err))
+    (StopsWithin-stopped (writer_of c.make_room.new.self)
+    (HasStopped-reported c.calls.invariant.1.reports c.calls.invariant.1.had
+    c.in_err-make_room.ensures.err (c.in_err-make_room.ensures.encoder, c.in_err-make_room.ensures.flag)))
+
+pub returns-in_err-make_room-clause-stopped : goal.returns-in_err-make_room-clause-stopped
+returns-in_err-make_room-clause-stopped g c =
+    on_err c.from_residual.result _
+    (StopsText-by
+    (HasStopped-reported c.calls.invariant.1.reports c.calls.invariant.1.had
+    c.in_err-make_room.ensures.err (c.in_err-make_room.ensures.encoder, c.in_err-make_room.ensures.flag)))
 
 pub overflow_add-taken : goal.overflow_add-taken
 overflow_add-taken g c =
