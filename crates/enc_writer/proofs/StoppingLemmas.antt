@@ -196,3 +196,8 @@ pub StopsWithin-stopped : {k₀ k₁ : Option (List ℕ)} {a : WriterState} (c :
     {last : Bool} → HasStopped k₀ k₁ a c t last → StopsWithin k₀ k₁ a t last
 StopsWithin-stopped c stopped k start before first =
     TakesPrefix-stopped ((StopsText-by stopped).after k start before first)
+
+-- no call is made
+pub StopsWithin-none : (k : Option (List ℕ)) (w : WriterState) (t : List ℕ) (last : Bool)
+    → StopsWithin k k w t last
+StopsWithin-none k w t last = StopsWithin-stopped w (HasStopped-none k w t last)
