@@ -1,6 +1,7 @@
 -- Successive steps of a writer are one, and what they say of the whole text.
 use Rattle.std.proofs.Common.{◌≡◌, ℕ, ◌+◌, Bool, true, false, ◌||◌, Option, List, [], ◌++◌, take, drop}
-use Rattle.std.proofs.Common.{refl, ap, ◌∙◌, sym, subst, append_assoc, append-nil}
+use Rattle.std.proofs.Common.{refl, ap, ◌∙◌, sym, subst, append_assoc, append-nil, arith, length, length-append, length-drop, ◌≤◌}
+use Rattle.std.proofs.lemmas.List.{length-take-le}
 use Rattle.std.proofs.Math.Seq.{take-add}
 use Rattle.std.proofs.Math.Bool.{or_assoc}
 use Rattle.enc_units.specs.declared.coder_result.CoderResult.{CoderResult}
@@ -108,6 +109,34 @@ module _ (k : Option (List ℕ)) {old new : EncoderState} (had : Bool) (held wri
         ∙ ap (λ h. h ++ take written (drop held after)) (sym held_stay)
         ∙ sym (take-add held written after);
   }
+
+-- The bytes in the buffer and those still to write are as many as before the call.
+pub bytes_left : (old new : EncoderState) (result : CoderResult) {units_of : ℕ → List ℕ}
+    {c : CallInMode} {left : List ℕ} (held written : ℕ) (after : List ℕ) → c.mode ≡ html_mode old
+    → c.result ≡ encoder_result_of result → (encodes : EncodesChunk units_of old new c)
+    → c.wrote ≡ take written (drop held after) → held + written ≤ length after
+    → left ≡ encodes.rest
+    → (held + written) + length (bytes_from_state new left)
+    ≡ held + length (bytes_from_state old c.src)
+bytes_left old new result {c = c} held written after is_html result_is encodes wrote_is within
+    left_is =
+    let residual = (EncodesText-call (text_to_encode old c.src) result is_html result_is refl
+    encodes).residual [] (λ _. refl) in
+    let all : bytes_from_state old c.src ≡ c.wrote ++ bytes_from_state new encodes.rest =
+    ap (bytes_from_state old) (sym (append-nil c.src)) ∙ residual
+    ∙ ap (λ t. c.wrote ++ bytes_from_state new t) (append-nil encodes.rest) in
+    let lengths = ap length all ∙ length-append c.wrote (bytes_from_state new encodes.rest) in
+    let count : length c.wrote ≡ written =
+    ap length wrote_is ∙ length-take-le written (drop held after)
+    (omega (arith, length-drop held after)) in
+    let rest_is = ap (λ t. length (bytes_from_state new t)) left_is in
+    omega (arith, lengths, count, rest_is)
+
+-- Bytes that fit leave room after those held.
+pub room_left : (filled len : ℕ) (output bytes : List ℕ) → filled ≤ length output
+    → length (take filled output ++ bytes) + 14 ≤ len → filled + length bytes + 14 ≤ len
+room_left filled len output bytes within fits =
+    omega (arith, length-append (take filled output) bytes, length-take-le filled output within)
 
 module _ {k₀ k₁ k₂ : Option (List ℕ)} {a b c : WriterState} where
   pub HasEncoded-then : {t u v : List ℕ} {last : Bool} → HasEncoded k₀ k₁ a b t u last

@@ -1,6 +1,6 @@
 //! The writer of text.
 
-ghost use Rattle.std.specs.Prelude.{◌≡◌, ◌↔◌, ◌+◌, ◌≤◌, length, drop, [], true, false, ◌++◌, chars};
+ghost use Rattle.std.specs.Prelude.{◌≡◌, ◌↔◌, ◌+◌, ◌<◌, ◌≤◌, length, drop, [], true, false, ◌++◌, chars};
 ghost use Rattle.std.specs.Prelude.{◌≢◌, IfOk, OnOk, OnErr, OnSome, IsErrOf, IfErr, IfSome, IfNone, Some};
 ghost use Rattle.std.specs.IoError.{error_kind};
 ghost use Rattle.std.specs.Str.{IsCharBoundary};
@@ -52,6 +52,8 @@ impl<'a, W: Sink> EncodeWriter<'a, W> {
     ghost use Rattle.enc_writer.specs.Writing.{PushesBytes, StopsWithin};
     ghost use Rattle.enc_writer.specs.Stopping.{HasStopped, StopsText};
     ghost use Rattle.enc_writer.specs.Writing.{ended_writer, flag_after, fresh_writer, owed_bytes};
+    ghost use Rattle.enc_writer.specs.Writing.{FitsInBuffer};
+    ghost use Rattle.enc_writer.specs.EncodedText.{bytes_from_state};
     ghost use Rattle.enc_writer.specs.Reporting.{ReportsText};
     ghost use Rattle.enc_writer.specs.Writer.{writer_of};
 
@@ -127,6 +129,7 @@ impl<'a, W: Sink> EncodeWriter<'a, W> {
         ensures sink_failed { OnErr result (W.has_failed self.new.writer.now ≡ true) }
         ensures failed { OnErr result (self.new.failed ≡ true) }
         ensures fault { IfErr result (λ fault. fault ≡ WriteFault.Writer) }
+        ensures none { length bytes.now ≡ 0 → self.new ≡ self.old }
         ensures same_writer { self.new.writer.ghost_name ≡ self.old.writer.ghost_name }
     {
         if bytes.is_empty() {
@@ -151,6 +154,8 @@ impl<'a, W: Sink> EncodeWriter<'a, W> {
         ensures sink_failed { OnErr result (W.has_failed self.new.writer.now ≡ true) }
         ensures failed { OnErr result (self.new.failed ≡ true) }
         ensures fault { IfErr result (λ fault. fault ≡ WriteFault.Writer) }
+        ensures no_push { self.old.filled + 14 ≤ length self.old.output.now
+            → self.new ≡ self.old }
         ensures same_writer { self.new.writer.ghost_name ≡ self.old.writer.ghost_name }
     {
         if self.output.len() - self.filled >= LEAST_ROOM {
@@ -173,6 +178,10 @@ impl<'a, W: Sink> EncodeWriter<'a, W> {
         ensures progress { (result.0 ≡ CoderResult.InputEmpty → ⊥) →
             LeavesFewerSteps self.old.encoder self.new.encoder last
             (chars text.now) (chars (drop result.1 text.now)) }
+        ensures length { length self.new.output.now ≡ length self.old.output.now }
+        ensures filled { self.new.filled
+            + length (bytes_from_state self.new.encoder (chars (drop result.1 text.now)))
+            ≡ self.old.filled + length (bytes_from_state self.old.encoder (chars text.now)) }
         ensures writer { self.new.writer ≡ self.old.writer }
         ensures failed { self.new.failed ≡ self.old.failed }
     {
@@ -199,6 +208,8 @@ impl<'a, W: Sink> EncodeWriter<'a, W> {
         ensures sink_failed { OnErr result (W.has_failed self.new.writer.now ≡ true) }
         ensures failed { OnErr result (self.new.failed ≡ true) }
         ensures fault { IfErr result (λ fault. fault ≡ WriteFault.Writer) }
+        ensures no_push { FitsInBuffer (writer_of self.old) (chars text.now)
+            (length self.old.output.now) → self.new.writer ≡ self.old.writer }
         ensures same_writer { self.new.writer.ghost_name ≡ self.old.writer.ghost_name }
     {
         let mut rest = text;
@@ -238,6 +249,10 @@ impl<'a, W: Sink> EncodeWriter<'a, W> {
         ensures failed { OnErr result (self.new.failed ≡ true) }
         ensures from_then_on { IsErrOf result WriteFault.Failed ↔ self.old.failed ≡ true }
         ensures unchanged { IsErrOf result WriteFault.Failed → self.new ≡ self.old }
+        ensures no_push { length text.now < 4096 → FitsInBuffer (writer_of self.old) (chars text.now)
+            (length self.old.output.now) → self.new.writer ≡ self.old.writer }
+        ensures no_fault { length text.now < 4096 → FitsInBuffer (writer_of self.old) (chars text.now)
+            (length self.old.output.now) → self.new.failed ≡ self.old.failed }
         ensures same_writer { self.new.writer.ghost_name ≡ self.old.writer.ghost_name }
     {
         if self.failed {
