@@ -231,3 +231,76 @@ fn the_sink_is_returned_without_the_bytes_held(rt: HostRuntime) {
     take_the_sink_back(&rt, &mut sink);
     assert!(rt; writer.taken.is_empty());
 }
+
+/// Returns a text of `len` times `a`.
+fn long_text(alloc: Global, len: usize) -> Result<String, Fail> {
+    let mut text = String::new(alloc);
+    for _ in 0..len {
+        text.push('a')?;
+    }
+    Ok(text)
+}
+
+/// Writes a text, through a buffer for twice as many bytes.
+fn write_once<S: Sink>(rt: &impl Abort, to: Encoding, text: &str, sink: &mut S) {
+    let mut buffer = [0; 8192];
+    let mut encoding = EncodeWriter::new(sink, to, &mut buffer);
+    assert!(rt; encoding.write_str(text) == Ok(()));
+}
+
+#[test]
+fn a_text_is_pushed_at_once_from_4096_bytes_on(rt: HostRuntime) -> Result<(), Fail> {
+    for to in [UTF_8, WINDOWS_1252, SHIFT_JIS] {
+        for (len, calls) in [(4095, 0), (4096, 1)] {
+            let text = long_text(rt.alloc(), len)?;
+            let mut writer = StepWriter::new(rt.alloc(), &[]);
+            let mut sink = FromWrite::new(&mut writer);
+            write_once(&rt, to, text.as_str(), &mut sink);
+            assert!(rt; writer.calls == calls);
+            assert!(rt; writer.taken.len() == calls.saturating_mul(len));
+        }
+    }
+    Ok(())
+}
+
+/// Writes a text twice, through a buffer that has room for both.
+fn write_twice<S: Sink>(rt: &impl Abort, to: Encoding, text: &str, sink: &mut S) {
+    let mut buffer = [0; 8192];
+    let mut encoding = EncodeWriter::new(sink, to, &mut buffer);
+    assert!(rt; encoding.write_str(text) == Ok(()));
+    assert!(rt; encoding.write_str(text) == Ok(()));
+}
+
+#[test]
+fn texts_that_fit_are_no_push(rt: HostRuntime) -> Result<(), Fail> {
+    for to in [UTF_8, SHIFT_JIS] {
+        let text = long_text(rt.alloc(), 4000)?;
+        let mut writer = StepWriter::new(rt.alloc(), &[]);
+        let mut sink = FromWrite::new(&mut writer);
+        write_twice(&rt, to, text.as_str(), &mut sink);
+        assert!(rt; writer.calls == 0);
+    }
+    Ok(())
+}
+
+/// Pushes a text, and writes another after it.
+fn push_a_text<S: Sink>(rt: &impl Abort, sink: &mut S) {
+    let mut buffer = [0; 64];
+    let mut encoding = EncodeWriter::new(sink, WINDOWS_1252, &mut buffer);
+    assert!(rt; encoding.write_str("é") == Ok(()));
+    assert!(rt; encoding.push_held() == Ok(()));
+    assert!(rt; encoding.write_str("Ж") == Ok(()));
+    assert!(rt; encoding.end_text() == Ok(true));
+    // a text that begins anew, of which the flag is that of both
+    assert!(rt; encoding.end_text() == Ok(true));
+    assert!(rt; encoding.had_unmappables());
+}
+
+#[test]
+fn the_flag_is_kept_after_the_end(rt: HostRuntime) {
+    let mut writer = StepWriter::new(rt.alloc(), &[]);
+    let mut sink = FromWrite::new(&mut writer);
+    push_a_text(&rt, &mut sink);
+    assert!(rt; (writer.calls, writer.flushes) == (2, 0));
+    assert!(rt; writer.taken.as_slice() == b"\xE9&#1046;".as_slice());
+}
