@@ -1,7 +1,7 @@
 //! Sinks of bytes.
 
 ghost use Rattle.std.specs.Prelude.{◌≡◌, ◌≢◌, ℕ, List, ◌≤◌, ◌<◌, ◌^◌, length, take, Option, Bool};
-ghost use Rattle.std.specs.Prelude.{true, false, None, IfOk, IfErr, OnOk, OnErr, OnSome, IsSome, IfSome};
+ghost use Rattle.std.specs.Prelude.{true, false, None, IfOk, IfErr, OnOk, OnErr, IsErr, OnSome, IsSome, IfSome};
 ghost use Rattle.std.specs.Prelude.{IfNone, IsOkAnd, IsErrAnd};
 ghost use Rattle.std.specs.Option.{ForSome};
 ghost use Rattle.std.specs.IoError.{error_kind};
@@ -204,15 +204,26 @@ impl<W: Write> FromWrite<W> {
         self.inner
     }
 
-    /// Fails with this error, and keeps it.
-    fn fail(&mut self, error: io::Error)
-        requires { error_kind error ≢ ErrorKind.Interrupted }
-        ensures failed { self.new.failed ≡ true }
-        ensures error { self.new.error ≡ Some error }
+    /// Ends a call with this outcome of the writer. After an error the sink has failed, and it keeps
+    /// this error.
+    fn end_call<T>(&mut self, outcome: io::Result<T>) -> Result<T, ()>
+        requires going { self.old.failed ≡ false }
+        requires retried { IfErr outcome (λ e. error_kind e ≢ ErrorKind.Interrupted) }
+        ensures value { IfOk outcome (λ value. result ≡ Ok value) }
+        ensures kept { OnOk outcome (self.new ≡ self.old) }
+        ensures fails { OnErr outcome (IsErr result) }
+        ensures failed { OnErr outcome (self.new.failed ≡ true) }
+        ensures error { IfErr outcome (λ e. self.new.error ≡ Some e) }
         ensures inner { self.new.inner ≡ self.old.inner }
     {
-        self.failed = true;
-        self.error = Some(error);
+        match outcome {
+            Ok(value) => Ok(value),
+            Err(error) => {
+                self.failed = true;
+                self.error = Some(error);
+                Err(())
+            }
+        }
     }
 }
 
@@ -249,13 +260,8 @@ impl<W: Write> Sink for FromWrite<W> {
         ensures retried { OnErr result
             (IfSome self.new.error (λ e. error_kind e ≢ ErrorKind.Interrupted)) }
     {
-        match write_some(&mut self.inner, buf) {
-            Ok(n) => Ok(n),
-            Err(error) => {
-                self.fail(error);
-                Err(())
-            }
-        }
+        let outcome = write_some(&mut self.inner, buf);
+        self.end_call(outcome)
     }
 
     fn failed(&self) -> bool {
@@ -275,13 +281,8 @@ impl<W: Write> Sink for FromWrite<W> {
         ensures retried { OnErr result
             (IfSome self.new.error (λ e. error_kind e ≢ ErrorKind.Interrupted)) }
     {
-        match flush_all(&mut self.inner) {
-            Ok(()) => Ok(()),
-            Err(error) => {
-                self.fail(error);
-                Err(())
-            }
-        }
+        let outcome = flush_all(&mut self.inner);
+        self.end_call(outcome)
     }
 
     /// Returns the error for which it has failed: `None` if it has not failed, or if the error was
@@ -289,6 +290,6 @@ impl<W: Write> Sink for FromWrite<W> {
     fn error(&self) -> Option<io::Error>
         ensures { result ≡ self.now.error }
     {
-        self.error
+        self.error.as_ref().copied()
     }
 }
