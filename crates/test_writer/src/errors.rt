@@ -116,3 +116,21 @@ fn the_flag_stays_after_its_reference_is_taken(rt: HostRuntime) {
     write_up_to_a_fault(&rt, &mut sink, "é日日日日日日日日", true);
     assert!(rt; writer.taken.as_slice() == b"&#233;".as_slice());
 }
+
+/// Ends a text to a sink that fails.
+fn end_to_a_fault<S: Sink>(rt: &impl Abort, sink: &mut S) {
+    let mut buffer = [0; 14];
+    let mut encoding = EncodeWriter::new(sink, SHIFT_JIS, &mut buffer);
+    assert!(rt; encoding.write_str("é") == Ok(()));
+    assert!(rt; encoding.end_text() == Err(WriteFault::Writer));
+    assert!(rt; encoding.had_unmappables() && encoding.encoding() == SHIFT_JIS);
+}
+
+#[test]
+fn the_end_keeps_the_flag_at_a_fault(rt: HostRuntime) {
+    let steps = [Step::Fail(ErrorKind::BrokenPipe)];
+    let mut writer = StepWriter::new(rt.alloc(), &steps);
+    let mut sink = FromWrite::new(&mut writer);
+    end_to_a_fault(&rt, &mut sink);
+    assert!(rt; writer.taken.is_empty());
+}
