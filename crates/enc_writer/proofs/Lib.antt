@@ -3,4 +3,5 @@ pub mod EncodingLemmas
 pub mod UnencodedLemmas
 pub mod WritingLemmas
 pub mod StoppingLemmas
+pub mod ReportStepLemmas
 pub mod ReportLemmas

@@ -4,4 +4,5 @@ pub mod EncodedText
 pub mod Writing
 pub mod Stopping
 pub mod Reporting
+pub mod ReportedSteps
 pub mod Writer

@@ -55,6 +55,7 @@ impl<'a, W: Sink> EncodeWriter<'a, W> {
     ghost use Rattle.enc_writer.specs.Writing.{FitsInBuffer};
     ghost use Rattle.enc_writer.specs.EncodedText.{bytes_from_state};
     ghost use Rattle.enc_writer.specs.Reporting.{ReportsText};
+    ghost use Rattle.enc_writer.specs.ReportedSteps.{ReportsSteps};
     ghost use Rattle.enc_writer.specs.Writer.{writer_of};
 
     /// Returns a writer to `writer`, in the output encoding of `encoding`, through the buffer
@@ -331,7 +332,8 @@ impl<'a, W: Sink> EncodeWriter<'a, W> {
         requires room { self.old.filled + 14 ≤ length self.old.output.now }
         ensures boundary { IsCharBoundary text.now result.1 }
         ensures read { result.1 ≤ length text.now }
-        ensures part { ReportsText (W.contents self.old.writer.now) (W.contents self.new.writer.now)
+        ensures part { ReportsSteps (W.contents self.old.writer.now)
+            (W.contents self.new.writer.now)
             (writer_of self.old) (writer_of self.new) (chars text.now)
             (chars (drop result.1 text.now)) result.0 }
         ensures all { result.0 ≡ EncoderResult.InputEmpty → chars (drop result.1 text.now) ≡ [] }

@@ -44,17 +44,17 @@ calls-preserved g c =
             (HasEncoded-push (chars c.calls.rest.now) c.args.last c.in_ok-make_room.ensures.ok)
             c.encode_part-outcome.ensures.part));
         no_push = λ fits.
-        let before = c.args.self.now in
-        let room = room_left before.filled (length before.output.now) before.output.now
-        (bytes_from_state before.encoder (chars c.args.text.now)) before.within fits in
-        let now = c.calls.invariant.1.no_push fits in
-        let same : c.make_room.new.self ≡ c.calls.self =
-        c.make_room.ensures.no_push (omega (arith, room, now.room, now.sum)) in
-        record {
-          same = cc (same, now.same, c.encode_part-outcome.ensures.writer);
-          room = cc (same, now.room, c.encode_part-outcome.ensures.length);
-          sum = cc (same, now.sum, c.encode_part-outcome.ensures.filled);
-        };
+            let before = c.args.self.now in
+            let room = room_left before.filled (length before.output.now) before.output.now
+            (bytes_from_state before.encoder (chars c.args.text.now)) before.within fits in
+            let now = c.calls.invariant.1.no_push fits in
+            let same : c.make_room.new.self ≡ c.calls.self =
+            c.make_room.ensures.no_push (omega (arith, room, now.room, now.sum)) in
+            record {
+              same = cc (same, now.same, c.encode_part-outcome.ensures.writer);
+              room = cc (same, now.room, c.encode_part-outcome.ensures.length);
+              sum = cc (same, now.sum, c.encode_part-outcome.ensures.filled);
+            };
         going = search rules;
         kept = search rules;
         same_writer = search rules;

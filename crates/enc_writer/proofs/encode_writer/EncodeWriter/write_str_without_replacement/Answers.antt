@@ -1,5 +1,5 @@
 use Rattle.std.proofs.Common.{rules, ◌≡◌, ◌+◌, refl, ap, ◌∙◌}
-use Rattle.std.proofs.Common.{subst, chars, drop, length, arith, false, true, IsUtf8}
+use Rattle.std.proofs.Common.{subst, chars, drop, length, arith, false, IsUtf8}
 use Rattle.std.proofs.Math.ListN.{length-drop}
 use Rattle.std.proofs.lemmas.List.{drop-drop}
 use Rattle.std.proofs.lemmas.Str.{IsCharBoundary-from_drop, IsUtf8-drop}
@@ -8,7 +8,7 @@ use Rattle.enc_writer.specs.Writer.{writer_of}
 use Rattle.enc_writer.proofs.SinkLemmas.{on_err}
 use Rattle.enc_writer.proofs.WritingLemmas.{PushesBytes-none}
 use Rattle.enc_writer.proofs.StoppingLemmas.{HasStopped-none, StopsText-by, StopsWithin-stopped}
-use Rattle.enc_writer.proofs.ReportLemmas.{ReportsText-push, ReportsText-then, ReportsText-flag}
+use Rattle.enc_writer.proofs.ReportLemmas.{ReportsSteps-push, ReportsSteps-then, ReportsText-by}
 use Rattle.enc_writer.proofs.ReportLemmas.{WritesText-reported, HasStopped-reported, none_unmappable}
 use Rattle.enc_writer.proofs.encode_writer.EncodeWriter.write_str_without_replacement.Goals as goal
 
@@ -25,7 +25,7 @@ pub calls-init : goal.calls-init
 calls-init g c = (
   search rules,
   record {
-    reports = ReportsText-push (chars c.args.text.now)
+    reports = ReportsSteps-push (chars c.args.text.now)
         (PushesBytes-none _ (writer_of c.args.self.now));
     within = search rules;
     rest_is = refl;
@@ -40,14 +40,14 @@ pub returns-in_err-make_room-clause-err : goal.returns-in_err-make_room-clause-e
 returns-in_err-make_room-clause-err g c =
     on_err c.from_residual.result _
     (StopsWithin-stopped (writer_of c.make_room.new.self)
-    (HasStopped-reported c.calls.invariant.1.reports c.calls.invariant.1.had
+    (HasStopped-reported c.calls.invariant.1.reports.reports c.calls.invariant.1.had
     c.in_err-make_room.ensures.err (c.in_err-make_room.ensures.encoder, c.in_err-make_room.ensures.flag)))
 
 pub returns-in_err-make_room-clause-stopped : goal.returns-in_err-make_room-clause-stopped
 returns-in_err-make_room-clause-stopped g c =
     on_err c.from_residual.result _
     (StopsText-by
-    (HasStopped-reported c.calls.invariant.1.reports c.calls.invariant.1.had
+    (HasStopped-reported c.calls.invariant.1.reports.reports c.calls.invariant.1.had
     c.in_err-make_room.ensures.err (c.in_err-make_room.ensures.encoder, c.in_err-make_room.ensures.flag)))
 
 pub overflow_add-taken : goal.overflow_add-taken
@@ -60,18 +60,18 @@ pub returns-in-InputEmpty-clause-ok : goal.returns-in-InputEmpty-clause-ok
 returns-in-InputEmpty-clause-ok g c =
     let is : c.encode_mappable-outcome.result.0 ≡ InputEmpty = search rules in
     WritesText-reported (rw (c.encode_mappable-outcome.ensures.all is, is) at
-    (ReportsText-then
-    (ReportsText-then c.calls.invariant.1.reports
-    (ReportsText-push (chars c.calls.rest.now) c.in_ok-make_room.ensures.ok))
+    (ReportsSteps-then
+    (ReportsSteps-then c.calls.invariant.1.reports
+    (ReportsSteps-push (chars c.calls.rest.now) c.in_ok-make_room.ensures.ok))
     c.encode_mappable-outcome.ensures.part)) (search rules)
 
 pub returns-in-InputEmpty-clause-mappable : goal.returns-in-InputEmpty-clause-mappable
 returns-in-InputEmpty-clause-mappable g c =
     let is : c.encode_mappable-outcome.result.0 ≡ InputEmpty = search rules in
     none_unmappable (rw (c.encode_mappable-outcome.ensures.all is, is) at
-    (ReportsText-then
-    (ReportsText-then c.calls.invariant.1.reports
-    (ReportsText-push (chars c.calls.rest.now) c.in_ok-make_room.ensures.ok))
+    (ReportsSteps-then
+    (ReportsSteps-then c.calls.invariant.1.reports
+    (ReportsSteps-push (chars c.calls.rest.now) c.in_ok-make_room.ensures.ok))
     c.encode_mappable-outcome.ensures.part))
 
 pub returns-in-Unmappable-clause-stop : goal.returns-in-Unmappable-clause-stop
@@ -81,10 +81,10 @@ returns-in-Unmappable-clause-stop g c =
     let read = c.encode_mappable-outcome.result.1 in
     let unread : drop read c.calls.rest.now ≡ drop (c.calls.taken + read) c.args.text.now =
     ap (drop read) c.calls.invariant.1.rest_is ∙ drop-drop read c.calls.taken c.args.text.now in
-    ReportsText-flag true (rw (is, unread) at
-    (ReportsText-then
-    (ReportsText-then c.calls.invariant.1.reports
-    (ReportsText-push (chars c.calls.rest.now) c.in_ok-make_room.ensures.ok))
+    ReportsText-by (rw (is, unread) at
+    (ReportsSteps-then
+    (ReportsSteps-then c.calls.invariant.1.reports
+    (ReportsSteps-push (chars c.calls.rest.now) c.in_ok-make_room.ensures.ok))
     c.encode_mappable-outcome.ensures.part))
 
 pub returns-in-Unmappable-clause-boundary : goal.returns-in-Unmappable-clause-boundary
@@ -110,9 +110,9 @@ calls-preserved g c =
       search rules,
       record {
         reports = rw unread (rw is at
-            (ReportsText-then
-            (ReportsText-then c.calls.invariant.1.reports
-            (ReportsText-push (chars c.calls.rest.now) c.in_ok-make_room.ensures.ok))
+            (ReportsSteps-then
+            (ReportsSteps-then c.calls.invariant.1.reports
+            (ReportsSteps-push (chars c.calls.rest.now) c.in_ok-make_room.ensures.ok))
             c.encode_mappable-outcome.ensures.part));
         within = omega (
           arith,
