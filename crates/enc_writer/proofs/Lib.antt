@@ -5,3 +5,4 @@ pub mod WritingLemmas
 pub mod StoppingLemmas
 pub mod ReportStepLemmas
 pub mod ReportLemmas
+pub mod AfterReportLemmas

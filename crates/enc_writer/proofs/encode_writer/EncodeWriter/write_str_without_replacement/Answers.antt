@@ -8,8 +8,9 @@ use Rattle.enc_writer.specs.Writer.{writer_of}
 use Rattle.enc_writer.proofs.SinkLemmas.{on_err}
 use Rattle.enc_writer.proofs.WritingLemmas.{PushesBytes-none}
 use Rattle.enc_writer.proofs.StoppingLemmas.{HasStopped-none, StopsText-by, StopsWithin-stopped}
-use Rattle.enc_writer.proofs.ReportLemmas.{ReportsSteps-push, ReportsSteps-then, ReportsText-by}
+use Rattle.enc_writer.proofs.ReportLemmas.{ReportsSteps-push, ReportsSteps-then}
 use Rattle.enc_writer.proofs.ReportLemmas.{WritesText-reported, HasStopped-reported, none_unmappable}
+use Rattle.enc_writer.proofs.AfterReportLemmas.{ReportsText-by}
 use Rattle.enc_writer.proofs.encode_writer.EncodeWriter.write_str_without_replacement.Goals as goal
 
 pub returns-then-self-clause-err : goal.returns-then-self-clause-err
