@@ -68,7 +68,8 @@ module _ (k : Option (List ℕ)) {old new : EncoderState} (had : Bool) (held wri
       → c.mode ≡ Fatal → c.last ≡ false
       → (encodes : EncodesChunk units_of old new c) → c.wrote ≡ take written (drop held after)
       → take held after ≡ take held before → left ≡ encodes.rest
-      → HasReportedText k k (record { encoder = old; held = take held before; had_unmappables = had })
+      → HasReportedText k k
+      (record { encoder = old; held = take held before; had_unmappables = had })
       (record { encoder = new; held = take (held + written) after; had_unmappables = had })
       c.src left c.result
   HasReportedText-call {c = c} {left = left} is_fatal not_last encodes wrote_is held_stay left_is =
@@ -190,7 +191,8 @@ module _ {k₀ k₁ : Option (List ℕ)} {a b : WriterState} {t : List ℕ}
     (steps : ReportsSteps k₀ k₁ a b t [] InputEmpty) where
   pub none_unmappable : any_unmappable (raw_state a.encoder).rule t ≡ false
   none_unmappable =
-      ap (any_unmappable (raw_state a.encoder).rule) (steps.reports.reads ∙ append-nil steps.reports.front)
+      ap (any_unmappable (raw_state a.encoder).rule)
+      (steps.reports.reads ∙ append-nil steps.reports.front)
       ∙ steps.reports.mappable (λ c e. cc)
 
   pub WritesText-reported : b.had_unmappables ≡ a.had_unmappables → WritesText k₀ k₁ a b t
@@ -241,8 +243,8 @@ module _ (k : Option (List ℕ)) {old new : EncoderState} (had : Bool) (held wri
       let wrote_bytes : c.wrote ≡ step_bytes call.done = rw is_fatal at call.bytes in
       let stops : EncoderStops (raw_state new) encodes.rest c.last c.room call.done c.result =
       rw is_fatal at call.stops in
-      let raw : EncoderCall (raw_state old) (raw_state new) c.src encodes.rest c.last c.room c.result
-      c.wrote = record {
+      let raw : EncoderCall (raw_state old) (raw_state new) c.src encodes.rest c.last c.room
+      c.result c.wrote = record {
         done = call.done;
         reads = call.reads;
         remaining = call.remaining;

@@ -1,6 +1,7 @@
 -- Successive steps of a writer are one, and what they say of the whole text.
 use Rattle.std.proofs.Common.{◌≡◌, ℕ, ◌+◌, Bool, true, false, ◌||◌, Option, List, [], ◌++◌, take, drop}
-use Rattle.std.proofs.Common.{refl, ap, ◌∙◌, sym, subst, append_assoc, append-nil, arith, length, length-append, length-drop, ◌≤◌}
+use Rattle.std.proofs.Common.{refl, ap, ◌∙◌, sym, subst, append_assoc, append-nil, arith, ◌≤◌}
+use Rattle.std.proofs.Common.{length, length-append, length-drop}
 use Rattle.std.proofs.lemmas.List.{length-take-le}
 use Rattle.std.proofs.Math.Seq.{take-add}
 use Rattle.std.proofs.Math.Bool.{or_assoc}

@@ -23,9 +23,13 @@ const LEAST_ROOM: usize = 14;
 /// Each unmappable character becomes a decimal reference. The texts of all writes are one text: no
 /// escape sequence stands between two of them that would not stand there in one write.
 ///
-/// It borrows the sink and the buffer in which it collects bytes, and takes no memory. Whatever is
-/// dropped without [`EncodeWriter::finish`] leaves the bytes held and the last escape sequence
-/// unwritten.
+/// It borrows the sink and the buffer in which it collects bytes, and takes no memory. A writer that
+/// is dropped without [`EncodeWriter::finish`] loses the bytes held and the last escape sequence,
+/// with no error: dropping neither pushes nor flushes.
+///
+/// A fault of the sink ends the writer for good, also one of kind `WouldBlock` or `TimedOut`: each
+/// later call returns `Failed`, and the bytes held are not pushed again. `Interrupted` is no fault.
+/// A [`WriteFault`] does not name the cause, and [`EncodeWriter::error`] does.
 #[derive(Drop)]
 pub struct EncodeWriter<'a, W: Sink> {
     writer: &'a mut W,
@@ -228,12 +232,14 @@ impl<'a, W: Sink> EncodeWriter<'a, W> {
     /// Writes a text, with a decimal reference for each unmappable character.
     ///
     /// Its bytes are collected in the buffer, which is pushed when fewer than 14 bytes of it are
-    /// free: so a short text may be no push. Long text is pushed without being encoded, after the
-    /// bytes held, if it is its own bytes: in UTF-8 a text of at least 4096 bytes, and in other
-    /// encodings that have ASCII as itself at least 4096 bytes of ASCII at its start.
+    /// free. So a text of fewer than 4096 bytes is no push if its own bytes fit after those held and
+    /// leave 14 bytes free. Longer text may be pushed without being encoded, after the bytes held,
+    /// if it is its own bytes: in UTF-8 all of it, and in other encodings that have ASCII as itself
+    /// at least 4096 bytes of ASCII at its start.
     ///
     /// Errors: `Writer` if the sink failed in this call, and `Failed` in each later call. The sink
-    /// has taken a prefix of the bytes of all text written, and nothing more is written.
+    /// has taken a prefix of the bytes of all text written, and nothing more is written. The
+    /// encoding stays, and only characters of text taken count as unmappable.
     pub fn write_str(&mut self, text: &str) -> Result<(), WriteFault>
         ensures ok { OnOk result (WritesText (W.contents self.old.writer.now)
             (W.contents self.new.writer.now) (writer_of self.old) (writer_of self.new)
@@ -250,10 +256,12 @@ impl<'a, W: Sink> EncodeWriter<'a, W> {
         ensures failed { OnErr result (self.new.failed ≡ true) }
         ensures from_then_on { IsErrOf result WriteFault.Failed ↔ self.old.failed ≡ true }
         ensures unchanged { IsErrOf result WriteFault.Failed → self.new ≡ self.old }
-        ensures no_push { length text.now < 4096 → FitsInBuffer (writer_of self.old) (chars text.now)
-            (length self.old.output.now) → self.new.writer ≡ self.old.writer }
-        ensures no_fault { length text.now < 4096 → FitsInBuffer (writer_of self.old) (chars text.now)
-            (length self.old.output.now) → self.new.failed ≡ self.old.failed }
+        ensures no_push { length text.now < 4096
+            → FitsInBuffer (writer_of self.old) (chars text.now) (length self.old.output.now)
+            → self.new.writer ≡ self.old.writer }
+        ensures no_fault { length text.now < 4096
+            → FitsInBuffer (writer_of self.old) (chars text.now) (length self.old.output.now)
+            → self.new.failed ≡ self.old.failed }
         ensures same_writer { self.new.writer.ghost_name ≡ self.old.writer.ghost_name }
     {
         if self.failed {
@@ -357,7 +365,8 @@ impl<'a, W: Sink> EncodeWriter<'a, W> {
     /// bytes are collected as by [`EncodeWriter::write_str`], and all of them are encoded.
     ///
     /// Errors: `Writer` if the sink failed in this call, and `Failed` in each later call. The sink
-    /// has taken a prefix of the bytes of all text written, and nothing more is written.
+    /// has taken a prefix of the bytes of all text written, and nothing more is written. The
+    /// encoding stays, and only characters of text taken count as unmappable.
     pub fn write_str_without_replacement(
         &mut self,
         text: &str,
@@ -410,13 +419,14 @@ impl<'a, W: Sink> EncodeWriter<'a, W> {
         }
     }
 
-    /// Pushes the bytes held. The sink is not flushed.
+    /// Pushes the bytes held. The sink is not flushed: [`EncodeWriter::flush`] does that too.
     ///
     /// No escape sequence is added: in ISO-2022-JP the bytes pushed may end in another character
     /// set than ASCII.
     ///
     /// Errors: `Writer` if the sink failed in this call, and `Failed` in each later call. The sink
-    /// has taken a prefix of the bytes of all text written, and nothing more is written.
+    /// has taken a prefix of the bytes of all text written, and nothing more is written. The
+    /// encoding stays, and only characters of text taken count as unmappable.
     pub fn push_held(&mut self) -> Result<(), WriteFault>
         ensures ok { OnOk result (WritesText (W.contents self.old.writer.now)
             (W.contents self.new.writer.now) (writer_of self.old) (writer_of self.new) []) }
@@ -462,13 +472,14 @@ impl<'a, W: Sink> EncodeWriter<'a, W> {
         Ok(())
     }
 
-    /// Pushes the bytes held, and flushes the sink.
+    /// Pushes the bytes held, and flushes the sink: what it writes to passes them on.
     ///
-    /// No escape sequence is added: in ISO-2022-JP the bytes pushed may end in another character
+    /// [`EncodeWriter::push_held`] does the same without a flush. No escape sequence is added: in ISO-2022-JP the bytes pushed may end in another character
     /// set than ASCII.
     ///
     /// Errors: `Writer` if the sink failed in this call, and `Failed` in each later call. The sink
-    /// has taken a prefix of the bytes of all text written, and nothing more is written.
+    /// has taken a prefix of the bytes of all text written, and nothing more is written. The
+    /// encoding stays, and only characters of text taken count as unmappable.
     pub fn flush(&mut self) -> Result<(), WriteFault>
         ensures ok { OnOk result (WritesText (W.contents self.old.writer.now)
             (W.contents self.new.writer.now) (writer_of self.old) (writer_of self.new) []) }
@@ -492,14 +503,15 @@ impl<'a, W: Sink> EncodeWriter<'a, W> {
         self.flush_sink()
     }
 
-    /// Ends the text: writes the last escape sequence, if one is due, and pushes the bytes held. The
-    /// sink is not flushed.
+    /// Ends the text: writes the last escape sequence, if one is due, and pushes the bytes held.
     ///
-    /// Returns whether a character was unmappable since [`EncodeWriter::new`]. The writer is then
-    /// at the start of another text.
+    /// The sink is not flushed. Returns whether a character was unmappable since
+    /// [`EncodeWriter::new`]. The writer is then at the start of another text, and the flag stays:
+    /// that of the next text is also true if a character of this one was unmappable.
     ///
     /// Errors: `Writer` if the sink failed in this call, and `Failed` in each later call. The sink
-    /// has taken a prefix of the bytes of the text, and nothing more is written.
+    /// has taken a prefix of the bytes of the text, and nothing more is written. The encoding stays,
+    /// and so does the flag of unmappable characters.
     pub fn end_text(&mut self) -> Result<bool, WriteFault>
         ensures ok { OnOk result (EndsText (W.contents self.old.writer.now)
             (W.contents self.new.writer.now) (writer_of self.old)) }
@@ -531,10 +543,14 @@ impl<'a, W: Sink> EncodeWriter<'a, W> {
     /// flushes the sink.
     ///
     /// Returns whether a character was unmappable since [`EncodeWriter::new`]. The writer is then
-    /// at the start of another text.
+    /// at the start of another text, and the flag stays: that of the next text is also true if a
+    /// character of this one was unmappable.
+    ///
+    /// [`EncodeWriter::end_text`] does the same without a flush.
     ///
     /// Errors: `Writer` if the sink failed in this call, and `Failed` in each later call. The sink
-    /// has taken a prefix of the bytes of the text, and nothing more is written.
+    /// has taken a prefix of the bytes of the text, and nothing more is written. The encoding stays,
+    /// and so does the flag of unmappable characters.
     pub fn finish(&mut self) -> Result<bool, WriteFault>
         ensures ok { OnOk result (EndsText (W.contents self.old.writer.now)
             (W.contents self.new.writer.now) (writer_of self.old)) }
@@ -559,7 +575,8 @@ impl<'a, W: Sink> EncodeWriter<'a, W> {
         Ok(had_unmappables)
     }
 
-    /// Ends the writer, and returns the sink. The bytes held stay unwritten.
+    /// Ends the writer, and returns the sink. The bytes held stay unwritten, and the sink is not
+    /// flushed.
     pub fn into_sink(self) -> &'a mut W
         ensures sink { result.now ≡ self.entry.writer.now }
         ensures same_writer { result.ghost_name ≡ self.entry.writer.ghost_name }
@@ -568,10 +585,10 @@ impl<'a, W: Sink> EncodeWriter<'a, W> {
         writer
     }
 
-    /// Returns the error for which the sink has failed, if the sink keeps it.
+    /// Returns the error for which the sink has failed, and with it the writer, if the sink keeps it.
     ///
-    /// A [`crate::FromWrite`] keeps it: a full disk, for one, is an error of kind `StorageFull`. A
-    /// [`WriteFault`] names no cause.
+    /// A [`crate::FromWrite`] keeps it until it is taken: that of a full disk is of kind
+    /// `StorageFull`. `None` if the sink has not failed.
     pub fn error(&self) -> Option<io::Error>
         ensures kept { IfSome result (λ e. W.error self.now.writer.now ≡ Some e) }
         ensures failed { OnSome result (self.now.failed ≡ true) }
@@ -587,9 +604,10 @@ impl<'a, W: Sink> EncodeWriter<'a, W> {
         self.encoder.encoding()
     }
 
-    /// Returns whether a character was unmappable, in a text that is written or in part written.
+    /// Returns whether a character was unmappable since [`EncodeWriter::new`].
     ///
-    /// It may be called after a fault too.
+    /// The end of a text does not reset it. After a fault it is that of the text taken until then:
+    /// the text whose bytes the sink has taken, and maybe some that follows.
     pub fn had_unmappables(&self) -> bool
         ensures { result ≡ self.now.had_unmappables }
     {

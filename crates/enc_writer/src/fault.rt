@@ -8,10 +8,10 @@ ghost use Rattle.enc_writer.specs.Faults.{write_fault_text};
 use std::error::Error;
 use std::{fmt, io};
 
-/// Why a write failed.
+/// Why a write failed. It does not name the cause: [`crate::EncodeWriter::error`] does.
 #[derive(PartialEq, Eq, Debug, Drop)]
 pub enum WriteFault {
-    /// The sink failed in this call.
+    /// The sink failed in this call, in a push or a flush. This ends the writer for good.
     Writer = 1,
     /// A call before has failed, or the sink had failed before.
     Failed = 2,

@@ -75,10 +75,10 @@ fn most_tries() -> u32
 }
 
 /// Returns the error of a call that is interrupted each time.
-fn timeout_error() -> io::Error
+fn timeout_error(message: &str) -> io::Error
     ensures { error_kind result ≡ ErrorKind.TimedOut }
 {
-    io::Error::new(ErrorKind::TimedOut, "every write was interrupted")
+    io::Error::new(ErrorKind::TimedOut, message)
 }
 
 /// Returns the error of a write that takes none of the bytes of a buffer that is not empty.
@@ -141,7 +141,7 @@ fn write_some<W: Write>(writer: &mut W, buf: &[u8]) -> io::Result<usize>
             return outcome_of_write(outcome, buf);
         }
     }
-    Err(timeout_error())
+    Err(timeout_error("every write was interrupted"))
 }
 
 /// Flushes the writer. An error of kind `Interrupted` is no failure, and it is flushed again.
@@ -154,7 +154,7 @@ fn flush_all<W: Write>(writer: &mut W) -> io::Result<()>
             return outcome;
         }
     }
-    Err(timeout_error())
+    Err(timeout_error("every flush was interrupted"))
 }
 
 /// A sink over any writer. It models no bytes, since a writer may not know them.
@@ -186,7 +186,8 @@ impl<W: Write> FromWrite<W> {
 
     /// Takes the error that has stopped it out of it.
     ///
-    /// `None` if no push has failed, or if the error was taken before. The sink stays failed.
+    /// `None` if no push and no flush has failed, or if the error was taken before. The sink stays
+    /// failed.
     pub fn take_error(&mut self) -> Option<io::Error>
         ensures error { result ≡ self.old.error }
         ensures none { self.old.failed ≡ false → result ≡ None }
@@ -197,15 +198,16 @@ impl<W: Write> FromWrite<W> {
         self.error.take()
     }
 
-    /// Returns the writer, which has taken all bytes that were pushed.
+    /// Returns the writer, which has taken all bytes that were pushed. It is not flushed, and an
+    /// error that was not taken is lost.
     pub fn into_inner(self) -> W
         ensures { result ≡ self.inner }
     {
         self.inner
     }
 
-    /// Ends a call with this outcome of the writer. After an error the sink has failed, and it keeps
-    /// this error.
+    /// Ends a call with this outcome of the writer. After an error the sink has failed, and keeps
+    /// it.
     fn end_call<T>(&mut self, outcome: io::Result<T>) -> Result<T, ()>
         requires going { self.old.failed ≡ false }
         requires retried { IfErr outcome (λ e. error_kind e ≢ ErrorKind.Interrupted) }
@@ -245,8 +247,9 @@ impl<W: Write> Sink for FromWrite<W> {
     ghost error = { λ sink. sink.error };
 
     /// Calls `write` of the writer, again if that is interrupted, at most 2^20 times in all. Any
-    /// other error is a failure, and so is a write of 0 bytes from a buffer that is not empty
-    /// (`WriteZero`) or 2^20 interrupted writes (`TimedOut`). The error is kept.
+    /// other error is a failure, also one of kind `WouldBlock`, and so is a write of 0 bytes from a
+    /// buffer that is not empty (`WriteZero`) or 2^20 interrupted writes (`TimedOut`). The error is
+    /// kept whole.
     fn push(&mut self, buf: &[u8]) -> Result<usize, ()>
         requires going { self.old.failed ≡ false }
         ensures bound { IfOk result (λ n. n ≤ length buf.now) }
@@ -270,7 +273,7 @@ impl<W: Write> Sink for FromWrite<W> {
 
     /// Calls `flush` of the writer, again if that is interrupted, at most 2^20 times in all. Any
     /// other error is a failure, and so are 2^20 interrupted flushes (`TimedOut`). The error is
-    /// kept.
+    /// kept whole.
     fn flush(&mut self) -> Result<(), ()>
         requires going { self.old.failed ≡ false }
         ensures flush { Keeps (W.contents self.old.inner) (W.contents self.new.inner) }

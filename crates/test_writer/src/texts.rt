@@ -215,6 +215,33 @@ fn a_write_without_replacement_stops_at_an_unmappable_character(rt: HostRuntime)
     assert!(rt; writer.taken.as_slice() == b"\x93\xFA?\x96\x7B".as_slice());
 }
 
+/// Writes up to an unmappable character, its reference, and the rest.
+fn write_reference_itself<S: Sink>(rt: &impl Abort, sink: &mut S) {
+    let mut buffer = [0; 14];
+    let mut encoding = EncodeWriter::new(sink, ISO_2022_JP, &mut buffer);
+    let stop = UnmappableStop {
+        character: 'é',
+        taken: 5,
+    };
+    assert!(rt; encoding.write_str_without_replacement("日é本") == Ok(Some(stop)));
+    assert!(rt; encoding.write_str("&#233;") == Ok(()));
+    assert!(rt; encoding.write_str_without_replacement("本") == Ok(None));
+    assert!(rt; encoding.finish() == Ok(true));
+}
+
+#[test]
+fn a_reference_that_the_caller_writes_is_as_with_replacement(rt: HostRuntime) -> Result<(), Fail> {
+    let mut writer = StepWriter::new(rt.alloc(), &[]);
+    let mut sink = FromWrite::new(&mut writer);
+    write_reference_itself(&rt, &mut sink);
+    let mut other = StepWriter::new(rt.alloc(), &[]);
+    let mut sink = FromWrite::new(&mut other);
+    let had = write_all((ISO_2022_JP, &["日é本"]), &mut sink, &mut [0; 14])?;
+    assert!(rt; had && writer.taken.as_slice() == other.taken.as_slice());
+    assert!(rt; other.taken.as_slice() == b"\x1B$BF|\x1B(B&#233;\x1B$BK\\\x1B(B".as_slice());
+    Ok(())
+}
+
 /// Writes a text, and takes the sink back before it is pushed.
 fn take_the_sink_back<S: Sink>(rt: &impl Abort, sink: &mut S) {
     let mut buffer = [0; 14];

@@ -30,7 +30,8 @@ returns-in_err-encode-clause-stopped g c =
 pub returns-in_err-push-clause-err : goal.returns-in_err-push-clause-err
 returns-in_err-push-clause-err g c =
     on_err c.from_residual-in_err-push.result _
-    (StopsWithin-stopped (writer_of c.push.new.self) (HasStopped-pushed (rw chars-nil at c.in_ok-encode.ensures.ok)
+    (StopsWithin-stopped (writer_of c.push.new.self)
+    (HasStopped-pushed (rw chars-nil at c.in_ok-encode.ensures.ok)
     (EncodesText-none (text_to_encode c.encode.new.self.encoder []) true)
     c.in_err-push.ensures.err (c.in_err-push.ensures.encoder, c.in_err-push.ensures.flag)))
 

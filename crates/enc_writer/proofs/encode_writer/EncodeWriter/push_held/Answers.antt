@@ -24,7 +24,8 @@ pub returns-clause-err : goal.returns-clause-err
 returns-clause-err g c =
     let writer = writer_of c.args.self.now in
     on_err_weaker c.push.result
-    (λ part. StopsWithin-stopped (writer_of c.push.new.self) (HasStopped-pushed (HasEncoded-none _ writer [] false)
+    (λ part. StopsWithin-stopped (writer_of c.push.new.self)
+    (HasStopped-pushed (HasEncoded-none _ writer [] false)
     (EncodesText-none (text_to_encode writer.encoder []) false) part
     (c.push.ensures.encoder, c.push.ensures.flag)))
     c.push.ensures.err

@@ -42,14 +42,16 @@ returns-in_err-make_room-clause-err g c =
     on_err c.from_residual.result _
     (StopsWithin-stopped (writer_of c.make_room.new.self)
     (HasStopped-reported c.calls.invariant.1.reports.reports c.calls.invariant.1.had
-    c.in_err-make_room.ensures.err (c.in_err-make_room.ensures.encoder, c.in_err-make_room.ensures.flag)))
+    c.in_err-make_room.ensures.err
+    (c.in_err-make_room.ensures.encoder, c.in_err-make_room.ensures.flag)))
 
 pub returns-in_err-make_room-clause-stopped : goal.returns-in_err-make_room-clause-stopped
 returns-in_err-make_room-clause-stopped g c =
     on_err c.from_residual.result _
     (StopsText-by
     (HasStopped-reported c.calls.invariant.1.reports.reports c.calls.invariant.1.had
-    c.in_err-make_room.ensures.err (c.in_err-make_room.ensures.encoder, c.in_err-make_room.ensures.flag)))
+    c.in_err-make_room.ensures.err
+    (c.in_err-make_room.ensures.encoder, c.in_err-make_room.ensures.flag)))
 
 pub overflow_add-taken : goal.overflow_add-taken
 overflow_add-taken g c =

@@ -28,7 +28,8 @@ calls-init g c = record {
 pub returns-in_err-make_room-clause-err : goal.returns-in_err-make_room-clause-err
 returns-in_err-make_room-clause-err g c =
     on_err c.from_residual.result _
-    (StopsWithin-stopped (writer_of c.make_room.new.self) (HasStopped-held c.calls.invariant.encoded c.in_err-make_room.ensures.err
+    (StopsWithin-stopped (writer_of c.make_room.new.self)
+    (HasStopped-held c.calls.invariant.encoded c.in_err-make_room.ensures.err
     (c.in_err-make_room.ensures.encoder, c.in_err-make_room.ensures.flag)))
 
 pub returns-in_err-make_room-clause-stopped : goal.returns-in_err-make_room-clause-stopped
