@@ -1,6 +1,8 @@
 -- Successive steps of a writer are one, and what they say of the whole text.
 use Rattle.std.proofs.Common.{◌≡◌, ℕ, ◌+◌, Bool, true, false, ◌||◌, Option, List, [], ◌++◌, take, drop}
-use Rattle.std.proofs.Common.{refl, ap, ◌∙◌, sym, subst, append_assoc, append-nil}
+use Rattle.std.proofs.Common.{refl, ap, ◌∙◌, sym, subst, append_assoc, append-nil, arith, ◌≤◌}
+use Rattle.std.proofs.Common.{length, length-append, length-drop}
+use Rattle.std.proofs.lemmas.List.{length-take-le}
 use Rattle.std.proofs.Math.Seq.{take-add}
 use Rattle.std.proofs.Math.Bool.{or_assoc}
 use Rattle.enc_units.specs.declared.coder_result.CoderResult.{CoderResult}
@@ -11,10 +13,10 @@ use Rattle.enc_encoder.specs.Unmappable.{any_unmappable}
 use Rattle.enc_encoder.proofs.UnmappableLemmas.{any_unmappable-append}
 use Rattle.enc_stream.specs.Encodings.{output_rule}
 use Rattle.enc_stream.specs.Encoder.{EncoderState, EncodesChunk, raw_state, html_mode}
-use Rattle.enc_writer.specs.Sink.{AppendsContents, AppendsPrefix}
+use Rattle.enc_writer.specs.Sink.{AppendsContents}
 use Rattle.enc_writer.specs.EncodedText.{EncodesText, bytes_from_state, text_to_encode}
-use Rattle.enc_writer.specs.Writing.{WriterState, PushesBytes, HasEncoded, HasWrittenText, TakesPrefix}
-use Rattle.enc_writer.specs.Writing.{WritesText, StopsWithin, EndsText, ended_writer, owed_bytes}
+use Rattle.enc_writer.specs.Writing.{WriterState, PushesBytes, HasEncoded, HasWrittenText}
+use Rattle.enc_writer.specs.Writing.{WritesText, EndsText, ended_writer, owed_bytes}
 use Rattle.enc_writer.proofs.SinkLemmas.{AppendsContents-none, AppendsContents-then}
 use Rattle.enc_writer.proofs.EncodingLemmas.{not_ended, none_owed, EncodesText-none, EncodesText-call}
 use Rattle.enc_writer.proofs.EncodingLemmas.{EncodesText-then}
@@ -22,6 +24,12 @@ use Rattle.enc_writer.proofs.EncodingLemmas.{EncodesText-then}
 pub or_false : (x : Bool) → x ≡ (x || false)
 or_false true = refl
 or_false false = refl
+
+-- encoders of one encoding have one rule
+pub same_rule : (a b : EncoderState) → b.encoding ≡ a.encoding → b.barred ≡ a.barred
+    → (raw_state b).rule ≡ (raw_state a).rule
+same_rule a b encoding barred =
+    ap (λ e. output_rule b.barred e) encoding ∙ ap (λ l. output_rule l a.encoding) barred
 
 -- Steps
 
@@ -103,6 +111,34 @@ module _ (k : Option (List ℕ)) {old new : EncoderState} (had : Bool) (held wri
         ∙ sym (take-add held written after);
   }
 
+-- The bytes in the buffer and those still to write are as many as before the call.
+pub bytes_left : (old new : EncoderState) (result : CoderResult) {units_of : ℕ → List ℕ}
+    {c : CallInMode} {left : List ℕ} (held written : ℕ) (after : List ℕ) → c.mode ≡ html_mode old
+    → c.result ≡ encoder_result_of result → (encodes : EncodesChunk units_of old new c)
+    → c.wrote ≡ take written (drop held after) → held + written ≤ length after
+    → left ≡ encodes.rest
+    → (held + written) + length (bytes_from_state new left)
+    ≡ held + length (bytes_from_state old c.src)
+bytes_left old new result {c = c} held written after is_html result_is encodes wrote_is within
+    left_is =
+    let residual = (EncodesText-call (text_to_encode old c.src) result is_html result_is refl
+    encodes).residual [] (λ _. refl) in
+    let all : bytes_from_state old c.src ≡ c.wrote ++ bytes_from_state new encodes.rest =
+    ap (bytes_from_state old) (sym (append-nil c.src)) ∙ residual
+    ∙ ap (λ t. c.wrote ++ bytes_from_state new t) (append-nil encodes.rest) in
+    let lengths = ap length all ∙ length-append c.wrote (bytes_from_state new encodes.rest) in
+    let count : length c.wrote ≡ written =
+    ap length wrote_is ∙ length-take-le written (drop held after)
+    (omega (arith, length-drop held after)) in
+    let rest_is = ap (λ t. length (bytes_from_state new t)) left_is in
+    omega (arith, lengths, count, rest_is)
+
+-- Bytes that fit leave room after those held.
+pub room_left : (filled len : ℕ) (output bytes : List ℕ) → filled ≤ length output
+    → length (take filled output ++ bytes) + 14 ≤ len → filled + length bytes + 14 ≤ len
+room_left filled len output bytes within fits =
+    omega (arith, length-append (take filled output) bytes, length-take-le filled output within)
+
 module _ {k₀ k₁ k₂ : Option (List ℕ)} {a b c : WriterState} where
   pub HasEncoded-then : {t u v : List ℕ} {last : Bool} → HasEncoded k₀ k₁ a b t u last
       → HasEncoded k₁ k₂ b c u v last → HasEncoded k₀ k₂ a c t v last
@@ -122,7 +158,7 @@ module _ {k₀ k₁ k₂ : Option (List ℕ)} {a b c : WriterState} where
   }
 
 -- The bytes owed before are those pushed and those owed now.
-owed_by : {k₀ k₁ : Option (List ℕ)} {a b : WriterState} {t left : List ℕ} {last : Bool}
+pub owed_by : {k₀ k₁ : Option (List ℕ)} {a b : WriterState} {t left : List ℕ} {last : Bool}
     (encoded : HasEncoded k₀ k₁ a b t left last) (z : List ℕ) → (last ≡ true → z ≡ [])
     → owed_bytes a (t ++ z) ≡ encoded.pushed ++ owed_bytes b (left ++ z)
 owed_by {a = a} {b = b} {left = left} encoded z ends =
@@ -131,48 +167,6 @@ owed_by {a = a} {b = b} {left = left} encoded z ends =
     ∙ sym (append_assoc a.held encoded.wrote later)
     ∙ ap (λ x. x ++ later) encoded.bytes_kept
     ∙ append_assoc encoded.pushed b.held later
-
--- A part of a text is encoded, and of the bytes of another part, which follow those held, the sink
--- takes a prefix.
-module _ {k₀ k₁ k₂ : Option (List ℕ)} {a b : WriterState} where
-  pub TakesPrefix-pushed : {t u left bytes : List ℕ} {last : Bool} → HasEncoded k₀ k₁ a b t u last
-      → EncodesText (text_to_encode b.encoder u) (text_to_encode b.encoder left) last bytes false
-      → AppendsPrefix k₁ k₂ (b.held ++ bytes) → TakesPrefix k₀ k₂ a t last
-  TakesPrefix-pushed {left = left} {bytes = bytes} encoded encodes part = record {
-    pushed = encoded.pushed ++ part.wrote;
-    taken = AppendsContents-then k₀ k₁ k₂ encoded.pushed part.wrote encoded.taken part.taken;
-    prefix = λ z ends.
-        let later = bytes_from_state b.encoder (left ++ z) in (
-          part.unwritten ++ later,
-          owed_by encoded z ends
-              ∙ ap (λ x. encoded.pushed ++ (b.held ++ x)) (encodes.residual z ends)
-              ∙ ap (λ x. encoded.pushed ++ x) (sym (append_assoc b.held bytes later)
-              ∙ ap (λ x. x ++ later) part.prefix
-              ∙ append_assoc part.wrote part.unwritten later)
-              ∙ sym (append_assoc encoded.pushed part.wrote (part.unwritten ++ later)),
-        );
-  }
-
--- a part is encoded, and a push of the bytes held fails
-pub TakesPrefix-held : {k₀ k₁ k₂ : Option (List ℕ)} {a b : WriterState} {t u : List ℕ} {last : Bool}
-    → HasEncoded k₀ k₁ a b t u last → AppendsPrefix k₁ k₂ b.held → TakesPrefix k₀ k₂ a t last
-TakesPrefix-held {k₁ = k₁} {k₂ = k₂} {b = b} {u = u} {last = last} encoded part =
-    TakesPrefix-pushed encoded (EncodesText-none (text_to_encode b.encoder u) last)
-    (rw (append-nil b.held) part)
-
-pub TakesPrefix-after : {k₀ k₁ k₂ : Option (List ℕ)} {a b : WriterState} {t u : List ℕ}
-    {last : Bool}
-    → HasEncoded k₀ k₁ a b t u last → TakesPrefix k₁ k₂ b u last → TakesPrefix k₀ k₂ a t last
-TakesPrefix-after {k₀} {k₁} {k₂} encoded part = record {
-  pushed = encoded.pushed ++ part.pushed;
-  taken = AppendsContents-then k₀ k₁ k₂ encoded.pushed part.pushed encoded.taken part.taken;
-  prefix = λ z ends.
-      let others = part.prefix z ends in (
-        others.0,
-        owed_by encoded z ends ∙ ap (λ x. encoded.pushed ++ x) others.1
-            ∙ sym (append_assoc encoded.pushed part.pushed others.0),
-      );
-}
 
 -- Calls
 
@@ -225,29 +219,6 @@ WritesText-alone alone =
 pub WritesText-by : {k₀ k₁ : Option (List ℕ)} {a b : WriterState} {t : List ℕ}
     → HasEncoded k₀ k₁ a b t [] false → WritesText k₀ k₁ a b t
 WritesText-by encoded = WritesText-alone (HasWrittenText-by encoded)
-
-pub StopsWithin-by : {k₀ k₁ : Option (List ℕ)} {a : WriterState} {t : List ℕ} {last : Bool}
-    → TakesPrefix k₀ k₁ a t last → StopsWithin k₀ k₁ a t last
-StopsWithin-by {k₀} {k₁} {a} {t} part k start before first = record {
-  pushed = first.pushed ++ part.pushed;
-  taken = AppendsContents-then k k₀ k₁ first.pushed part.pushed first.taken part.taken;
-  prefix = λ z ends.
-      let others = part.prefix z ends in (
-        others.0,
-        ap (owed_bytes start) (append_assoc before t z) ∙ first.owed (t ++ z)
-            ∙ ap (λ x. first.pushed ++ x) others.1
-            ∙ sym (append_assoc first.pushed part.pushed others.0),
-      );
-}
-
--- no call is made
-pub StopsWithin-none : (k : Option (List ℕ)) (w : WriterState) (t : List ℕ) (last : Bool)
-    → StopsWithin k k w t last
-StopsWithin-none k w t last = StopsWithin-by {t = t} (record {
-  pushed = [];
-  taken = AppendsContents-none k;
-  prefix = λ z ends. (owed_bytes w (t ++ z), refl);
-})
 
 -- The end: all is encoded, and all bytes are pushed.
 module _ {k₀ k₁ k₂ : Option (List ℕ)} {a b c : WriterState}

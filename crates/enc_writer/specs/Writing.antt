@@ -1,6 +1,6 @@
 -- Writing text to a sink through an encoder and a buffer (Encoding Standard 6, "encode", a text at
 -- a time).
-use Rattle.std.specs.Prelude.{◌≡◌, ℕ, Bool, true, false, ◌||◌, List, [], ◌++◌, Option}
+use Rattle.std.specs.Prelude.{◌≡◌, ℕ, ◌+◌, ◌≤◌, Bool, true, false, ◌||◌, List, [], ◌++◌, Option, length}
 use Rattle.enc_encoder.specs.declared.character_set.CharacterSet.TheVariants.{Ascii}
 use Rattle.enc_encoder.specs.Unmappable.{any_unmappable}
 use Rattle.enc_stream.specs.declared.encoding.Encoding.{Encoding}
@@ -31,6 +31,10 @@ ended_writer w = record {
 -- those of the text with references.
 abbrev pub owed_bytes : WriterState → List ℕ → List ℕ
 owed_bytes w text = w.held ++ bytes_from_state w.encoder text
+
+-- The bytes owed for a text fit into a buffer of `len` bytes, and leave 14 bytes free.
+abbrev pub FitsInBuffer : WriterState → List ℕ → ℕ → Type 0
+FitsInBuffer w text len = length (owed_bytes w text) + 14 ≤ len
 
 -- whether a character was unmappable, or one of this text is
 abbrev pub flag_after : WriterState → List ℕ → Bool

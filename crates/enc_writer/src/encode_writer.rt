@@ -1,7 +1,8 @@
 //! The writer of text.
 
-ghost use Rattle.std.specs.Prelude.{◌≡◌, ◌↔◌, ◌+◌, ◌≤◌, length, drop, [], true, false, ◌++◌, chars};
-ghost use Rattle.std.specs.Prelude.{IfOk, OnOk, OnErr, IsErrOf, IfErr, IfSome, IfNone};
+ghost use Rattle.std.specs.Prelude.{◌≡◌, ◌↔◌, ◌+◌, ◌<◌, ◌≤◌, length, drop, [], true, false, ◌++◌, chars};
+ghost use Rattle.std.specs.Prelude.{◌≢◌, IfOk, OnOk, OnErr, OnSome, IsErrOf, IfErr, IfSome, IfNone, Some};
+ghost use Rattle.std.specs.IoError.{error_kind};
 ghost use Rattle.std.specs.Str.{IsCharBoundary};
 ghost use Rattle.std.specs.Char.Utf16.{utf16_lossy_chars};
 
@@ -11,7 +12,8 @@ use crate::pushing::push_both;
 use crate::sink::Sink;
 use crate::unencoded::unencoded_len;
 use enc_stream::{CoderResult, Encoder, EncoderResult, Encoding};
-use std::fmt;
+use std::io::ErrorKind;
+use std::{fmt, io};
 
 /// The least room for a call of the encoder: four bytes, and ten that it keeps free for references.
 const LEAST_ROOM: usize = 14;
@@ -21,9 +23,13 @@ const LEAST_ROOM: usize = 14;
 /// Each unmappable character becomes a decimal reference. The texts of all writes are one text: no
 /// escape sequence stands between two of them that would not stand there in one write.
 ///
-/// It borrows the sink and the buffer in which it collects bytes, and takes no memory. Whatever is
-/// dropped without [`EncodeWriter::finish`] leaves the bytes held and the last escape sequence
-/// unwritten.
+/// It borrows the sink and the buffer in which it collects bytes, and takes no memory. A writer that
+/// is dropped without [`EncodeWriter::finish`] loses the bytes held and the last escape sequence,
+/// with no error: dropping neither pushes nor flushes.
+///
+/// A fault of the sink ends the writer for good, also one of kind `WouldBlock` or `TimedOut`: each
+/// later call returns `Failed`, and the bytes held are not pushed again. `Interrupted` is no fault.
+/// A [`WriteFault`] does not name the cause, and [`EncodeWriter::error`] does.
 #[derive(Drop)]
 pub struct EncodeWriter<'a, W: Sink> {
     writer: &'a mut W,
@@ -47,9 +53,13 @@ impl<'a, W: Sink> EncodeWriter<'a, W> {
     ghost use Rattle.enc_stream.specs.Encoder.{raw_state, whole_bytes, LeavesFewerSteps};
     ghost use Rattle.enc_writer.specs.Sink.{AppendsContents, AppendsPrefix};
     ghost use Rattle.enc_writer.specs.Writing.{WritesText, EndsText, HasEncoded};
-    ghost use Rattle.enc_writer.specs.Writing.{PushesBytes, StopsWithin, TakesPrefix};
+    ghost use Rattle.enc_writer.specs.Writing.{PushesBytes, StopsWithin};
+    ghost use Rattle.enc_writer.specs.Stopping.{HasStopped, StopsText};
     ghost use Rattle.enc_writer.specs.Writing.{ended_writer, flag_after, fresh_writer, owed_bytes};
+    ghost use Rattle.enc_writer.specs.Writing.{FitsInBuffer};
+    ghost use Rattle.enc_writer.specs.EncodedText.{bytes_from_state};
     ghost use Rattle.enc_writer.specs.Reporting.{ReportsText};
+    ghost use Rattle.enc_writer.specs.ReportedSteps.{ReportsSteps};
     ghost use Rattle.enc_writer.specs.Writer.{writer_of};
 
     /// Returns a writer to `writer`, in the output encoding of `encoding`, through the buffer
@@ -93,6 +103,8 @@ impl<'a, W: Sink> EncodeWriter<'a, W> {
         ensures going { OnOk result (self.new.failed ≡ false) }
         ensures err { OnErr result (AppendsPrefix (W.contents self.old.writer.now)
             (W.contents self.new.writer.now) ((writer_of self.old).held ++ bytes.now)) }
+        ensures encoder { self.new.encoder ≡ self.old.encoder }
+        ensures flag { self.new.had_unmappables ≡ self.old.had_unmappables }
         ensures sink_failed { OnErr result (W.has_failed self.new.writer.now ≡ true) }
         ensures failed { OnErr result (self.new.failed ≡ true) }
         ensures fault { IfErr result (λ fault. fault ≡ WriteFault.Writer) }
@@ -117,9 +129,12 @@ impl<'a, W: Sink> EncodeWriter<'a, W> {
         ensures going { OnOk result (self.new.failed ≡ false) }
         ensures err { OnErr result (AppendsPrefix (W.contents self.old.writer.now)
             (W.contents self.new.writer.now) ((writer_of self.old).held ++ bytes.now)) }
+        ensures encoder { self.new.encoder ≡ self.old.encoder }
+        ensures flag { self.new.had_unmappables ≡ self.old.had_unmappables }
         ensures sink_failed { OnErr result (W.has_failed self.new.writer.now ≡ true) }
         ensures failed { OnErr result (self.new.failed ≡ true) }
         ensures fault { IfErr result (λ fault. fault ≡ WriteFault.Writer) }
+        ensures none { length bytes.now ≡ 0 → self.new ≡ self.old }
         ensures same_writer { self.new.writer.ghost_name ≡ self.old.writer.ghost_name }
     {
         if bytes.is_empty() {
@@ -139,9 +154,13 @@ impl<'a, W: Sink> EncodeWriter<'a, W> {
         ensures going { OnOk result (self.new.failed ≡ false) }
         ensures err { OnErr result (AppendsPrefix (W.contents self.old.writer.now)
             (W.contents self.new.writer.now) (writer_of self.old).held) }
+        ensures encoder { self.new.encoder ≡ self.old.encoder }
+        ensures flag { self.new.had_unmappables ≡ self.old.had_unmappables }
         ensures sink_failed { OnErr result (W.has_failed self.new.writer.now ≡ true) }
         ensures failed { OnErr result (self.new.failed ≡ true) }
         ensures fault { IfErr result (λ fault. fault ≡ WriteFault.Writer) }
+        ensures no_push { self.old.filled + 14 ≤ length self.old.output.now
+            → self.new ≡ self.old }
         ensures same_writer { self.new.writer.ghost_name ≡ self.old.writer.ghost_name }
     {
         if self.output.len() - self.filled >= LEAST_ROOM {
@@ -164,6 +183,10 @@ impl<'a, W: Sink> EncodeWriter<'a, W> {
         ensures progress { (result.0 ≡ CoderResult.InputEmpty → ⊥) →
             LeavesFewerSteps self.old.encoder self.new.encoder last
             (chars text.now) (chars (drop result.1 text.now)) }
+        ensures length { length self.new.output.now ≡ length self.old.output.now }
+        ensures filled { self.new.filled
+            + length (bytes_from_state self.new.encoder (chars (drop result.1 text.now)))
+            ≡ self.old.filled + length (bytes_from_state self.old.encoder (chars text.now)) }
         ensures writer { self.new.writer ≡ self.old.writer }
         ensures failed { self.new.failed ≡ self.old.failed }
     {
@@ -184,11 +207,14 @@ impl<'a, W: Sink> EncodeWriter<'a, W> {
         ensures kept { OnOk result (W.has_failed self.new.writer.now
             ≡ W.has_failed self.old.writer.now) }
         ensures going { OnOk result (self.new.failed ≡ false) }
-        ensures err { OnErr result (TakesPrefix (W.contents self.old.writer.now)
-            (W.contents self.new.writer.now) (writer_of self.old) (chars text.now) last) }
+        ensures err { OnErr result (HasStopped (W.contents self.old.writer.now)
+            (W.contents self.new.writer.now) (writer_of self.old) (writer_of self.new)
+            (chars text.now) last) }
         ensures sink_failed { OnErr result (W.has_failed self.new.writer.now ≡ true) }
         ensures failed { OnErr result (self.new.failed ≡ true) }
         ensures fault { IfErr result (λ fault. fault ≡ WriteFault.Writer) }
+        ensures no_push { FitsInBuffer (writer_of self.old) (chars text.now)
+            (length self.old.output.now) → self.new.writer ≡ self.old.writer }
         ensures same_writer { self.new.writer.ghost_name ≡ self.old.writer.ghost_name }
     {
         let mut rest = text;
@@ -206,12 +232,14 @@ impl<'a, W: Sink> EncodeWriter<'a, W> {
     /// Writes a text, with a decimal reference for each unmappable character.
     ///
     /// Its bytes are collected in the buffer, which is pushed when fewer than 14 bytes of it are
-    /// free: so a short text may be no push. Long text is pushed without being encoded, after the
-    /// bytes held, if it is its own bytes: in UTF-8 a text of at least 4096 bytes, and in other
-    /// encodings that have ASCII as itself at least 4096 bytes of ASCII at its start.
+    /// free. So a text of fewer than 4096 bytes is no push if its own bytes fit after those held and
+    /// leave 14 bytes free. Longer text may be pushed without being encoded, after the bytes held,
+    /// if it is its own bytes: in UTF-8 all of it, and in other encodings that have ASCII as itself
+    /// at least 4096 bytes of ASCII at its start.
     ///
     /// Errors: `Writer` if the sink failed in this call, and `Failed` in each later call. The sink
-    /// has taken a prefix of the bytes of all text written, and nothing more is written.
+    /// has taken a prefix of the bytes of all text written, and nothing more is written. The
+    /// encoding stays, and only characters of text taken count as unmappable.
     pub fn write_str(&mut self, text: &str) -> Result<(), WriteFault>
         ensures ok { OnOk result (WritesText (W.contents self.old.writer.now)
             (W.contents self.new.writer.now) (writer_of self.old) (writer_of self.new)
@@ -221,10 +249,19 @@ impl<'a, W: Sink> EncodeWriter<'a, W> {
         ensures going { OnOk result (self.new.failed ≡ false) }
         ensures err { OnErr result (StopsWithin (W.contents self.old.writer.now)
             (W.contents self.new.writer.now) (writer_of self.old) (chars text.now) false) }
+        ensures stopped { OnErr result (StopsText (W.contents self.old.writer.now)
+            (W.contents self.new.writer.now) (writer_of self.old) (writer_of self.new)
+            (chars text.now) false) }
         ensures sink_failed { OnErr result (W.has_failed self.new.writer.now ≡ true) }
         ensures failed { OnErr result (self.new.failed ≡ true) }
         ensures from_then_on { IsErrOf result WriteFault.Failed ↔ self.old.failed ≡ true }
         ensures unchanged { IsErrOf result WriteFault.Failed → self.new ≡ self.old }
+        ensures no_push { length text.now < 4096
+            → FitsInBuffer (writer_of self.old) (chars text.now) (length self.old.output.now)
+            → self.new.writer ≡ self.old.writer }
+        ensures no_fault { length text.now < 4096
+            → FitsInBuffer (writer_of self.old) (chars text.now) (length self.old.output.now)
+            → self.new.failed ≡ self.old.failed }
         ensures same_writer { self.new.writer.ghost_name ≡ self.old.writer.ghost_name }
     {
         if self.failed {
@@ -273,6 +310,9 @@ impl<'a, W: Sink> EncodeWriter<'a, W> {
         ensures err { OnErr result (StopsWithin (W.contents self.old.writer.now)
             (W.contents self.new.writer.now) (writer_of self.old) (utf16_lossy_chars text.now)
             false) }
+        ensures stopped { OnErr result (StopsText (W.contents self.old.writer.now)
+            (W.contents self.new.writer.now) (writer_of self.old) (writer_of self.new)
+            (utf16_lossy_chars text.now) false) }
         ensures sink_failed { OnErr result (W.has_failed self.new.writer.now ≡ true) }
         ensures failed { OnErr result (self.new.failed ≡ true) }
         ensures from_then_on { IsErrOf result WriteFault.Failed ↔ self.old.failed ≡ true }
@@ -300,7 +340,8 @@ impl<'a, W: Sink> EncodeWriter<'a, W> {
         requires room { self.old.filled + 14 ≤ length self.old.output.now }
         ensures boundary { IsCharBoundary text.now result.1 }
         ensures read { result.1 ≤ length text.now }
-        ensures part { ReportsText (W.contents self.old.writer.now) (W.contents self.new.writer.now)
+        ensures part { ReportsSteps (W.contents self.old.writer.now)
+            (W.contents self.new.writer.now)
             (writer_of self.old) (writer_of self.new) (chars text.now)
             (chars (drop result.1 text.now)) result.0 }
         ensures all { result.0 ≡ EncoderResult.InputEmpty → chars (drop result.1 text.now) ≡ [] }
@@ -324,7 +365,8 @@ impl<'a, W: Sink> EncodeWriter<'a, W> {
     /// bytes are collected as by [`EncodeWriter::write_str`], and all of them are encoded.
     ///
     /// Errors: `Writer` if the sink failed in this call, and `Failed` in each later call. The sink
-    /// has taken a prefix of the bytes of all text written, and nothing more is written.
+    /// has taken a prefix of the bytes of all text written, and nothing more is written. The
+    /// encoding stays, and only characters of text taken count as unmappable.
     pub fn write_str_without_replacement(
         &mut self,
         text: &str,
@@ -346,6 +388,9 @@ impl<'a, W: Sink> EncodeWriter<'a, W> {
         ensures going { OnOk result (self.new.failed ≡ false) }
         ensures err { OnErr result (StopsWithin (W.contents self.old.writer.now)
             (W.contents self.new.writer.now) (writer_of self.old) (chars text.now) false) }
+        ensures stopped { OnErr result (StopsText (W.contents self.old.writer.now)
+            (W.contents self.new.writer.now) (writer_of self.old) (writer_of self.new)
+            (chars text.now) false) }
         ensures sink_failed { OnErr result (W.has_failed self.new.writer.now ≡ true) }
         ensures failed { OnErr result (self.new.failed ≡ true) }
         ensures from_then_on { IsErrOf result WriteFault.Failed ↔ self.old.failed ≡ true }
@@ -374,14 +419,15 @@ impl<'a, W: Sink> EncodeWriter<'a, W> {
         }
     }
 
-    /// Pushes the bytes held.
+    /// Pushes the bytes held. The sink is not flushed: [`EncodeWriter::flush`] does that too.
     ///
     /// No escape sequence is added: in ISO-2022-JP the bytes pushed may end in another character
     /// set than ASCII.
     ///
     /// Errors: `Writer` if the sink failed in this call, and `Failed` in each later call. The sink
-    /// has taken a prefix of the bytes of all text written, and nothing more is written.
-    pub fn flush(&mut self) -> Result<(), WriteFault>
+    /// has taken a prefix of the bytes of all text written, and nothing more is written. The
+    /// encoding stays, and only characters of text taken count as unmappable.
+    pub fn push_held(&mut self) -> Result<(), WriteFault>
         ensures ok { OnOk result (WritesText (W.contents self.old.writer.now)
             (W.contents self.new.writer.now) (writer_of self.old) (writer_of self.new) []) }
         ensures none_held { OnOk result (writer_of self.new
@@ -391,6 +437,9 @@ impl<'a, W: Sink> EncodeWriter<'a, W> {
         ensures going { OnOk result (self.new.failed ≡ false) }
         ensures err { OnErr result (StopsWithin (W.contents self.old.writer.now)
             (W.contents self.new.writer.now) (writer_of self.old) [] false) }
+        ensures stopped { OnErr result (StopsText (W.contents self.old.writer.now)
+            (W.contents self.new.writer.now) (writer_of self.old) (writer_of self.new)
+            [] false) }
         ensures sink_failed { OnErr result (W.has_failed self.new.writer.now ≡ true) }
         ensures failed { OnErr result (self.new.failed ≡ true) }
         ensures from_then_on { IsErrOf result WriteFault.Failed ↔ self.old.failed ≡ true }
@@ -403,14 +452,67 @@ impl<'a, W: Sink> EncodeWriter<'a, W> {
         self.push(b"")
     }
 
-    /// Ends the text: writes the last escape sequence, if one is due, and pushes the bytes held.
+    /// Flushes the sink. After an `Err`, which is `Writer`, the sink has failed.
+    fn flush_sink(&mut self) -> Result<(), WriteFault>
+        requires going { self.old.failed ≡ false }
+        ensures contents { W.contents self.new.writer.now ≡ W.contents self.old.writer.now }
+        ensures unchanged { writer_of self.new ≡ writer_of self.old }
+        ensures kept { OnOk result (W.has_failed self.new.writer.now
+            ≡ W.has_failed self.old.writer.now) }
+        ensures going { OnOk result (self.new.failed ≡ false) }
+        ensures sink_failed { OnErr result (W.has_failed self.new.writer.now ≡ true) }
+        ensures failed { OnErr result (self.new.failed ≡ true) }
+        ensures fault { IfErr result (λ fault. fault ≡ WriteFault.Writer) }
+        ensures same_writer { self.new.writer.ghost_name ≡ self.old.writer.ghost_name }
+    {
+        let Ok(()) = self.writer.flush() else {
+            self.failed = true;
+            return Err(WriteFault::Writer);
+        };
+        Ok(())
+    }
+
+    /// Pushes the bytes held, and flushes the sink: what it writes to passes them on.
     ///
-    /// Returns whether a character was unmappable since [`EncodeWriter::new`]. The writer is then
-    /// at the start of another text.
+    /// [`EncodeWriter::push_held`] does the same without a flush. No escape sequence is added: in ISO-2022-JP the bytes pushed may end in another character
+    /// set than ASCII.
     ///
     /// Errors: `Writer` if the sink failed in this call, and `Failed` in each later call. The sink
-    /// has taken a prefix of the bytes of the text, and nothing more is written.
-    pub fn finish(&mut self) -> Result<bool, WriteFault>
+    /// has taken a prefix of the bytes of all text written, and nothing more is written. The
+    /// encoding stays, and only characters of text taken count as unmappable.
+    pub fn flush(&mut self) -> Result<(), WriteFault>
+        ensures ok { OnOk result (WritesText (W.contents self.old.writer.now)
+            (W.contents self.new.writer.now) (writer_of self.old) (writer_of self.new) []) }
+        ensures none_held { OnOk result (writer_of self.new
+            ≡ record (writer_of self.old) { held = [] }) }
+        ensures kept { OnOk result (W.has_failed self.new.writer.now
+            ≡ W.has_failed self.old.writer.now) }
+        ensures going { OnOk result (self.new.failed ≡ false) }
+        ensures err { OnErr result (StopsWithin (W.contents self.old.writer.now)
+            (W.contents self.new.writer.now) (writer_of self.old) [] false) }
+        ensures stopped { OnErr result (StopsText (W.contents self.old.writer.now)
+            (W.contents self.new.writer.now) (writer_of self.old) (writer_of self.new)
+            [] false) }
+        ensures sink_failed { OnErr result (W.has_failed self.new.writer.now ≡ true) }
+        ensures failed { OnErr result (self.new.failed ≡ true) }
+        ensures from_then_on { IsErrOf result WriteFault.Failed ↔ self.old.failed ≡ true }
+        ensures unchanged { IsErrOf result WriteFault.Failed → self.new ≡ self.old }
+        ensures same_writer { self.new.writer.ghost_name ≡ self.old.writer.ghost_name }
+    {
+        self.push_held()?;
+        self.flush_sink()
+    }
+
+    /// Ends the text: writes the last escape sequence, if one is due, and pushes the bytes held.
+    ///
+    /// The sink is not flushed. Returns whether a character was unmappable since
+    /// [`EncodeWriter::new`]. The writer is then at the start of another text, and the flag stays:
+    /// that of the next text is also true if a character of this one was unmappable.
+    ///
+    /// Errors: `Writer` if the sink failed in this call, and `Failed` in each later call. The sink
+    /// has taken a prefix of the bytes of the text, and nothing more is written. The encoding stays,
+    /// and so does the flag of unmappable characters.
+    pub fn end_text(&mut self) -> Result<bool, WriteFault>
         ensures ok { OnOk result (EndsText (W.contents self.old.writer.now)
             (W.contents self.new.writer.now) (writer_of self.old)) }
         ensures flag { IfOk result (λ had. had ≡ self.old.had_unmappables) }
@@ -420,6 +522,9 @@ impl<'a, W: Sink> EncodeWriter<'a, W> {
         ensures going { OnOk result (self.new.failed ≡ false) }
         ensures err { OnErr result (StopsWithin (W.contents self.old.writer.now)
             (W.contents self.new.writer.now) (writer_of self.old) [] true) }
+        ensures stopped { OnErr result (StopsText (W.contents self.old.writer.now)
+            (W.contents self.new.writer.now) (writer_of self.old) (writer_of self.new)
+            [] true) }
         ensures sink_failed { OnErr result (W.has_failed self.new.writer.now ≡ true) }
         ensures failed { OnErr result (self.new.failed ≡ true) }
         ensures from_then_on { IsErrOf result WriteFault.Failed ↔ self.old.failed ≡ true }
@@ -434,13 +539,62 @@ impl<'a, W: Sink> EncodeWriter<'a, W> {
         Ok(self.had_unmappables)
     }
 
-    /// Ends the writer, and returns the sink. The bytes held stay unwritten.
+    /// Ends the text: writes the last escape sequence, if one is due, pushes the bytes held, and
+    /// flushes the sink.
+    ///
+    /// Returns whether a character was unmappable since [`EncodeWriter::new`]. The writer is then
+    /// at the start of another text, and the flag stays: that of the next text is also true if a
+    /// character of this one was unmappable.
+    ///
+    /// [`EncodeWriter::end_text`] does the same without a flush.
+    ///
+    /// Errors: `Writer` if the sink failed in this call, and `Failed` in each later call. The sink
+    /// has taken a prefix of the bytes of the text, and nothing more is written. The encoding stays,
+    /// and so does the flag of unmappable characters.
+    pub fn finish(&mut self) -> Result<bool, WriteFault>
+        ensures ok { OnOk result (EndsText (W.contents self.old.writer.now)
+            (W.contents self.new.writer.now) (writer_of self.old)) }
+        ensures flag { IfOk result (λ had. had ≡ self.old.had_unmappables) }
+        ensures ended { OnOk result (writer_of self.new ≡ ended_writer (writer_of self.old)) }
+        ensures kept { OnOk result (W.has_failed self.new.writer.now
+            ≡ W.has_failed self.old.writer.now) }
+        ensures going { OnOk result (self.new.failed ≡ false) }
+        ensures err { OnErr result (StopsWithin (W.contents self.old.writer.now)
+            (W.contents self.new.writer.now) (writer_of self.old) [] true) }
+        ensures stopped { OnErr result (StopsText (W.contents self.old.writer.now)
+            (W.contents self.new.writer.now) (writer_of self.old) (writer_of self.new)
+            [] true) }
+        ensures sink_failed { OnErr result (W.has_failed self.new.writer.now ≡ true) }
+        ensures failed { OnErr result (self.new.failed ≡ true) }
+        ensures from_then_on { IsErrOf result WriteFault.Failed ↔ self.old.failed ≡ true }
+        ensures unchanged { IsErrOf result WriteFault.Failed → self.new ≡ self.old }
+        ensures same_writer { self.new.writer.ghost_name ≡ self.old.writer.ghost_name }
+    {
+        let had_unmappables = self.end_text()?;
+        self.flush_sink()?;
+        Ok(had_unmappables)
+    }
+
+    /// Ends the writer, and returns the sink. The bytes held stay unwritten, and the sink is not
+    /// flushed.
     pub fn into_sink(self) -> &'a mut W
         ensures sink { result.now ≡ self.entry.writer.now }
         ensures same_writer { result.ghost_name ≡ self.entry.writer.ghost_name }
     {
         let EncodeWriter { writer, .. } = self;
         writer
+    }
+
+    /// Returns the error for which the sink has failed, and with it the writer, if the sink keeps it.
+    ///
+    /// A [`crate::FromWrite`] keeps it until it is taken: that of a full disk is of kind
+    /// `StorageFull`. `None` if the sink has not failed.
+    pub fn error(&self) -> Option<io::Error>
+        ensures kept { IfSome result (λ e. W.error self.now.writer.now ≡ Some e) }
+        ensures failed { OnSome result (self.now.failed ≡ true) }
+        ensures retried { IfSome result (λ e. error_kind e ≢ ErrorKind.Interrupted) }
+    {
+        self.writer.error()
     }
 
     /// Returns the encoding that it writes, which is an output encoding.
@@ -450,9 +604,10 @@ impl<'a, W: Sink> EncodeWriter<'a, W> {
         self.encoder.encoding()
     }
 
-    /// Returns whether a character was unmappable, in a text that is written or in part written.
+    /// Returns whether a character was unmappable since [`EncodeWriter::new`].
     ///
-    /// It may be called after a fault too.
+    /// The end of a text does not reset it. After a fault it is that of the text taken until then:
+    /// the text whose bytes the sink has taken, and maybe some that follows.
     pub fn had_unmappables(&self) -> bool
         ensures { result ≡ self.now.had_unmappables }
     {

@@ -1,6 +1,7 @@
 //! Writing text: an [`EncodeWriter`] encodes text and pushes its bytes to a [`Sink`].
 //!
-//! It pushes a buffer at a time. [`FromWrite`] makes a sink of any writer. No call takes memory.
+//! It pushes a buffer at a time, and [`EncodeWriter::flush`] and [`EncodeWriter::finish`] flush the
+//! sink. [`FromWrite`] makes a sink of any writer, and keeps its error. No call takes memory.
 #![tactic(auto)]
 
 mod encode_writer;

@@ -1,7 +1,10 @@
 //! Text that is pushed without being encoded.
 
-ghost use Rattle.std.specs.Prelude.{◌≡◌, ◌≤◌, false, [], length, take, drop, chars};
+ghost use Rattle.std.specs.Prelude.{◌≡◌, ℕ, ◌<◌, ◌≤◌, true, false, [], length, take, drop, chars};
 ghost use Rattle.std.specs.Str.{IsCharBoundary};
+ghost use Rattle.enc_units.specs.Validity.{AreAscii};
+ghost use Rattle.enc_encoder.specs.EncoderRule.{is_escape_due};
+ghost use Rattle.enc_stream.specs.Properties.{is_ascii_compatible};
 ghost use Rattle.enc_writer.specs.EncodedText.{EncodesText, text_to_encode};
 
 use enc_stream::constants::UTF_8;
@@ -24,6 +27,12 @@ pub(crate) fn unencoded_len(encoder: &Encoder, text: &str) -> usize
     ensures own { EncodesText (text_to_encode encoder.now (chars text.now))
         (text_to_encode encoder.now (chars (drop result text.now))) false (take result text.now)
         false }
+    ensures few { length text.now < 4096 → result ≡ 0 }
+    ensures whole { encoder.now.encoding ≡ UTF_8 → is_escape_due encoder.now.set ≡ false
+        → 4096 ≤ length text.now → result ≡ length text.now }
+    ensures ascii { is_ascii_compatible encoder.now.encoding ≡ true
+        → is_escape_due encoder.now.set ≡ false
+        → (n : ℕ) → 4096 ≤ n → n ≤ length text.now → AreAscii (take n text.now) → n ≤ result }
 {
     if text.len() < LEAST_UNENCODED || encoder.has_pending_state() {
         return 0;

@@ -26,7 +26,8 @@ use Rattle.enc_reader.proofs.ReadingLemmas.{ReaderPlace, reader_at, ReadsOwed-no
 use Rattle.enc_writer.specs.Sink.{AppendsContents}
 use Rattle.enc_writer.specs.Writing.{WriterState, HasWrittenText, TakesPrefix, StopsWithin, EndsText, WritesText}
 use Rattle.enc_writer.specs.Writing.{fresh_writer, owed_bytes}
-use Rattle.enc_writer.proofs.WritingLemmas.{HasWrittenText-none, StopsWithin-none}
+use Rattle.enc_writer.proofs.WritingLemmas.{HasWrittenText-none}
+use Rattle.enc_writer.proofs.StoppingLemmas.{StopsWithin-none}
 use Rattle.enc_stream.specs.Recoding.{whole_text, recoded_bytes, any_replaced}
 use Rattle.recode_engine.specs.Run.{RunsToEnd, RunsToFault}
 use Rattle.recode_engine.proofs.SourceLemmas.{all_given, none_remaining}

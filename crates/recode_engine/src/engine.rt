@@ -90,7 +90,7 @@ fn write_all<R: Source, W: Sink>(
         };
         let piece = decoding.text(&text, handed);
         if piece.is_empty() {
-            let Ok(replaced) = encoding.finish() else {
+            let Ok(replaced) = encoding.end_text() else {
                 return Err(RecodeFault::Write);
             };
             return Ok(decoding.had_errors() | replaced);
@@ -98,7 +98,7 @@ fn write_all<R: Source, W: Sink>(
         let Ok(()) = encoding.write_str(unsafe { str::from_utf8_unchecked(piece) }) else {
             return Err(RecodeFault::Write);
         };
-        let Ok(()) = encoding.flush() else {
+        let Ok(()) = encoding.push_held() else {
             return Err(RecodeFault::Write);
         };
     }

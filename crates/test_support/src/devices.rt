@@ -12,6 +12,8 @@ pub enum Step {
     Move(usize),
     /// Fails with an error of this kind, and moves none.
     Fail(ErrorKind),
+    /// Fails with an error of this kind that has this message, and moves none.
+    FailWith(ErrorKind, &'static str),
 }
 
 /// One byte a call.
@@ -49,6 +51,7 @@ impl<'a> Steps<'a> {
         match self.next_step() {
             Step::Move(most) => Ok(most),
             Step::Fail(kind) => Err(io::Error::from(kind)),
+            Step::FailWith(kind, message) => Err(io::Error::new(kind, message)),
         }
     }
 }
@@ -81,25 +84,36 @@ impl<'a> Read for StepReader<'a> {
     }
 }
 
-/// Takes bytes by steps.
+/// Takes bytes by steps, and is flushed by steps.
 #[derive(Drop)]
 pub struct StepWriter<'a> {
     steps: Steps<'a>,
+    flush_steps: Steps<'a>,
     /// The bytes that it has taken.
     pub taken: Vec<u8>,
     /// The number of calls.
     pub calls: usize,
     /// The number of calls without a byte to write.
     pub empty_calls: usize,
-    /// The number of calls of `flush`, each of which fails.
+    /// The number of calls of `flush`.
     pub flushes: usize,
 }
 
 impl<'a> StepWriter<'a> {
-    /// A writer that has taken nothing.
+    /// A writer that has taken nothing, and whose every flush succeeds.
     pub fn new(alloc: Global, steps: &'a [Step]) -> StepWriter<'a> {
+        StepWriter::with_flushes(alloc, steps, &[])
+    }
+
+    /// A writer that has taken nothing, and whose flushes fail where these steps do.
+    pub fn with_flushes(
+        alloc: Global,
+        steps: &'a [Step],
+        flush_steps: &'a [Step],
+    ) -> StepWriter<'a> {
         StepWriter {
             steps: Steps::new(steps),
+            flush_steps: Steps::new(flush_steps),
             taken: Vec::new(alloc),
             calls: 0,
             empty_calls: 0,
@@ -121,6 +135,7 @@ impl<'a> Write for StepWriter<'a> {
 
     fn flush(&mut self) -> io::Result<()> {
         self.flushes = self.flushes.saturating_add(1);
-        Err(io::Error::from(ErrorKind::Unsupported))
+        let _ = self.flush_steps.turn()?;
+        Ok(())
     }
 }

@@ -91,5 +91,9 @@ fn faults_are_errors(rt: HostRuntime) -> Result<(), Fail> {
     assert!(rt; error.kind() == ErrorKind::Other);
     let text = format!(in rt.alloc(); "{error}")?;
     assert!(rt; text.as_str() == "write failed");
+    let error = io::Error::from(WriteFault::Failed);
+    assert!(rt; error.kind() == ErrorKind::Other);
+    let text = format!(in rt.alloc(); "{error}")?;
+    assert!(rt; text.as_str() == "an earlier write failed");
     Ok(())
 }

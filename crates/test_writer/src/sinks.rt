@@ -22,13 +22,19 @@ fn an_interrupted_write_is_tried_again(rt: HostRuntime) {
 }
 
 #[test]
-fn a_write_that_is_always_interrupted_fails(rt: HostRuntime) {
+fn a_write_that_is_always_interrupted_fails(rt: HostRuntime) -> Result<(), Fail> {
     let steps = [INTERRUPTED];
     let mut writer = StepWriter::new(rt.alloc(), &steps);
     let mut sink = FromWrite::new(&mut writer);
     assert!(rt; sink.push(b"a") == Err(()));
-    assert!(rt; sink.take_error().map(|e| e.kind()) == Some(ErrorKind::TimedOut));
+    let Some(error) = sink.take_error() else {
+        return Err("no error".into());
+    };
+    assert!(rt; error.kind() == ErrorKind::TimedOut);
+    let text = format!(in rt.alloc(); "{error}")?;
+    assert!(rt; text.as_str() == "every write was interrupted");
     assert!(rt; writer.calls == 1 << 20);
+    Ok(())
 }
 
 #[test]

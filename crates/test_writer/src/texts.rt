@@ -215,6 +215,33 @@ fn a_write_without_replacement_stops_at_an_unmappable_character(rt: HostRuntime)
     assert!(rt; writer.taken.as_slice() == b"\x93\xFA?\x96\x7B".as_slice());
 }
 
+/// Writes up to an unmappable character, its reference, and the rest.
+fn write_reference_itself<S: Sink>(rt: &impl Abort, sink: &mut S) {
+    let mut buffer = [0; 14];
+    let mut encoding = EncodeWriter::new(sink, ISO_2022_JP, &mut buffer);
+    let stop = UnmappableStop {
+        character: 'é',
+        taken: 5,
+    };
+    assert!(rt; encoding.write_str_without_replacement("日é本") == Ok(Some(stop)));
+    assert!(rt; encoding.write_str("&#233;") == Ok(()));
+    assert!(rt; encoding.write_str_without_replacement("本") == Ok(None));
+    assert!(rt; encoding.finish() == Ok(true));
+}
+
+#[test]
+fn a_reference_that_the_caller_writes_is_as_with_replacement(rt: HostRuntime) -> Result<(), Fail> {
+    let mut writer = StepWriter::new(rt.alloc(), &[]);
+    let mut sink = FromWrite::new(&mut writer);
+    write_reference_itself(&rt, &mut sink);
+    let mut other = StepWriter::new(rt.alloc(), &[]);
+    let mut sink = FromWrite::new(&mut other);
+    let had = write_all((ISO_2022_JP, &["日é本"]), &mut sink, &mut [0; 14])?;
+    assert!(rt; had && writer.taken.as_slice() == other.taken.as_slice());
+    assert!(rt; other.taken.as_slice() == b"\x1B$BF|\x1B(B&#233;\x1B$BK\\\x1B(B".as_slice());
+    Ok(())
+}
+
 /// Writes a text, and takes the sink back before it is pushed.
 fn take_the_sink_back<S: Sink>(rt: &impl Abort, sink: &mut S) {
     let mut buffer = [0; 14];
@@ -230,4 +257,78 @@ fn the_sink_is_returned_without_the_bytes_held(rt: HostRuntime) {
     let mut sink = FromWrite::new(&mut writer);
     take_the_sink_back(&rt, &mut sink);
     assert!(rt; writer.taken.is_empty());
+}
+
+/// Returns a text of `len` times `a`.
+fn long_text(alloc: Global, len: usize) -> Result<String, Fail> {
+    let mut text = String::new(alloc);
+    for _ in 0..len {
+        text.push('a')?;
+    }
+    Ok(text)
+}
+
+/// Writes a text, through a buffer for twice as many bytes.
+fn write_once<S: Sink>(rt: &impl Abort, to: Encoding, text: &str, sink: &mut S) {
+    let mut buffer = [0; 8192];
+    let mut encoding = EncodeWriter::new(sink, to, &mut buffer);
+    assert!(rt; encoding.write_str(text) == Ok(()));
+}
+
+#[test]
+fn a_text_is_pushed_at_once_from_4096_bytes_on(rt: HostRuntime) -> Result<(), Fail> {
+    for to in [UTF_8, WINDOWS_1252, SHIFT_JIS] {
+        for (len, calls) in [(4095, 0), (4096, 1)] {
+            let text = long_text(rt.alloc(), len)?;
+            let mut writer = StepWriter::new(rt.alloc(), &[]);
+            let mut sink = FromWrite::new(&mut writer);
+            write_once(&rt, to, text.as_str(), &mut sink);
+            assert!(rt; writer.calls == calls);
+            assert!(rt; writer.taken.len() == calls.saturating_mul(len));
+        }
+    }
+    Ok(())
+}
+
+/// Writes a text three times, through a buffer that has room for all.
+fn write_thrice<S: Sink>(rt: &impl Abort, to: Encoding, text: &str, sink: &mut S) {
+    let mut buffer = [0; 8192];
+    let mut encoding = EncodeWriter::new(sink, to, &mut buffer);
+    assert!(rt; encoding.write_str(text) == Ok(()));
+    assert!(rt; encoding.write_str(text) == Ok(()));
+    assert!(rt; encoding.write_str(text) == Ok(()));
+}
+
+#[test]
+fn texts_that_fit_are_no_push(rt: HostRuntime) -> Result<(), Fail> {
+    for to in [UTF_8, SHIFT_JIS] {
+        let text = long_text(rt.alloc(), 2500)?;
+        let mut writer = StepWriter::new(rt.alloc(), &[]);
+        let mut sink = FromWrite::new(&mut writer);
+        write_thrice(&rt, to, text.as_str(), &mut sink);
+        assert!(rt; writer.calls == 0);
+    }
+    Ok(())
+}
+
+/// Pushes a text, and writes another after it.
+fn push_a_text<S: Sink>(rt: &impl Abort, sink: &mut S) {
+    let mut buffer = [0; 64];
+    let mut encoding = EncodeWriter::new(sink, WINDOWS_1252, &mut buffer);
+    assert!(rt; encoding.write_str("é") == Ok(()));
+    assert!(rt; encoding.push_held() == Ok(()));
+    assert!(rt; encoding.write_str("Ж") == Ok(()));
+    assert!(rt; encoding.end_text() == Ok(true));
+    // a text that begins anew, of which the flag is that of both
+    assert!(rt; encoding.end_text() == Ok(true));
+    assert!(rt; encoding.had_unmappables());
+}
+
+#[test]
+fn the_flag_is_kept_after_the_end(rt: HostRuntime) {
+    let mut writer = StepWriter::new(rt.alloc(), &[]);
+    let mut sink = FromWrite::new(&mut writer);
+    push_a_text(&rt, &mut sink);
+    assert!(rt; (writer.calls, writer.flushes) == (2, 0));
+    assert!(rt; writer.taken.as_slice() == b"\xE9&#1046;".as_slice());
 }

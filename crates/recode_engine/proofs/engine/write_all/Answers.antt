@@ -36,8 +36,8 @@ returns-in_default-clause-run g c = λ handling from to fresh_reader fresh_write
     (RunsToFault-reading ran next fails)
     (λ _. (has_failed-reading ran next fails, invariant.writer_kept)) (λ is. cc)
 
-pub returns-in_default-finish-clause-run : goal.returns-in_default-finish-clause-run
-returns-in_default-finish-clause-run g c = λ handling from to fresh_reader fresh_writer.
+pub returns-in_default-end_text-clause-run : goal.returns-in_default-end_text-clause-run
+returns-in_default-end_text-clause-run g c = λ handling from to fresh_reader fresh_writer.
     let next = reader_at (g.R.Source.remaining c.read_or_lend.new.self.reader.now)
     (state_of c.read_or_lend.new.self) in
     let ran = c.reads.invariant.ran handling from to fresh_reader fresh_writer in
@@ -46,7 +46,7 @@ returns-in_default-finish-clause-run g c = λ handling from to fresh_reader fres
     (RunsToFault-ending next ran
     (HandsOut-by c.text-piece.ensures c.in-Ok.ensures.ok)
     (c.in-Ok.ensures.end (no_text _ (search rules))) none
-    (when_err c.finish.result (search rules) c.finish.ensures.err))
+    (when_err c.end_text.result (search rules) c.end_text.ensures.err))
     (λ is. cc) (λ _. (search rules, search rules))
 
 pub returns-then-is_empty-clause-run : goal.returns-then-is_empty-clause-run
@@ -59,7 +59,7 @@ returns-then-is_empty-clause-run g c = λ handling from to fresh_reader fresh_wr
     (RunsToEnd-by (search rules)
     (RunsToEnd-last next ran
     (HandsOut-by c.text-piece.ensures c.in-Ok.ensures.ok)
-    (c.in-Ok.ensures.end (no_text _ (search rules))) none c.in-Ok-finish.ensures.ok))
+    (c.in-Ok.ensures.end (no_text _ (search rules))) none c.in-Ok-end_text.ensures.ok))
     (search rules) (search rules)
 
 pub returns-in_default-write_str-clause-run : goal.returns-in_default-write_str-clause-run
@@ -74,8 +74,8 @@ returns-in_default-write_str-clause-run g c = λ handling from to fresh_reader f
     (when_err c.write_str.result (search rules) (rw same at c.write_str.ensures.err)))
     (λ is. cc) (λ _. (search rules, search rules))
 
-pub returns-in_default-flush-clause-run : goal.returns-in_default-flush-clause-run
-returns-in_default-flush-clause-run g c = λ handling from to fresh_reader fresh_writer.
+pub returns-in_default-push_held-clause-run : goal.returns-in_default-push_held-clause-run
+returns-in_default-push_held-clause-run g c = λ handling from to fresh_reader fresh_writer.
     let next = reader_at (g.R.Source.remaining c.read_or_lend.new.self.reader.now)
     (state_of c.read_or_lend.new.self) in
     let ran = c.reads.invariant.ran handling from to fresh_reader fresh_writer in
@@ -84,7 +84,7 @@ returns-in_default-flush-clause-run g c = λ handling from to fresh_reader fresh
     (RunsToFault-pushing next ran
     (HandsOut-by c.text-piece.ensures c.in-Ok.ensures.ok)
     (rw same at c.in-Ok-write_str.ensures.ok)
-    (when_err c.flush.result (search rules) c.flush.ensures.err))
+    (when_err c.push_held.result (search rules) c.push_held.ensures.err))
     (λ is. cc) (λ _. (search rules, search rules))
 
 pub reads-preserved : goal.reads-preserved
@@ -97,7 +97,7 @@ reads-preserved g c =
       ran = λ handling from to fresh_reader fresh_writer.
           HasRun-more next (c.reads.invariant.ran handling from to fresh_reader fresh_writer)
           (HandsOut-by c.text-piece.ensures c.in-Ok.ensures.ok)
-          (rw same at c.in-Ok-write_str.ensures.ok) c.in-Ok-flush.ensures.ok some;
+          (rw same at c.in-Ok-write_str.ensures.ok) c.in-Ok-push_held.ensures.ok some;
       text_room = search rules;
       reading = search rules;
       writing = search rules;

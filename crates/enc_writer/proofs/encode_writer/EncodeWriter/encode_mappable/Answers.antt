@@ -1,14 +1,14 @@
-use Rattle.std.proofs.Common.{rules, refl, ◌∙◌}
+use Rattle.std.proofs.Common.{refl, ◌∙◌}
 use Rattle.enc_encoder.specs.Steps.{step_chars}
 use Rattle.enc_stream.proofs.UnreadTextLemmas.{chars_after}
-use Rattle.enc_writer.proofs.ReportLemmas.{ReportsText-call, none_left}
+use Rattle.enc_writer.proofs.ReportLemmas.{ReportsSteps-call, none_left}
 use Rattle.enc_writer.proofs.encode_writer.EncodeWriter.encode_mappable.Goals as goal
 
 pub returns-clause-part : goal.returns-clause-part
 returns-clause-part g c =
     let call = c.encode_mappable_after-call in
     let encodes = call.ensures.call in
-    ReportsText-call _ c.args.self.now.had_unmappables c.args.self.now.filled call.result.written
+    ReportsSteps-call _ c.args.self.now.had_unmappables c.args.self.now.filled call.result.written
     c.args.self.now.output.now call.new.output refl refl encodes refl call.ensures.held
     (chars_after c.args.text.now (step_chars encodes.call.done) encodes.rest _ c.utf8.text
     encodes.call.reads encodes.call.units)

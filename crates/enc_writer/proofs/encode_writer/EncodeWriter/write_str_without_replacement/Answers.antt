@@ -1,25 +1,32 @@
-use Rattle.std.proofs.Common.{rules, ◌≡◌, ◌≤◌, ◌+◌, ◌-◌, refl, ap, sym, ◌∙◌}
-use Rattle.std.proofs.Common.{subst, chars, drop, length, arith, false, true, IsUtf8}
+use Rattle.std.proofs.Common.{rules, ◌≡◌, ◌+◌, refl, ap, ◌∙◌}
+use Rattle.std.proofs.Common.{subst, chars, drop, length, arith, false, IsUtf8}
 use Rattle.std.proofs.Math.ListN.{length-drop}
 use Rattle.std.proofs.lemmas.List.{drop-drop}
 use Rattle.std.proofs.lemmas.Str.{IsCharBoundary-from_drop, IsUtf8-drop}
 use Rattle.enc_units.specs.declared.encoder_result.EncoderResult.TheVariants.{InputEmpty, OutputFull, Unmappable}
 use Rattle.enc_writer.specs.Writer.{writer_of}
 use Rattle.enc_writer.proofs.SinkLemmas.{on_err}
-use Rattle.enc_writer.proofs.WritingLemmas.{PushesBytes-none, StopsWithin-by, StopsWithin-none}
-use Rattle.enc_writer.proofs.ReportLemmas.{ReportsText-push, ReportsText-then, ReportsText-flag}
-use Rattle.enc_writer.proofs.ReportLemmas.{WritesText-reported, TakesPrefix-reported, none_unmappable}
+use Rattle.enc_writer.proofs.WritingLemmas.{PushesBytes-none}
+use Rattle.enc_writer.proofs.StoppingLemmas.{HasStopped-none, StopsText-by, StopsWithin-stopped}
+use Rattle.enc_writer.proofs.ReportLemmas.{ReportsSteps-push, ReportsSteps-then}
+use Rattle.enc_writer.proofs.ReportLemmas.{WritesText-reported, HasStopped-reported, none_unmappable}
+use Rattle.enc_writer.proofs.AfterReportLemmas.{ReportsText-by}
 use Rattle.enc_writer.proofs.encode_writer.EncodeWriter.write_str_without_replacement.Goals as goal
 
 pub returns-then-self-clause-err : goal.returns-then-self-clause-err
 returns-then-self-clause-err g c =
-    StopsWithin-none _ (writer_of c.args.self.now) (chars c.args.text.now) false
+    StopsWithin-stopped _
+    (HasStopped-none _ (writer_of c.args.self.now) (chars c.args.text.now) false)
+
+pub returns-then-self-clause-stopped : goal.returns-then-self-clause-stopped
+returns-then-self-clause-stopped g c =
+    StopsText-by (HasStopped-none _ (writer_of c.args.self.now) (chars c.args.text.now) false)
 
 pub calls-init : goal.calls-init
 calls-init g c = (
   search rules,
   record {
-    reports = ReportsText-push (chars c.args.text.now)
+    reports = ReportsSteps-push (chars c.args.text.now)
         (PushesBytes-none _ (writer_of c.args.self.now));
     within = search rules;
     rest_is = refl;
@@ -33,8 +40,18 @@ calls-init g c = (
 pub returns-in_err-make_room-clause-err : goal.returns-in_err-make_room-clause-err
 returns-in_err-make_room-clause-err g c =
     on_err c.from_residual.result _
-    (StopsWithin-by
-    (TakesPrefix-reported c.calls.invariant.1.reports c.in_err-make_room.ensures.err))
+    (StopsWithin-stopped (writer_of c.make_room.new.self)
+    (HasStopped-reported c.calls.invariant.1.reports.reports c.calls.invariant.1.had
+    c.in_err-make_room.ensures.err
+    (c.in_err-make_room.ensures.encoder, c.in_err-make_room.ensures.flag)))
+
+pub returns-in_err-make_room-clause-stopped : goal.returns-in_err-make_room-clause-stopped
+returns-in_err-make_room-clause-stopped g c =
+    on_err c.from_residual.result _
+    (StopsText-by
+    (HasStopped-reported c.calls.invariant.1.reports.reports c.calls.invariant.1.had
+    c.in_err-make_room.ensures.err
+    (c.in_err-make_room.ensures.encoder, c.in_err-make_room.ensures.flag)))
 
 pub overflow_add-taken : goal.overflow_add-taken
 overflow_add-taken g c =
@@ -46,18 +63,18 @@ pub returns-in-InputEmpty-clause-ok : goal.returns-in-InputEmpty-clause-ok
 returns-in-InputEmpty-clause-ok g c =
     let is : c.encode_mappable-outcome.result.0 ≡ InputEmpty = search rules in
     WritesText-reported (rw (c.encode_mappable-outcome.ensures.all is, is) at
-    (ReportsText-then
-    (ReportsText-then c.calls.invariant.1.reports
-    (ReportsText-push (chars c.calls.rest.now) c.in_ok-make_room.ensures.ok))
+    (ReportsSteps-then
+    (ReportsSteps-then c.calls.invariant.1.reports
+    (ReportsSteps-push (chars c.calls.rest.now) c.in_ok-make_room.ensures.ok))
     c.encode_mappable-outcome.ensures.part)) (search rules)
 
 pub returns-in-InputEmpty-clause-mappable : goal.returns-in-InputEmpty-clause-mappable
 returns-in-InputEmpty-clause-mappable g c =
     let is : c.encode_mappable-outcome.result.0 ≡ InputEmpty = search rules in
     none_unmappable (rw (c.encode_mappable-outcome.ensures.all is, is) at
-    (ReportsText-then
-    (ReportsText-then c.calls.invariant.1.reports
-    (ReportsText-push (chars c.calls.rest.now) c.in_ok-make_room.ensures.ok))
+    (ReportsSteps-then
+    (ReportsSteps-then c.calls.invariant.1.reports
+    (ReportsSteps-push (chars c.calls.rest.now) c.in_ok-make_room.ensures.ok))
     c.encode_mappable-outcome.ensures.part))
 
 pub returns-in-Unmappable-clause-stop : goal.returns-in-Unmappable-clause-stop
@@ -67,10 +84,10 @@ returns-in-Unmappable-clause-stop g c =
     let read = c.encode_mappable-outcome.result.1 in
     let unread : drop read c.calls.rest.now ≡ drop (c.calls.taken + read) c.args.text.now =
     ap (drop read) c.calls.invariant.1.rest_is ∙ drop-drop read c.calls.taken c.args.text.now in
-    ReportsText-flag true (rw (is, unread) at
-    (ReportsText-then
-    (ReportsText-then c.calls.invariant.1.reports
-    (ReportsText-push (chars c.calls.rest.now) c.in_ok-make_room.ensures.ok))
+    ReportsText-by (rw (is, unread) at
+    (ReportsSteps-then
+    (ReportsSteps-then c.calls.invariant.1.reports
+    (ReportsSteps-push (chars c.calls.rest.now) c.in_ok-make_room.ensures.ok))
     c.encode_mappable-outcome.ensures.part))
 
 pub returns-in-Unmappable-clause-boundary : goal.returns-in-Unmappable-clause-boundary
@@ -96,9 +113,9 @@ calls-preserved g c =
       search rules,
       record {
         reports = rw unread (rw is at
-            (ReportsText-then
-            (ReportsText-then c.calls.invariant.1.reports
-            (ReportsText-push (chars c.calls.rest.now) c.in_ok-make_room.ensures.ok))
+            (ReportsSteps-then
+            (ReportsSteps-then c.calls.invariant.1.reports
+            (ReportsSteps-push (chars c.calls.rest.now) c.in_ok-make_room.ensures.ok))
             c.encode_mappable-outcome.ensures.part));
         within = omega (
           arith,

@@ -3,13 +3,13 @@ use denote.Text.{Utf8}
 use denote.Shadow.{shadow}
 use Rattle.enc_units.specs.declared.encoder_result.EncoderResult.TheVariants.{OutputFull}
 use Rattle.enc_stream.specs.Encoder.{steps_left}
-use Rattle.enc_writer.specs.Reporting.{ReportsText}
+use Rattle.enc_writer.specs.ReportedSteps.{ReportsSteps}
 use Rattle.enc_writer.specs.Writer.{writer_of}
 use Rattle.enc_writer.proofs.encode_writer.EncodeWriter.write_str_without_replacement.Given as goal
 
 abbrev pub invariant-calls : goal.invariant-calls
 invariant-calls g l = shadow (Utf8 l.rest) × record {
-  reports : ReportsText (g.W.Sink.contents l.fn.self.writer.now)
+  reports : ReportsSteps (g.W.Sink.contents l.fn.self.writer.now)
       (g.W.Sink.contents l.self.writer.now) (writer_of l.fn.self) (writer_of l.self)
       (chars l.text) (chars l.rest) OutputFull;
   within : l.taken ≤ length l.text;

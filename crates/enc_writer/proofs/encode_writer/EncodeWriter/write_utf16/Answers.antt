@@ -3,13 +3,19 @@ use Rattle.std.specs.Char.Utf16.{utf16_lossy_chars}
 use Rattle.enc_units.specs.declared.coder_result.CoderResult.TheVariants.{InputEmpty}
 use Rattle.enc_writer.specs.Writer.{writer_of}
 use Rattle.enc_writer.proofs.SinkLemmas.{on_err}
-use Rattle.enc_writer.proofs.WritingLemmas.{HasEncoded-none, HasEncoded-push, HasEncoded-then, TakesPrefix-held}
-use Rattle.enc_writer.proofs.WritingLemmas.{WritesText-by, StopsWithin-by, StopsWithin-none}
+use Rattle.enc_writer.proofs.WritingLemmas.{HasEncoded-none, HasEncoded-push, HasEncoded-then, WritesText-by}
+use Rattle.enc_writer.proofs.StoppingLemmas.{HasStopped-none, HasStopped-held, StopsText-by, StopsWithin-stopped}
 use Rattle.enc_writer.proofs.encode_writer.EncodeWriter.write_utf16.Goals as goal
 
 pub returns-then-self-clause-err : goal.returns-then-self-clause-err
 returns-then-self-clause-err g c =
-    StopsWithin-none _ (writer_of c.args.self.now) (utf16_lossy_chars c.args.text.now) false
+    StopsWithin-stopped _
+    (HasStopped-none _ (writer_of c.args.self.now) (utf16_lossy_chars c.args.text.now) false)
+
+pub returns-then-self-clause-stopped : goal.returns-then-self-clause-stopped
+returns-then-self-clause-stopped g c =
+    StopsText-by
+    (HasStopped-none _ (writer_of c.args.self.now) (utf16_lossy_chars c.args.text.now) false)
 
 pub calls-init : goal.calls-init
 calls-init g c = record {
@@ -22,7 +28,15 @@ calls-init g c = record {
 pub returns-in_err-make_room-clause-err : goal.returns-in_err-make_room-clause-err
 returns-in_err-make_room-clause-err g c =
     on_err c.from_residual.result _
-    (StopsWithin-by (TakesPrefix-held c.calls.invariant.encoded c.in_err-make_room.ensures.err))
+    (StopsWithin-stopped (writer_of c.make_room.new.self)
+    (HasStopped-held c.calls.invariant.encoded c.in_err-make_room.ensures.err
+    (c.in_err-make_room.ensures.encoder, c.in_err-make_room.ensures.flag)))
+
+pub returns-in_err-make_room-clause-stopped : goal.returns-in_err-make_room-clause-stopped
+returns-in_err-make_room-clause-stopped g c =
+    on_err c.from_residual.result _
+    (StopsText-by (HasStopped-held c.calls.invariant.encoded c.in_err-make_room.ensures.err
+    (c.in_err-make_room.ensures.encoder, c.in_err-make_room.ensures.flag)))
 
 pub returns-then-eq-clause-ok : goal.returns-then-eq-clause-ok
 returns-then-eq-clause-ok g c =
