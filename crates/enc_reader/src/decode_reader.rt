@@ -590,7 +590,7 @@ impl<'a, R: Source> DecodeReader<'a, R> {
     ///
     /// It may be called after a fault.
     pub fn error(&self) -> Option<io::Error>
-        ensures { IfSome result (λ error. R.kept_error self.now.reader.now ≡ Some error) }
+        ensures { IfSome result (λ error. R.error self.now.reader.now ≡ Some error) }
     {
         self.reader.error()
     }
@@ -599,7 +599,7 @@ impl<'a, R: Source> DecodeReader<'a, R> {
     ///
     /// An error of the kind `Interrupted` would ask for another call, so it is not passed on.
     pub(crate) fn io_error(&self, fault: ReadFault) -> io::Error
-        ensures { IsErrorOfReader (R.kept_error self.now.reader.now) result }
+        ensures { IsErrorOfReader (R.error self.now.reader.now) result }
     {
         match self.error() {
             Some(error) if error.kind() != ErrorKind::Interrupted => error,

@@ -137,7 +137,7 @@ impl<'a, R: Source> DecodedText<'a, R> {
         ensures end { OnOk result ((text_state_of self.new).held ≡ []
             → IsTextAtEnd (R.remaining self.new.reader.reader.now) (text_state_of self.new)) }
         ensures error { IfErr result
-            (λ error. IsErrorOfReader (R.kept_error self.new.reader.reader.now) error) }
+            (λ error. IsErrorOfReader (R.error self.new.reader.reader.now) error) }
         ensures source_fails { OnErr result (self.old.reader.failed ≡ false
             → SourceFails (R.remaining self.old.reader.reader.now)
             (R.remaining self.new.reader.reader.now) (R.has_failed self.old.reader.reader.now)
@@ -294,7 +294,7 @@ impl<'a, R: Source> Read for DecodedText<'a, R> {
         ensures none { length buf.old ≡ 0 → result ≡ Ok 0 }
         ensures unread { length buf.old ≡ 0 → self.new ≡ self.old }
         ensures error { IfErr result
-            (λ error. IsErrorOf (R.kept_error self.new.reader.reader.now) error) }
+            (λ error. IsErrorOf (R.error self.new.reader.reader.now) error) }
         ensures source_fails { OnErr result (self.old.reader.failed ≡ false
             → Fails (R.remaining self.old.reader.reader.now)
             (R.remaining self.new.reader.reader.now) (R.has_failed self.old.reader.reader.now)
@@ -346,7 +346,7 @@ impl<'a, R: Source> BufRead for DecodedText<'a, R> {
             (Some (length (state_held new).held)) result)) }
         ensures retried { IfErr result (λ error. error_kind error ≢ ErrorKind.Interrupted) }
         ensures failed_before { IfErr result (λ error. self.old.reader.failed ≡ true
-            → IsReaderError (R.kept_error self.old.reader.reader.now) error) }
+            → IsReaderError (R.error self.old.reader.reader.now) error) }
     {
         if let Err(error) = self.fill_or_error() {
             return Err(error);

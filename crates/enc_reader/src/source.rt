@@ -23,7 +23,7 @@ pub trait Source {
     ghost has_failed: { Self → Bool };
 
     // The error for which it has failed, if it keeps one.
-    ghost kept_error: { Self → Option Error } = { λ _. None };
+    ghost error: { Self → Option Error } = { λ _. None };
 
     /// Writes the next bytes to the start of `buf`, and returns their number.
     ///
@@ -45,7 +45,7 @@ pub trait Source {
 
     /// Returns the error for which it has failed, if it keeps one. By default it keeps none.
     fn error(&self) -> Option<io::Error>
-        ensures { IfSome result (λ error. kept_error self.now ≡ Some error) }
+        ensures { IfSome result (λ e. error self.now ≡ Some e) }
     {
         None
     }
@@ -164,7 +164,7 @@ impl<R: Read> Source for FromRead<R> {
 
     ghost has_failed = { λ source. source.failed };
 
-    ghost kept_error = { λ source. source.error };
+    ghost error = { λ source. source.error };
 
     /// Reads from the reader, again after each error of the kind `Interrupted`.
     ///

@@ -1,12 +1,14 @@
 -- What a run has done after some reads, and where a fault stops it.
-use Rattle.std.proofs.Common.{◌≡◌, ℕ, ◌+◌, ◌-◌, ◌*◌, ◌^◌, ◌<◌, ◌≤◌, inl, inr, Bool, true, false, ◌||◌, List, []}
+use Rattle.std.proofs.Common.{◌≡◌, ℕ, ◌+◌, ◌-◌, ◌*◌, ◌^◌, ◌<◌, ◌≤◌, inl, inr, Bool, true, false, ◌||◌, List, [], ◌∷◌}
 use Rattle.std.proofs.Common.{◌++◌, length, Option, Some, None, refl, ap, ◌∙◌, sym}
 use Rattle.std.proofs.Common.{append-nil, length-append, arith, chars, subst}
 use Rattle.std.proofs.lemmas.Bool.{false≢true}
 use Rattle.std.proofs.lemmas.Str.{chars-encodes, chars-append, chars-nil}
 use Rattle.std.specs.Prelude.{IfSome, if◌then◌else◌}
 use Rattle.enc_units.proofs.Utf8CharsLemmas.{their_units}
-use Rattle.enc_decoder.specs.Sequence.{sequence_text, any_malformed}
+use Rattle.enc_decoder.specs.Sequence.{Sequence, sequence_text, any_malformed}
+use Rattle.enc_decoder.specs.Remainder.{Determines, AreDetermined}
+use Rattle.enc_decoder.proofs.DeterminedLemmas.{LeavesOff, determined_past}
 use Rattle.enc_decoder.proofs.SequenceLemmas.{sequence_text-append}
 use Rattle.enc_encoder.specs.declared.character_set.CharacterSet.TheVariants.{Ascii}
 use Rattle.enc_encoder.specs.EncoderRule.{EncoderRule}
@@ -15,7 +17,8 @@ use Rattle.enc_encoder.specs.Unmappable.{any_unmappable}
 use Rattle.enc_stream.specs.declared.bom.BomHandling.{BomHandling}
 use Rattle.enc_stream.specs.declared.encoding.Encoding.{Encoding}
 use Rattle.enc_stream.specs.Encodings.{output_rule}
-use Rattle.enc_stream.specs.Decoding.{has_finished, fresh_decoder, whole_sequences}
+use Rattle.enc_stream.specs.Encoder.{whole_bytes}
+use Rattle.enc_stream.specs.Decoding.{has_finished, fresh_decoder, whole_sequences, remaining_sequences}
 use Rattle.enc_stream.proofs.EndOfInputLemmas.{fresh_sequences, none_left}
 use Rattle.enc_stream.proofs.EncoderProgressLemmas.{output_rule_is}
 use Rattle.enc_reader.specs.Source.{ConsumesRemaining, IsExhausted}
@@ -26,10 +29,11 @@ use Rattle.enc_reader.proofs.ReadingLemmas.{ReaderPlace, reader_at, ReadsOwed-no
 use Rattle.enc_writer.specs.Sink.{AppendsContents}
 use Rattle.enc_writer.specs.Writing.{WriterState, HasWrittenText, TakesPrefix, StopsWithin, EndsText, WritesText}
 use Rattle.enc_writer.specs.Writing.{fresh_writer, owed_bytes}
+use Rattle.enc_writer.specs.EncodedText.{bytes_from_state}
 use Rattle.enc_writer.proofs.WritingLemmas.{HasWrittenText-none}
 use Rattle.enc_writer.proofs.StoppingLemmas.{StopsWithin-none}
 use Rattle.enc_stream.specs.Recoding.{whole_text, recoded_bytes, any_replaced}
-use Rattle.recode_engine.specs.Run.{RunsToEnd, RunsToFault}
+use Rattle.recode_engine.specs.Run.{RunsToEnd, RunsToFault, WritesDetermined}
 use Rattle.recode_engine.proofs.SourceLemmas.{all_given, none_remaining}
 
 not_ended : {P : Type 0} → false ≡ true → P
@@ -68,7 +72,7 @@ pub record RunState : Type 0 where
   pub malformed : Bool
   pub made : ℕ
 
--- Each of the reads has handed out a text: all of it is written.
+-- Each of the reads has handed out a text: all of it is written and pushed.
 pub record HasRun (start : RunStart) (now : RunState) : Type 0 where
   pub bytes : List ℕ
   pub wrote : List ℕ
@@ -78,6 +82,7 @@ pub record HasRun (start : RunStart) (now : RunState) : Type 0 where
   pub is_exhausted : now.source.state.ended ≡ true → IsExhausted now.source.remaining
   pub written : HasWrittenText start.taken now.taken (fresh_writer start.to) now.writer
       (chars wrote)
+  pub none_held : now.writer.held ≡ []
   pub enough : now.made + distance_to_end now.source.state ≤ 1 + 2 * length bytes
 
 -- A run begins one step before the end of an empty source, at most.
@@ -108,8 +113,16 @@ HasRun-start {start} all_remaining is_fresh none_taken fresh none_malformed =
       reads = ReadsOwed-none start.remaining (fresh_reader start.handling start.from);
       is_exhausted = λ e. not_ended e;
       written = rw chars-nil (HasWrittenText-none start.taken (fresh_writer start.to));
+      none_held = refl;
       enough = omega (arith, distance_at_start start.handling start.from);
     })
+
+-- The bytes of a whole text are those that a fresh writer owes for it.
+whole_is_owed : (to : Encoding) (text : List ℕ)
+    → whole_bytes [] to text ≡ owed_bytes (fresh_writer to) text
+whole_is_owed to text =
+    ap (λ (rule : EncoderRule). bytes_of_text rule Ascii (with_references rule text))
+    (sym (output_rule_is [] to))
 
 -- The bytes of a whole input are those that a fresh writer owes for its text.
 owed_is : (handling : BomHandling) (from to : Encoding) (bytes : List ℕ)
@@ -117,9 +130,7 @@ owed_is : (handling : BomHandling) (from to : Encoding) (bytes : List ℕ)
     ≡ owed_bytes (fresh_writer to)
     (sequence_text (owed_sequences (fresh_reader handling from) bytes))
 owed_is handling from to bytes =
-    ap (λ (rule : EncoderRule). bytes_of_text rule Ascii
-    (with_references rule (whole_text handling from bytes)))
-    (sym (output_rule_is [] to))
+    whole_is_owed to (whole_text handling from bytes)
     ∙ ap (λ ss. owed_bytes (fresh_writer to) (sequence_text ss))
     (fresh_sequences handling from bytes)
 
@@ -192,14 +203,16 @@ module _ {start : RunStart} {now : RunState} (next : ReaderPlace) {text : List �
 
     -- and the bytes held are pushed
     pub HasRun-more : {taken : Option (List ℕ)} {writer : WriterState}
-        → WritesText between taken mid writer [] → 0 < length text → HasRun start (record {
+        → WritesText between taken mid writer [] → writer.held ≡ [] → 0 < length text
+        → HasRun start (record {
           source = next;
           taken = taken;
           writer = writer;
           malformed = malformed;
           made = now.made + 1;
         })
-    HasRun-more flushes some = record {
+    HasRun-more flushes none_held some = record {
+      none_held = none_held;
       bytes = so_far.bytes ++ hands_out.bytes;
       wrote = so_far.wrote ++ text;
       reads = reads_on;
@@ -261,10 +274,8 @@ module _ {start : RunStart} {now : RunState} (next : ReaderPlace) {text : List �
         ≡ recoded_bytes start.handling start.from start.to (so_far.bytes ++ hands_out.bytes)
     bytes_are =
         ap (owed_bytes (fresh_writer start.to)) text_is
-        ∙ ap (λ (rule : EncoderRule). bytes_of_text rule Ascii
-        (with_references rule (whole_text start.handling start.from
-        (so_far.bytes ++ hands_out.bytes))))
-        (output_rule_is [] start.to)
+        ∙ sym (whole_is_owed start.to (whole_text start.handling start.from
+        (so_far.bytes ++ hands_out.bytes)))
 
     flag_is : (malformed || now.writer.had_unmappables)
         ≡ any_replaced start.handling start.from start.to (so_far.bytes ++ hands_out.bytes)
@@ -301,13 +312,13 @@ module _ {start : RunStart} {now : RunState} (so_far : HasRun start now) where
       → RunsToFault start.handling start.from start.to start.remaining next.remaining start.taken
       now.taken
   stops_at next x malformed reads_owed is_exhausted =
-      RunsToFault-writing next so_far (record {
-        bytes = x;
-        malformed = malformed;
-        reads = reads_owed;
-        flag = refl;
-        exhausted = is_exhausted;
-      }) (StopsWithin-none now.taken now.writer (chars []) false)
+      RunsToFault-by_prefix start next
+      (ReadsOwed-then (reader_at start.remaining (fresh_reader start.handling start.from))
+      now.source next so_far.reads reads_owed)
+      is_exhausted (sym (chars-append so_far.wrote [] (handed_utf_8 so_far.reads)))
+      (λ is_last. not_ended is_last)
+      (StopsWithin-none now.taken now.writer (chars []) false start.taken
+      (fresh_writer start.to) (chars so_far.wrote) so_far.written)
 
   -- after `made` reads
   pub RunsToFault-between : RunsToFault start.handling start.from start.to start.remaining
@@ -332,8 +343,63 @@ module _ {start : RunStart} {now : RunState} (so_far : HasRun start now) where
         next.remaining
         start.taken now.taken
     RunsToFault-reading =
-        stops_at next fails.bytes fails.malformed fails.reads
+        stops_at next fails.bytes false fails.reads
         (λ e. absurd (false≢true (sym fails.not_ended ∙ e)))
+
+    -- All that is determined is written.
+
+    reads_to_fault : ReadsOwed start.remaining next.remaining
+        (fresh_reader start.handling start.from) next.state (so_far.bytes ++ fails.bytes)
+        (so_far.wrote ++ []) (now.malformed || false)
+    reads_to_fault =
+        ReadsOwed-then (reader_at start.remaining (fresh_reader start.handling start.from))
+        now.source next so_far.reads fails.reads
+
+    leaves_off : LeavesOff (whole_sequences start.handling start.from)
+        (remaining_sequences next.state.decoder) (so_far.bytes ++ fails.bytes) next.state.unread
+        reads_to_fault.done next.state.ended
+    leaves_off z ends =
+        fresh_sequences start.handling start.from ((so_far.bytes ++ fails.bytes) ++ z)
+        ∙ reads_to_fault.residual z ends
+
+    none_determined : (next_one : Sequence)
+        → Determines (whole_sequences start.handling start.from) (so_far.bytes ++ fails.bytes)
+        (reads_to_fault.done ++ next_one ∷ []) → ⊥
+    none_determined next_one determined =
+        fails.none_determined next_one
+        (determined_past (whole_sequences start.handling start.from)
+        (remaining_sequences next.state.decoder) (so_far.bytes ++ fails.bytes) next.state.unread
+        reads_to_fault.done next.state.ended leaves_off (next_one ∷ [])
+        (subst (λ l. AreDetermined l (whole_sequences start.handling start.from)
+        (so_far.bytes ++ fails.bytes) (reads_to_fault.done ++ next_one ∷ []))
+        (sym fails.not_ended) determined))
+
+    pub WritesDetermined-reading : WritesDetermined start.handling start.from start.to
+        start.remaining next.remaining start.taken now.taken
+    WritesDetermined-reading =
+        let text_is : chars so_far.wrote ≡ sequence_text reads_to_fault.done =
+        ap chars (sym (append-nil so_far.wrote)) ∙ handed_is reads_to_fault in
+        record {
+          bytes = so_far.bytes ++ fails.bytes;
+          given = reads_to_fault.given;
+          done = reads_to_fault.done;
+          determined = λ z are_bytes. (
+            owed_sequences next.state z,
+            leaves_off z (λ e. absurd (false≢true (sym fails.not_ended ∙ e))),
+          );
+          most = none_determined;
+          wrote = so_far.written.pushed;
+          written = so_far.written.taken;
+          encoder = now.writer.encoder;
+          encoding = so_far.written.encoding;
+          barred = so_far.written.barred;
+          text = λ z.
+              whole_is_owed start.to (sequence_text reads_to_fault.done ++ z)
+              ∙ ap (λ t. owed_bytes (fresh_writer start.to) (t ++ z)) (sym text_is)
+              ∙ so_far.written.owed z
+              ∙ ap (λ h. so_far.written.pushed
+              ++ (h ++ bytes_from_state now.writer.encoder z)) so_far.none_held;
+        }
 
     -- so the source has failed
     pub has_failed-reading : IfSome start.remaining

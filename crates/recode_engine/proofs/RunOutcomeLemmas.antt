@@ -15,7 +15,7 @@ use Rattle.enc_reader.proofs.SourceLemmas.{ConsumesRemaining-none}
 use Rattle.recode_engine.specs.declared.engine.RecodeFault.{RecodeFault}
 use Rattle.recode_engine.specs.declared.engine.RecodeFault.TheVariants as side_fault
 use Rattle.enc_stream.specs.Recoding.{recoded_bytes}
-use Rattle.recode_engine.specs.Run.{IsRecodeRun, Side, RunsToEnd, RunsToFault}
+use Rattle.recode_engine.specs.Run.{IsRecodeRun, Side, RunsToEnd, RunsToFault, WritesDetermined}
 use Rattle.enc_writer.proofs.SinkLemmas.{AppendsContents-none}
 
 -- a text that is empty, and one that isn't
@@ -92,6 +92,7 @@ module _ {handling : BomHandling} {from to : Encoding}
         err = tt;
         read_fault = λ f. cc;
         write_fault = λ f. cc;
+        all_written = λ f. cc;
         read_alone = λ f. cc;
         write_alone = λ f. cc;
         failed_source = λ f. absurd (false≢true (sym source_going ∙ f));
@@ -105,7 +106,9 @@ module _ {handling : BomHandling} {from to : Encoding}
       sink_after.bytes
       → (fault ≡ side_fault.Read → IfSome source_before.bytes
       (λ all. length all < 2 ^ 62 → source_after.has_failed ≡ true)
-      × (sink_after.has_failed ≡ sink_before.has_failed))
+      × (sink_after.has_failed ≡ sink_before.has_failed)
+      × (source_after.has_failed ≡ true → WritesDetermined handling from to source_before.bytes
+      source_after.bytes sink_before.bytes sink_after.bytes))
       → (fault ≡ side_fault.Write → (sink_after.has_failed ≡ true)
       × (source_after.has_failed ≡ source_before.has_failed))
       → IsRecodeRun handling from to source_before source_after sink_before sink_after r
@@ -117,6 +120,7 @@ module _ {handling : BomHandling} {from to : Encoding}
         err = stops;
         read_fault = λ is. (read (same_fault is)).0;
         write_fault = λ is. (write (same_fault is)).0;
+        all_written = λ is _ failed. (read (same_fault is)).2 failed;
         read_alone = λ is. (read (same_fault is)).1;
         write_alone = λ is. (write (same_fault is)).1;
         failed_source = λ f. absurd (false≢true (sym source_going ∙ f));
@@ -148,6 +152,7 @@ IsRecodeRun-not_begun {handling} {from} {to} {source} {sink} fault read write so
       };
       read_fault = λ is. IfSome-always source.bytes (λ all few. read (same_fault is));
       write_fault = λ is. write (same_fault is);
+      all_written = λ is going. absurd (false≢true (sym going ∙ read (same_fault is)));
       read_alone = λ _. refl;
       write_alone = λ _. refl;
       failed_source = λ failed. ap Err (source_first failed);

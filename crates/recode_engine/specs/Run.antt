@@ -1,16 +1,22 @@
 -- A run from a source to a sink: its text and its bytes, at the end and after a fault. The bytes
 -- are decoded by `from`, or by the encoding of a byte order mark at the start, if `handling` looks
 -- for it. The mark is dropped. The text is written in the output encoding of `to`.
-use Rattle.std.specs.Prelude.{◌≡◌, ℕ, ◌^◌, ◌<◌, Bool, true, false, ◌||◌, List, [], ◌++◌, length, Option, IfSome}
+use Rattle.std.specs.Prelude.{◌≡◌, ℕ, ◌^◌, ◌<◌, Bool, true, false, ◌||◌, List, [], ◌∷◌, ◌++◌, length, Option, IfSome}
 use Rattle.std.specs.Prelude.{option_map, IfOk, OnOk, OnErr, IsErrOf}
 use Rattle.std.specs.declared.result.Result.{Result}
 use Rattle.enc_stream.specs.declared.bom.BomHandling.{BomHandling}
 use Rattle.enc_stream.specs.declared.encoding.Encoding.{Encoding}
+use Rattle.enc_decoder.specs.Sequence.{Sequence, sequence_text}
+use Rattle.enc_decoder.specs.Remainder.{Determines}
+use Rattle.enc_stream.specs.Properties.{output_encoding_of}
+use Rattle.enc_stream.specs.Decoding.{whole_sequences}
+use Rattle.enc_stream.specs.Encoder.{EncoderState, whole_bytes}
 use Rattle.enc_stream.specs.Recoding.{recoded_bytes, any_replaced}
 use Rattle.enc_reader.specs.Source.{ConsumesRemaining, IsExhausted}
 use Rattle.recode_engine.specs.declared.engine.RecodeFault.{RecodeFault}
 use Rattle.recode_engine.specs.declared.engine.RecodeFault.TheVariants as fault
 use Rattle.enc_writer.specs.Sink.{AppendsContents, BeginsWithBytes}
+use Rattle.enc_writer.specs.EncodedText.{bytes_from_state}
 
 -- A run that has reached the end of its source, by the bytes that the two sides model before and
 -- after it.
@@ -43,6 +49,28 @@ pub record RunsToFault (handling : BomHandling) (from to : Encoding)
   pub prefix : (z : List ℕ) → (ended ≡ true → z ≡ [])
       → BeginsWithBytes (recoded_bytes handling from to (bytes ++ z)) wrote
 
+-- A run whose source has failed: all text that the bytes given determine is written.
+pub record WritesDetermined (handling : BomHandling) (from to : Encoding)
+    (remaining_before remaining_after : Option (List ℕ))
+    (taken_before taken_after : Option (List ℕ)) : Type 0 where
+  -- the bytes that the source gave during the run
+  pub bytes : List ℕ
+  pub given : ConsumesRemaining remaining_before remaining_after bytes
+  -- the sequences that they determine, whatever bytes follow, and none more
+  pub done : List Sequence
+  pub determined : Determines (whole_sequences handling from) bytes done
+  pub most : (next : Sequence)
+      → Determines (whole_sequences handling from) bytes (done ++ next ∷ []) → ⊥
+  -- Their text is written: whatever text follows it, its bytes are those that the sink has taken,
+  -- and those of the text that follows.
+  pub wrote : List ℕ
+  pub written : AppendsContents taken_before taken_after wrote
+  pub encoder : EncoderState
+  pub encoding : encoder.encoding ≡ output_encoding_of to
+  pub barred : encoder.barred ≡ []
+  pub text : (z : List ℕ)
+      → whole_bytes [] to (sequence_text done ++ z) ≡ wrote ++ bytes_from_state encoder z
+
 -- A source or a sink: the bytes still to come or already taken, if it models them, and whether it
 -- has failed.
 pub record Side : Type 0 where
@@ -70,6 +98,11 @@ pub record IsRecodeRun (handling : BomHandling) (from to : Encoding)
   pub read_fault : IsErrOf result fault.Read
       → IfSome source_before.bytes (λ all. length all < 2 ^ 62 → source_after.has_failed ≡ true)
   pub write_fault : IsErrOf result fault.Write → sink_after.has_failed ≡ true
+  -- If the source has failed in the run, nothing is withheld that its bytes determine.
+  pub all_written : IsErrOf result fault.Read → source_before.has_failed ≡ false
+      → source_after.has_failed ≡ true
+      → WritesDetermined handling from to source_before.bytes source_after.bytes sink_before.bytes
+      sink_after.bytes
   -- The side that it does not name has not failed in the run.
   pub read_alone : IsErrOf result fault.Read → sink_after.has_failed ≡ sink_before.has_failed
   pub write_alone : IsErrOf result fault.Write → source_after.has_failed ≡ source_before.has_failed

@@ -1,4 +1,4 @@
-use Rattle.std.proofs.Common.{refl, rules, ◌≡◌, ◌<◌, ◌∙◌, sym, length, []}
+use Rattle.std.proofs.Common.{refl, rules, ◌≡◌, ◌<◌, ◌∙◌, sym, ap, length, []}
 use Rattle.std.proofs.lemmas.Bool.{false≢true}
 use Rattle.enc_reader.specs.Reader.{state_of}
 use Rattle.enc_reader.proofs.ReadingLemmas.{reader_at}
@@ -6,6 +6,8 @@ use Rattle.recode_engine.specs.declared.engine.RecodeFault.TheVariants.{Read, Wr
 use Rattle.recode_engine.proofs.RunLemmas.{has_failed-between, has_failed-reading, HasRun-start, HasRun-more}
 use Rattle.recode_engine.proofs.RunLemmas.{RunsToEnd-last, RunsToFault-between, RunsToFault-writing}
 use Rattle.recode_engine.proofs.RunLemmas.{RunsToFault-pushing, RunsToFault-ending, RunsToFault-reading}
+use Rattle.recode_engine.proofs.RunLemmas.{WritesDetermined-reading}
+use Rattle.enc_writer.specs.Writing.{WriterState}
 use Rattle.recode_engine.proofs.RunOutcomeLemmas.{HandsOut-by, IsRecodeRun-ok, IsRecodeRun-fault}
 use Rattle.recode_engine.proofs.RunOutcomeLemmas.{RunsToEnd-by, when_err, is_readers, no_text, some_text}
 use Rattle.recode_engine.proofs.engine.write_all.Goals as goal
@@ -34,7 +36,11 @@ returns-in_default-clause-run g c = λ handling from to fresh_reader fresh_write
     let fails = c.read_or_lend.ensures.reader_fault fault in
     IsRecodeRun-fault c.requires.reader c.requires.writer Read refl
     (RunsToFault-reading ran next fails)
-    (λ _. (has_failed-reading ran next fails, invariant.writer_kept)) (λ is. cc)
+    (λ _. (
+      has_failed-reading ran next fails,
+      invariant.writer_kept,
+      λ _. WritesDetermined-reading ran next fails,
+    )) (λ is. cc)
 
 pub returns-in_default-end_text-clause-run : goal.returns-in_default-end_text-clause-run
 returns-in_default-end_text-clause-run g c = λ handling from to fresh_reader fresh_writer.
@@ -97,7 +103,8 @@ reads-preserved g c =
       ran = λ handling from to fresh_reader fresh_writer.
           HasRun-more next (c.reads.invariant.ran handling from to fresh_reader fresh_writer)
           (HandsOut-by c.text-piece.ensures c.in-Ok.ensures.ok)
-          (rw same at c.in-Ok-write_str.ensures.ok) c.in-Ok-push_held.ensures.ok some;
+          (rw same at c.in-Ok-write_str.ensures.ok) c.in-Ok-push_held.ensures.ok
+          (ap (λ (w : WriterState). w.held) c.in-Ok-push_held.ensures.none_held) some;
       text_room = search rules;
       reading = search rules;
       writing = search rules;
@@ -112,4 +119,8 @@ returns-clause-run g c = λ handling from to fresh_reader fresh_writer.
     let invariant = c.reads.invariant in
     let ran = invariant.ran handling from to fresh_reader fresh_writer in
     IsRecodeRun-fault c.requires.reader c.requires.writer Read refl (RunsToFault-between ran)
-    (λ _. (has_failed-between ran _ (search rules), invariant.writer_kept)) (λ is. cc)
+    (λ _. (
+      has_failed-between ran _ (search rules),
+      invariant.writer_kept,
+      λ failed. absurd (false≢true (sym (invariant.reader_kept ∙ c.requires.reader) ∙ failed)),
+    )) (λ is. cc)

@@ -15,7 +15,7 @@ returns-in-Err g c =
         after_borrow = tt;
         retried = c.in-Err.ensures.error.retried;
         failed_before = λ failed.
-            subst (λ r. IsErrorOfReader (g.R.Source.kept_error r.reader.now) c.in-Err.error)
+            subst (λ r. IsErrorOfReader (g.R.Source.error r.reader.now) c.in-Err.error)
             (c.in-Err.ensures.unchanged failed) c.in-Err.ensures.error;
       },
     )
