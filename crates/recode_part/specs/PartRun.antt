@@ -7,8 +7,8 @@ use Rattle.recode_part.specs.declared.task.Task.{Task}
 use Rattle.recode_part.specs.Bound.{bytes_within}
 
 -- The bytes of the source, up to the bound of the task, are recoded by its encodings and its byte
--- order marks: the sink takes their text, or a prefix of it after a fault. A fault names a side that
--- has failed. After the run a bound may keep bytes of the source back.
+-- order marks: the sink takes their text, or a prefix of it after a fault. A fault names a side
+-- that has failed. After the run a bound may keep bytes of the source back.
 abbrev pub IsPartRun : Task → Side → Side → Side → Side → Result Bool RecodeFault → Type 0
 IsPartRun task source_before source_after sink_before sink_after result = (left : Option ℕ)
     × IsRecodeRun task.handling task.from task.to
