@@ -52,8 +52,8 @@ scalar_of (a ∷ b ∷ c ∷ d ∷ z) =
 abbrev pub well_formed_tail_len : ℕ → List ℕ → ℕ
 well_formed_tail_len b z = continuing_len b (sequence_len b - 1) z
 
--- The bytes begin a well-formed sequence and are not all of it: a maximal subpart that more bytes may
--- complete.
+-- The bytes begin a well-formed sequence and are not all of it: a maximal subpart that more bytes
+-- may complete.
 abbrev pub is_incomplete_sequence : List ℕ → Bool
 is_incomplete_sequence [] = false
 is_incomplete_sequence (b ∷ z) =

@@ -1,8 +1,8 @@
 //! UTF-8 by the definition, for bytes at hand and without a state: whether they are an incomplete
 //! sequence, and a second decoder, of whole inputs. Tests compare the streaming decoder with it.
 //!
-//! That decoder is slow: at each sequence it looks at the bytes that follow, and it keeps nothing in
-//! between.
+//! That decoder is slow: at each sequence it looks at the bytes that follow, and it keeps nothing
+//! in between.
 
 ghost use Rattle.std.specs.Prelude.{◌≡◌, ◌+◌, ◌<◌, ◌≤◌, [], ◌∷◌, ◌++◌, length, take, drop};
 ghost use Rattle.std.specs.Prelude.{slice_index, IfOk, OnOk};

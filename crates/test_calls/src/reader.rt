@@ -4,6 +4,7 @@
 //! Expected values come from the Encoding Standard and from Python's codecs. The text of a whole
 //! input is that of `decode`.
 
+mod faults;
 mod lending;
 mod lines;
 mod pauses;

@@ -231,7 +231,7 @@ fn gives_a_fault_to_std(rt: HostRuntime) -> Result<(), Fail> {
     let Err(fault) = text.read(&mut part) else {
         return Err("no fault".into());
     };
-    assert!(rt; fault.kind() == ErrorKind::Other);
+    assert!(rt; fault.kind() == ErrorKind::BrokenPipe);
     assert!(rt; text.fill_buf().is_err());
     Ok(())
 }

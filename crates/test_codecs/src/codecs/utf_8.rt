@@ -2,7 +2,7 @@
 //! definition D93b.
 
 use enc_codec::Utf8Decoder;
-use enc_decoder_utf::plain::decode_utf_8;
+use enc_decoder_utf::plain::{decode_utf_8, is_incomplete_sequence};
 use encoding_rs::{CoderResult, DecoderResult, UTF_8};
 use std::alloc::Global;
 use std::process::Abort;
@@ -177,4 +177,42 @@ fn cuts_and_rooms_change_nothing(rt: HostRuntime) -> Result<(), Fail> {
         compare_plain(&rt, rt.alloc(), row)?;
     }
     Ok(())
+}
+
+#[test]
+fn incomplete_sequences_are_known(rt: HostRuntime) {
+    // by table 3-7 of the Unicode Standard
+    let incomplete: [&[u8]; 9] = [
+        b"\xC2",
+        b"\xDF",
+        b"\xE0\xA0",
+        b"\xED\x9F",
+        b"\xEF\xBF",
+        b"\xF0",
+        b"\xF0\x90",
+        b"\xF4\x8F\xBF",
+        b"\xF1\x80",
+    ];
+    for bytes in incomplete {
+        assert!(rt; is_incomplete_sequence(bytes), "{bytes:?}");
+    }
+    let others: [&[u8]; 14] = [
+        b"",
+        b"a",
+        b"\x80",
+        b"\xC1",
+        b"\xC2\x80",
+        b"\xC2a",
+        b"\xE0\x80",
+        b"\xE0\xA0\x80",
+        b"\xED\xA0",
+        b"\xE1\x80a",
+        b"\xF0\x8F",
+        b"\xF4\x90",
+        b"\xF5",
+        b"\xF1\x80\xC2",
+    ];
+    for bytes in others {
+        assert!(rt; !is_incomplete_sequence(bytes), "{bytes:?}");
+    }
 }

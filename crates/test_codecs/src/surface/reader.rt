@@ -123,6 +123,8 @@ fn pull_once<S: Source>(rt: &impl Abort, source: &mut S, want: (Result<usize, ()
     let answer: Result<usize, ()> = source.pull(&mut buf);
     let has_failed: bool = source.failed();
     assert!(rt; (answer, has_failed) == want);
+    let error: Option<io::Error> = source.error();
+    assert!(rt; error.is_some() == has_failed);
 }
 
 #[test]
@@ -164,6 +166,8 @@ fn a_reader_reports_a_fault_once(rt: HostRuntime) {
     assert!(rt; reader.read_str(&mut [0; 4]) == Err(ReadFault::Reader));
     assert!(rt; reader.read_str(&mut [0; 4]) == Err(ReadFault::Failed));
     assert!(rt; (reader.encoding(), reader.had_errors()) == (UTF_8, false));
+    let error: Option<io::Error> = reader.error();
+    assert!(rt; error.map(|e| e.kind()) == Some(ErrorKind::BrokenPipe));
 }
 
 #[test]
@@ -187,15 +191,27 @@ fn a_text_gives_lines_and_bytes(rt: HostRuntime) -> Result<(), Fail> {
 #[test]
 fn faults_of_a_line_are_printed_and_become_errors(rt: HostRuntime) -> Result<(), Fail> {
     let rows = [
-        (LineFault::from(ReadFault::Failed), ErrorKind::Other),
-        (LineFault::Read(ReadFault::Reader), ErrorKind::Other),
-        (LineFault::Memory, ErrorKind::OutOfMemory),
-        (LineFault::MidCharacter, ErrorKind::InvalidData),
+        (
+            LineFault::from(ReadFault::Failed),
+            ErrorKind::Other,
+            "the reader of the text has failed before",
+        ),
+        (
+            LineFault::Read(ReadFault::Reader),
+            ErrorKind::Other,
+            "the source of the text failed",
+        ),
+        (LineFault::Memory, ErrorKind::OutOfMemory, "out of memory"),
+        (
+            LineFault::MidCharacter,
+            ErrorKind::InvalidData,
+            "a part of a character is taken",
+        ),
     ];
-    for (fault, kind) in rows {
+    for (fault, kind, want) in rows {
         assert!(rt; are_equal(&fault, &fault));
         let text = format!(in rt.alloc(); "{fault}")?;
-        assert!(rt; !text.is_empty());
+        assert!(rt; text.as_str() == want);
         assert!(rt; io::Error::from(fault).kind() == kind);
     }
     Ok(())
