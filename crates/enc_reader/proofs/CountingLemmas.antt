@@ -1,7 +1,7 @@
 -- The count of the bytes given, and the malformed sequences passed, over several steps.
 use Rattle.std.proofs.Common.{◌≡◌, ℕ, ◌+◌, ◌-◌, ◌^◌, ◌≤◌, min, Bool, true, false, List, [], ◌++◌, length}
 use Rattle.std.proofs.Common.{take, drop}
-use Rattle.std.proofs.Common.{Option, refl, ap, ◌∙◌, sym, arith, append_assoc, append-nil, length-append, nat_eq, ◌||◌}
+use Rattle.std.proofs.Common.{Option, refl, ap, ◌∙◌, sym, arith, append-nil, length-append, nat_eq, ◌||◌}
 use Rattle.std.proofs.Math.ListN.{length-drop}
 use Rattle.std.proofs.lemmas.List.{length-take}
 use Rattle.enc_decoder.specs.Sequence.{sequence_bytes}
@@ -22,7 +22,7 @@ use Rattle.enc_stream.proofs.EndOfInputLemmas.{fresh_sequences}
 use Rattle.enc_stream.proofs.FaultLemmas.{no_faults, faults-append}
 use Rattle.enc_reader.specs.Source.{ConsumesRemaining, IsExhausted}
 use Rattle.enc_reader.specs.Reading.{ReaderState, ReadsOwed, HandsOut, fresh_reader, owed_sequences}
-use Rattle.enc_reader.specs.Turn.{PullsChunk, IsTurn}
+use Rattle.enc_reader.specs.Turn.{IsTurn}
 use Rattle.enc_reader.specs.Counting.{HasGiven, owed_faults, PassesFaults, CountsBytes, PullsCounted}
 use Rattle.enc_reader.specs.Counting.{HandsOutCounted}
 use Rattle.enc_reader.proofs.ReadingLemmas.{ReaderPlace, reader_at, HasRead, HasRead-turn, HasRead-more}

@@ -9,11 +9,11 @@ use Rattle.std.proofs.Transfers.{StopsAt-of_All, StopsAt-take, StopsAt-append, d
 use Rattle.std.specs.Io.{appended_bytes}
 use Rattle.std.specs.Io.KnownBytes.{Consumes}
 use Rattle.enc_reader.specs.Source.{IsExhausted}
-use Rattle.enc_reader.specs.Reading.{ReaderState, FailsToRead}
+use Rattle.enc_reader.specs.Reading.{FailsToRead}
 use Rattle.enc_reader.specs.HeldText.{TextState, TakesText, IsTextAtEnd, EndsWithByte, AppendsText, AppendsLine}
 use Rattle.enc_reader.specs.HeldText.{SourceFails, remaining_text}
 use Rattle.enc_reader.proofs.SourceLemmas.{ConsumesRemaining-then}
-use Rattle.enc_reader.proofs.HeldTextLemmas.{holding, TakesText-none, TakesText-then, TakesText-held, takes_known}
+use Rattle.enc_reader.proofs.HeldTextLemmas.{TakesText-none, TakesText-then, TakesText-held, takes_known}
 
 abbrev is_no_feed : ℕ → Type 0
 is_no_feed b = b ≢ 10
@@ -43,20 +43,24 @@ AppendsLine-end line takes at_end = record {
 }
 
 -- the first bytes of the text that is held, up to and with the first line feed, or all
-pub AppendsLine-held : {t₀ t₁ : Option (List ℕ)} {a : TextState} {s : ReaderState}
-    (held : List ℕ) {had : Bool} {line_before line_after : List ℕ} (len : ℕ) (is_whole : Bool)
-    → TakesText t₀ t₁ a (holding s held had) [] → 0 < len → len ≤ length held
-    → All (λ b. b ≢ 10) (take (len - 1) held) → is_whole ≡ (get_or held (len - 1) 0 == 10)
-    → line_after ≡ line_before ++ take len held
-    → AppendsLine t₀ t₁ a (holding s (drop len held) had) line_before line_after is_whole
-AppendsLine-held {t₁ = t₁} {s = s} held {had = had} len is_whole filled some within before is appended =
+pub AppendsLine-held : {t₀ t₁ : Option (List ℕ)} {a : TextState} (filled : TextState)
+    {line_before line_after : List ℕ} (len : ℕ) (is_whole : Bool)
+    → TakesText t₀ t₁ a filled [] → 0 < len → len ≤ length filled.held
+    → All (λ b. b ≢ 10) (take (len - 1) filled.held)
+    → is_whole ≡ (get_or filled.held (len - 1) 0 == 10)
+    → line_after ≡ line_before ++ take len filled.held
+    → AppendsLine t₀ t₁ a (record filled { held = drop len filled.held }) line_before line_after
+    is_whole
+AppendsLine-held {t₁ = t₁} filled len is_whole takes some within before is appended =
+    let held = filled.held in
     let last : len - 1 < length held = omega (arith, some, within) in
     let all : len - 1 + 1 ≡ len = omega (arith, some) in
     let long = length-take-le len held within in
     record {
       wrote = take len held;
       appended = appended;
-      takes = TakesText-then filled (TakesText-held t₁ s held had len);
+      takes = TakesText-then takes
+          (TakesText-held t₁ filled.reader held filled.had_errors len);
       stops = StopsAt-take held 10 len within before;
       part = λ no. subst (λ k. All is_no_feed (take k held)) all
           (All-more is_no_feed held (len - 1) 0 last before

@@ -7,11 +7,11 @@ use Rattle.std.specs.Char.{encode_utf8}
 use Rattle.enc_units.specs.Output.{AreScalars}
 use Rattle.enc_units.specs.declared.decoder_result.DecoderResult.{DecoderResult}
 use Rattle.enc_units.specs.declared.decoder_result.DecoderResult.TheVariants.{InputEmpty, OutputFull, Malformed}
-use Rattle.enc_decoder.specs.Sequence.{Sequence, sequence_bytes, sequence_text, any_malformed}
+use Rattle.enc_decoder.specs.Sequence.{sequence_bytes, any_malformed}
 use Rattle.enc_decoder.specs.Call.{Fatal}
 use Rattle.enc_decoder.proofs.InnerInputLemmas.{sequence_at_end}
 use Rattle.enc_decoder.proofs.SequenceLemmas.{sequence_bytes-one, scalars_of-one, units-one, any_malformed-one}
-use Rattle.enc_decoder.proofs.SequenceLemmas.{or_false, or_true}
+use Rattle.enc_decoder.proofs.SequenceLemmas.{or_true}
 use Rattle.enc_stream.specs.LifeCycle.{Within, phase_of, life_after}
 use Rattle.enc_stream.specs.Decoding.{DecoderState, has_finished, DecodesChunk}
 use Rattle.enc_stream.specs.Faults.{faults_from}
@@ -30,7 +30,7 @@ use Rattle.enc_reader.proofs.ReadingLemmas.{ReaderPlace, reader_at, ReadsOwed-th
 use Rattle.enc_reader.proofs.CountingLemmas.{first_offset, offset_after, passes_done, passes_none, PassesFaults-turn}
 use Rattle.enc_reader.proofs.CountingLemmas.{HasCounted, HasCounted-turn, HasCounted-more}
 use Rattle.enc_reader.proofs.CountingLemmas.{HandsOut-read, HasGiven-then}
-use Rattle.enc_reader.proofs.TurnLemmas.{CanDecode, HandsOutSequences, unread_call, reads_owed, is_turn, still_among}
+use Rattle.enc_reader.proofs.TurnLemmas.{CanDecode, HandsOutSequences, unread_call, reads_owed, is_turn}
 
 -- a call of the decoder without replacement with the unread bytes
 module _ (before : ReaderState) {new : DecoderState} {room : ℕ} {result : DecoderResult}

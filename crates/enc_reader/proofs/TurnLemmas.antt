@@ -224,51 +224,47 @@ chunk_can_decode filled at xs {ended = ended} going decoded within tested roomy 
   roomy = roomy;
 }
 
+-- a reader with a part of the buffer to decode
+abbrev chunk : DecoderState → Bool → ℕ → ℕ → List ℕ → ReaderState
+chunk d ended filled at xs =
+    record { decoder = d; unread = take (filled - at) (drop at xs); ended = ended }
+
 -- after a call with it, by the places in the buffer
 module _ {d new : DecoderState} {mode : DecodeErrorMode} {room : ℕ} {result : DecoderResult}
-    {read : ℕ} {wrote : List ℕ} {replaced ended : Bool} (filled at : ℕ) (xs : List ℕ)
-    (decodes : DecodesChunk encode_utf8 d new (unread_call (record {
-      decoder = d;
-      unread = take (filled - at) (drop at xs);
-      ended = ended;
-    }) mode room result read wrote replaced))
-    (decoded : at ≤ filled) (within : filled ≤ length xs) where
-  abbrev made : Call
-  made = unread_call (record {
-    decoder = d;
-    unread = take (filled - at) (drop at xs);
-    ended = ended;
-  }) mode room result read wrote replaced
+    {read : ℕ} {wrote : List ℕ} {replaced ended : Bool} where
+  module _ (filled at : ℕ) (xs : List ℕ)
+      (decodes : DecodesChunk encode_utf8 d new
+      (unread_call (chunk d ended filled at xs) mode room result read wrote replaced))
+      (decoded : at ≤ filled) (within : filled ≤ length xs) where
+    abbrev made : Call
+    made = unread_call (chunk d ended filled at xs) mode room result read wrote replaced
 
-  -- bytes all of which are decoded determine nothing more
-  pub chunk_settles : CanDecode (record {
-    decoder = d;
-    unread = take (filled - at) (drop at xs);
-    ended = ended;
-  }) room → at + read ≡ filled → ended ≡ false → IsUndetermined (remaining_sequences new)
-  chunk_settles can_decode all_read not_ended =
-      call_settles made decodes not_ended
-      (omega (
-        arith,
-        decoded,
-        within,
-        all_read,
-        length-take (filled - at) (drop at xs),
-        length-drop at xs,
-      ))
-      (can_decode.some not_ended)
+    -- bytes all of which are decoded determine nothing more
+    pub chunk_settles : CanDecode (chunk d ended filled at xs) room → at + read ≡ filled
+        → ended ≡ false → IsUndetermined (remaining_sequences new)
+    chunk_settles can_decode all_read not_ended =
+        call_settles made decodes not_ended
+        (omega (
+          arith,
+          decoded,
+          within,
+          all_read,
+          length-take (filled - at) (drop at xs),
+          length-drop at xs,
+        ))
+        (can_decode.some not_ended)
 
-  pub chunk_fills_room : (n : ℕ) → length wrote ≡ n → lens_of_result result ≡ None
-      → FillsRoom room n (record {
-        decoder = new;
-        unread = take (filled - (at + read)) (drop (at + read) xs);
-        ended = ended;
-      })
-  chunk_fills_room n is_length unreported next determined =
-      subst (λ k. room < k + length (units_of_text encode_utf8 next.text)) is_length
-      (call_fills_room made decodes unreported next
-      (subst (λ x. AreDetermined ended (remaining_sequences new) x (next ∷ []))
-      (sym (left_of filled at read xs decoded decodes.call.within)) determined))
+    pub chunk_fills_room : (n : ℕ) → length wrote ≡ n → lens_of_result result ≡ None
+        → FillsRoom room n (record {
+          decoder = new;
+          unread = take (filled - (at + read)) (drop (at + read) xs);
+          ended = ended;
+        })
+    chunk_fills_room n is_length unreported next determined =
+        subst (λ k. room < k + length (units_of_text encode_utf8 next.text)) is_length
+        (call_fills_room made decodes unreported next
+        (subst (λ x. AreDetermined ended (remaining_sequences new) x (next ∷ []))
+        (sym (left_of filled at read xs decoded decodes.call.within)) determined))
 
 pub some_text : (n : ℕ) (xs : List ℕ) → 0 < n → n ≤ length xs → take n xs ≡ [] → ⊥
 some_text n xs h w e = omega (arith, h, w, ap length e, length-take n xs)

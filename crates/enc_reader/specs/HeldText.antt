@@ -36,8 +36,8 @@ abbrev pub remaining_text : Option (List ℕ) → TextState → Option (List ℕ
 remaining_text remaining s = option_map (owed_text s) remaining
 
 -- The text `wrote` is taken: that which was held, and then that which the reader hands out, except
--- what is held now. Nothing is lost, and nothing comes twice. The reader remembers whether a sequence
--- was malformed.
+-- what is held now. Nothing is lost, and nothing comes twice. The reader remembers whether a
+-- sequence was malformed.
 pub record TakesText (remaining_before remaining_after : Option (List ℕ)) (old new : TextState)
     (wrote : List ℕ) : Type 0 where
   pub bytes : List ℕ
@@ -48,9 +48,9 @@ pub record TakesText (remaining_before remaining_after : Option (List ℕ)) (old
   pub flag : new.had_errors ≡ (old.had_errors || malformed)
 
 -- the bytes that a read has taken into a buffer
-abbrev pub taken_bytes : {E : Type 0} → Result ℕ E → List ℕ → List ℕ
-taken_bytes (Ok n) buf = take n buf
-taken_bytes (Err e) buf = []
+abbrev pub bytes_of_read : {E : Type 0} → Result ℕ E → List ℕ → List ℕ
+bytes_of_read (Ok n) buf = take n buf
+bytes_of_read (Err e) buf = []
 
 -- The end: nothing is held, and the reader is at its end.
 pub record IsTextAtEnd (remaining : Option (List ℕ)) (s : TextState) : Type 0 where

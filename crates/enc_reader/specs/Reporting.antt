@@ -9,7 +9,7 @@ use Rattle.enc_reader.specs.declared.decode_reader.reporting.ReadStop.{ReadStop}
 use Rattle.enc_reader.specs.declared.decode_reader.reporting.ReadStop.TheVariants.{Text, Malformed}
 use Rattle.enc_reader.specs.declared.decode_reader.reporting.MalformedLens.{MalformedLens}
 use Rattle.enc_reader.specs.Reading.{ReaderState, HandsOut}
-use Rattle.enc_reader.specs.Counting.{HasGiven, PassesFaults, HandsOutCounted}
+use Rattle.enc_reader.specs.Counting.{HasGiven, PassesFaults}
 
 -- the number of bytes of text written
 abbrev pub written_of : ReadStop → ℕ

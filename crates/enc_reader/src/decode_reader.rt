@@ -595,7 +595,7 @@ impl<'a, R: Source> DecodeReader<'a, R> {
         self.reader.error()
     }
 
-    /// Returns a fault as an I/O error: the error that the source keeps, or one of the kind `Other`.
+    /// Returns a fault as an I/O error: the source's own, or one of the kind `Other`.
     ///
     /// An error of the kind `Interrupted` would ask for another call, so it is not passed on.
     pub(crate) fn io_error(&self, fault: ReadFault) -> io::Error

@@ -269,7 +269,8 @@ impl<'a, R: Source> Read for DecodedText<'a, R> {
     ghost use Rattle.std.specs.Io.KnownBytes.{ReadConsumes};
     ghost use Rattle.enc_reader.specs.Errors.{IsErrorOfReader as IsErrorOf};
     ghost use Rattle.enc_reader.specs.HeldText.{text_state_of as state_in_read, remaining_text as text_in_read};
-    ghost use Rattle.enc_reader.specs.HeldText.{TakesText as Takes, IsTextAtEnd as IsAtTextEnd, SourceFails as Fails, taken_bytes};
+    ghost use Rattle.enc_reader.specs.HeldText.{TakesText as Takes, IsTextAtEnd as IsAtTextEnd};
+    ghost use Rattle.enc_reader.specs.HeldText.{SourceFails as Fails, bytes_of_read};
 
     // the text still to be taken, if the source models its bytes
     ghost remaining = { λ t. text_in_read (R.remaining t.reader.reader.now) (state_in_read t) };
@@ -288,7 +289,7 @@ impl<'a, R: Source> Read for DecodedText<'a, R> {
             result buf.new }
         ensures takes { Takes (R.remaining self.old.reader.reader.now)
             (R.remaining self.new.reader.reader.now) (state_in_read self.old)
-            (state_in_read self.new) (taken_bytes result buf.new) }
+            (state_in_read self.new) (bytes_of_read result buf.new) }
         ensures end { result ≡ Ok 0 → 0 < length buf.new
             → IsAtTextEnd (R.remaining self.new.reader.reader.now) (state_in_read self.new) }
         ensures none { length buf.old ≡ 0 → result ≡ Ok 0 }
@@ -340,7 +341,8 @@ impl<'a, R: Source> BufRead for DecodedText<'a, R> {
             (state_held self.old)) (λ xs. IfOk result (λ s. StartsWith xs s.now)) }
         ensures end { IfSome (text_held (R.remaining self.old.reader.reader.now)
             (state_held self.old)) (λ xs. IfOk result (λ s. length s.now ≡ 0 → xs ≡ [])) }
-        ensures* after_borrow { sem 𝓛 (Rests (text-row (record { mir = named 1; lft = [] }) R.row R.Source) self.entry (λ new.
+        ensures* after_borrow { sem 𝓛 (Rests
+            (text-row (record { mir = named 1; lft = [] }) R.row R.Source) self.entry (λ new.
             FillKeeps (text_held (R.remaining self.old.reader.reader.now) (state_held self.old))
             (text_held (R.remaining new.reader.reader.now) (state_held new))
             (Some (length (state_held new).held)) result)) }

@@ -197,6 +197,6 @@ impl<R: Read> Source for FromRead<R> {
     fn error(&self) -> Option<io::Error>
         ensures { result ≡ self.now.error }
     {
-        self.error
+        self.error.as_ref().copied()
     }
 }

@@ -1,3 +1,4 @@
 pub mod SourceLemmas
 pub mod RunLemmas
+pub mod FaultRunLemmas
 pub mod RunOutcomeLemmas

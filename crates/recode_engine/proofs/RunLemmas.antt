@@ -1,14 +1,12 @@
 -- What a run has done after some reads, and where a fault stops it.
-use Rattle.std.proofs.Common.{◌≡◌, ℕ, ◌+◌, ◌-◌, ◌*◌, ◌^◌, ◌<◌, ◌≤◌, inl, inr, Bool, true, false, ◌||◌, List, [], ◌∷◌}
+use Rattle.std.proofs.Common.{◌≡◌, ℕ, ◌+◌, ◌-◌, ◌*◌, ◌^◌, ◌<◌, ◌≤◌, inl, inr, Bool, true, false, ◌||◌, List, []}
 use Rattle.std.proofs.Common.{◌++◌, length, Option, Some, None, refl, ap, ◌∙◌, sym}
 use Rattle.std.proofs.Common.{append-nil, length-append, arith, chars, subst}
 use Rattle.std.proofs.lemmas.Bool.{false≢true}
 use Rattle.std.proofs.lemmas.Str.{chars-encodes, chars-append, chars-nil}
 use Rattle.std.specs.Prelude.{IfSome, if◌then◌else◌}
 use Rattle.enc_units.proofs.Utf8CharsLemmas.{their_units}
-use Rattle.enc_decoder.specs.Sequence.{Sequence, sequence_text, any_malformed}
-use Rattle.enc_decoder.specs.Remainder.{Determines, AreDetermined}
-use Rattle.enc_decoder.proofs.DeterminedLemmas.{LeavesOff, determined_past}
+use Rattle.enc_decoder.specs.Sequence.{sequence_text, any_malformed}
 use Rattle.enc_decoder.proofs.SequenceLemmas.{sequence_text-append}
 use Rattle.enc_encoder.specs.declared.character_set.CharacterSet.TheVariants.{Ascii}
 use Rattle.enc_encoder.specs.EncoderRule.{EncoderRule}
@@ -18,7 +16,7 @@ use Rattle.enc_stream.specs.declared.bom.BomHandling.{BomHandling}
 use Rattle.enc_stream.specs.declared.encoding.Encoding.{Encoding}
 use Rattle.enc_stream.specs.Encodings.{output_rule}
 use Rattle.enc_stream.specs.Encoder.{whole_bytes}
-use Rattle.enc_stream.specs.Decoding.{has_finished, fresh_decoder, whole_sequences, remaining_sequences}
+use Rattle.enc_stream.specs.Decoding.{has_finished, fresh_decoder, whole_sequences}
 use Rattle.enc_stream.proofs.EndOfInputLemmas.{fresh_sequences, none_left}
 use Rattle.enc_stream.proofs.EncoderProgressLemmas.{output_rule_is}
 use Rattle.enc_reader.specs.Source.{ConsumesRemaining, IsExhausted}
@@ -29,19 +27,18 @@ use Rattle.enc_reader.proofs.ReadingLemmas.{ReaderPlace, reader_at, ReadsOwed-no
 use Rattle.enc_writer.specs.Sink.{AppendsContents}
 use Rattle.enc_writer.specs.Writing.{WriterState, HasWrittenText, TakesPrefix, StopsWithin, EndsText, WritesText}
 use Rattle.enc_writer.specs.Writing.{fresh_writer, owed_bytes}
-use Rattle.enc_writer.specs.EncodedText.{bytes_from_state}
 use Rattle.enc_writer.proofs.WritingLemmas.{HasWrittenText-none}
 use Rattle.enc_writer.proofs.StoppingLemmas.{StopsWithin-none}
 use Rattle.enc_stream.specs.Recoding.{whole_text, recoded_bytes, any_replaced}
-use Rattle.recode_engine.specs.Run.{RunsToEnd, RunsToFault, WritesDetermined}
+use Rattle.recode_engine.specs.Run.{RunsToEnd, RunsToFault}
 use Rattle.recode_engine.proofs.SourceLemmas.{all_given, none_remaining}
 
-not_ended : {P : Type 0} → false ≡ true → P
+pub not_ended : {P : Type 0} → false ≡ true → P
 not_ended e = cc
 
 -- The text owed before is that handed out and that owed now.
 
-handed_is : {t₀ t : Option (List ℕ)} {a b : ReaderState} {x wrote : List ℕ} {m : Bool}
+pub handed_is : {t₀ t : Option (List ℕ)} {a b : ReaderState} {x wrote : List ℕ} {m : Bool}
     (reads_owed : ReadsOwed t₀ t a b x wrote m) → chars wrote ≡ sequence_text reads_owed.done
 handed_is reads_owed =
     ap chars (reads_owed.text ∙ their_units (sequence_text reads_owed.done))
@@ -118,7 +115,7 @@ HasRun-start {start} all_remaining is_fresh none_taken fresh none_malformed =
     })
 
 -- The bytes of a whole text are those that a fresh writer owes for it.
-whole_is_owed : (to : Encoding) (text : List ℕ)
+pub whole_is_owed : (to : Encoding) (text : List ℕ)
     → whole_bytes [] to text ≡ owed_bytes (fresh_writer to) text
 whole_is_owed to text =
     ap (λ (rule : EncoderRule). bytes_of_text rule Ascii (with_references rule text))
@@ -345,61 +342,6 @@ module _ {start : RunStart} {now : RunState} (so_far : HasRun start now) where
     RunsToFault-reading =
         stops_at next fails.bytes false fails.reads
         (λ e. absurd (false≢true (sym fails.not_ended ∙ e)))
-
-    -- All that is determined is written.
-
-    reads_to_fault : ReadsOwed start.remaining next.remaining
-        (fresh_reader start.handling start.from) next.state (so_far.bytes ++ fails.bytes)
-        (so_far.wrote ++ []) (now.malformed || false)
-    reads_to_fault =
-        ReadsOwed-then (reader_at start.remaining (fresh_reader start.handling start.from))
-        now.source next so_far.reads fails.reads
-
-    leaves_off : LeavesOff (whole_sequences start.handling start.from)
-        (remaining_sequences next.state.decoder) (so_far.bytes ++ fails.bytes) next.state.unread
-        reads_to_fault.done next.state.ended
-    leaves_off z ends =
-        fresh_sequences start.handling start.from ((so_far.bytes ++ fails.bytes) ++ z)
-        ∙ reads_to_fault.residual z ends
-
-    none_determined : (next_one : Sequence)
-        → Determines (whole_sequences start.handling start.from) (so_far.bytes ++ fails.bytes)
-        (reads_to_fault.done ++ next_one ∷ []) → ⊥
-    none_determined next_one determined =
-        fails.none_determined next_one
-        (determined_past (whole_sequences start.handling start.from)
-        (remaining_sequences next.state.decoder) (so_far.bytes ++ fails.bytes) next.state.unread
-        reads_to_fault.done next.state.ended leaves_off (next_one ∷ [])
-        (subst (λ l. AreDetermined l (whole_sequences start.handling start.from)
-        (so_far.bytes ++ fails.bytes) (reads_to_fault.done ++ next_one ∷ []))
-        (sym fails.not_ended) determined))
-
-    pub WritesDetermined-reading : WritesDetermined start.handling start.from start.to
-        start.remaining next.remaining start.taken now.taken
-    WritesDetermined-reading =
-        let text_is : chars so_far.wrote ≡ sequence_text reads_to_fault.done =
-        ap chars (sym (append-nil so_far.wrote)) ∙ handed_is reads_to_fault in
-        record {
-          bytes = so_far.bytes ++ fails.bytes;
-          given = reads_to_fault.given;
-          done = reads_to_fault.done;
-          determined = λ z are_bytes. (
-            owed_sequences next.state z,
-            leaves_off z (λ e. absurd (false≢true (sym fails.not_ended ∙ e))),
-          );
-          most = none_determined;
-          wrote = so_far.written.pushed;
-          written = so_far.written.taken;
-          encoder = now.writer.encoder;
-          encoding = so_far.written.encoding;
-          barred = so_far.written.barred;
-          text = λ z.
-              whole_is_owed start.to (sequence_text reads_to_fault.done ++ z)
-              ∙ ap (λ t. owed_bytes (fresh_writer start.to) (t ++ z)) (sym text_is)
-              ∙ so_far.written.owed z
-              ∙ ap (λ h. so_far.written.pushed
-              ++ (h ++ bytes_from_state now.writer.encoder z)) so_far.none_held;
-        }
 
     -- so the source has failed
     pub has_failed-reading : IfSome start.remaining

@@ -6,7 +6,7 @@ use Rattle.recode_engine.specs.declared.engine.RecodeFault.TheVariants.{Read, Wr
 use Rattle.recode_engine.proofs.RunLemmas.{has_failed-between, has_failed-reading, HasRun-start, HasRun-more}
 use Rattle.recode_engine.proofs.RunLemmas.{RunsToEnd-last, RunsToFault-between, RunsToFault-writing}
 use Rattle.recode_engine.proofs.RunLemmas.{RunsToFault-pushing, RunsToFault-ending, RunsToFault-reading}
-use Rattle.recode_engine.proofs.RunLemmas.{WritesDetermined-reading}
+use Rattle.recode_engine.proofs.FaultRunLemmas.{WritesDetermined-reading}
 use Rattle.enc_writer.specs.Writing.{WriterState}
 use Rattle.recode_engine.proofs.RunOutcomeLemmas.{HandsOut-by, IsRecodeRun-ok, IsRecodeRun-fault}
 use Rattle.recode_engine.proofs.RunOutcomeLemmas.{RunsToEnd-by, when_err, is_readers, no_text, some_text}

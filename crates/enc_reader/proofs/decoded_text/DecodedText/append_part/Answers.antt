@@ -38,7 +38,7 @@ returns-clause-ok g c =
     (string_bytes c.append.new.line) (nat_eq (get_or (take len held) (len - 1) 0) 10))
     (ap (λ r. g.R.Source.remaining r.reader.now) (sym c.advance.ensures.reader))
     (state_moved filled c.advance.new.self c.advance.ensures.reader c.advance.ensures.held)
-    (AppendsLine-held (text_state_of filled).held len _ c.fill.ensures.takes some
+    (AppendsLine-held (text_state_of filled) len _ c.fill.ensures.takes some
     (subst (λ l. len ≤ length l) value line.within)
     (subst (λ l. All (λ b. b ≢ 10) (take (len - 1) l)) value line.before)
     (ap (λ x. nat_eq x 10) last ∙ ap (λ l. nat_eq (get_or l (len - 1) 0) 10) value)

@@ -41,7 +41,8 @@ returns-in-Err-clause-takes g c =
     (c.in-Err.ensures.no_error))
     (λ failed. subst
     (λ r. TakesText (g.R.Source.remaining text.reader.reader.now)
-    (g.R.Source.remaining r.reader.now) (text_state_of text) (holding (state_of r) [] r.had_errors) [])
+    (g.R.Source.remaining r.reader.now) (text_state_of text)
+    (holding (state_of r) [] r.had_errors) [])
     (sym (c.read_or_lend.ensures.unchanged failed))
     (TakesText-same _ _ _ _ none))
 

@@ -7,7 +7,8 @@ use Rattle.enc_reader.proofs.decoded_text.DecodedTextBufRead.fill_buf.Goals as g
 pub returns-in-Err : goal.returns-in-Err
 returns-in-Err g c =
     let kept = keeps_known _ _
-    (takes_known _ _ _ _ [] c.fill_or_error.ensures.takes c.fill_or_error.new.self.reader.exhausted) in (
+    (takes_known _ _ _ _ [] c.fill_or_error.ensures.takes
+    c.fill_or_error.new.self.reader.exhausted) in (
       (refl, λ _. tt, (kept, if_known _ (λ _. tt))),
       record {
         front = if_known _ (λ _. tt);
@@ -26,7 +27,8 @@ returns g c =
     let state = text_state_of c.fill_or_error.new.self in
     let source = g.R.Source.remaining c.fill_or_error.new.self.reader.reader.now in
     let kept = keeps_known _ _
-    (takes_known _ source _ state [] c.fill_or_error.ensures.takes c.fill_or_error.new.self.reader.exhausted) in (
+    (takes_known _ source _ state [] c.fill_or_error.ensures.takes
+    c.fill_or_error.new.self.reader.exhausted) in (
       (refl, λ _. tt, (kept, if_known _ (λ _. le_of_eq (ap length value)))),
       record {
         front = known_front _ source state c.held.result.now kept value;
