@@ -1,5 +1,5 @@
 -- A run whose source has failed has written all text that is determined.
-use Rattle.std.proofs.Common.{◌≡◌, ℕ, Bool, true, false, ◌||◌, List, [], ◌∷◌, ◌++◌, Option, ap, ◌∙◌, sym, subst}
+use Rattle.std.proofs.Common.{◌≡◌, Bool, false, ◌||◌, [], ◌∷◌, ◌++◌, ap, ◌∙◌, sym, subst}
 use Rattle.std.proofs.Common.{append-nil, chars}
 use Rattle.std.proofs.lemmas.Bool.{false≢true}
 use Rattle.enc_decoder.specs.Sequence.{Sequence, sequence_text}
