@@ -116,17 +116,18 @@ module _ {k₀ k₁ : Option (List ℕ)} {a b : WriterState} {t u : List ℕ} {c
   }
 
 -- After the reference is written, all of the text is, as with replacement.
-pub HasWrittenText-reference : {k₀ k₁ k₂ : Option (List ℕ)} {a b c : WriterState} {t u : List ℕ}
-    {r : EncoderResult} (reached : HasReachedReport k₀ k₁ a b t u r)
-    → HasWrittenText k₁ k₂ b c (reference_after r) → HasWrittenText k₀ k₂ a c reached.front
-HasWrittenText-reference {k₀} {k₁} {k₂} {a} {b} {c} {r = r} reached next = record {
-  encoding = next.encoding ∙ reached.encoding;
-  barred = next.barred ∙ reached.barred;
-  pushed = reached.pushed ++ next.pushed;
-  taken = AppendsContents-then k₀ k₁ k₂ reached.pushed next.pushed reached.taken next.taken;
-  owed = λ z. reached.owed z ∙ ap (λ x. reached.pushed ++ x) (next.owed z)
-      ∙ sym (append_assoc reached.pushed next.pushed (owed_bytes c z));
-  flag = next.flag
-      ∙ ap (λ x. x || any_unmappable (raw_state b.encoder).rule (reference_after r)) reached.flag
-      ∙ sym (ap (λ x. a.had_unmappables || x) reached.unmappable ∙ or_true a.had_unmappables);
-}
+module _ {k₀ k₁ k₂ : Option (List ℕ)} {a b c : WriterState} where
+  pub HasWrittenText-reference : {t u : List ℕ} {r : EncoderResult}
+      (reached : HasReachedReport k₀ k₁ a b t u r)
+      → HasWrittenText k₁ k₂ b c (reference_after r) → HasWrittenText k₀ k₂ a c reached.front
+  HasWrittenText-reference {r = r} reached next = record {
+    encoding = next.encoding ∙ reached.encoding;
+    barred = next.barred ∙ reached.barred;
+    pushed = reached.pushed ++ next.pushed;
+    taken = AppendsContents-then k₀ k₁ k₂ reached.pushed next.pushed reached.taken next.taken;
+    owed = λ z. reached.owed z ∙ ap (λ x. reached.pushed ++ x) (next.owed z)
+        ∙ sym (append_assoc reached.pushed next.pushed (owed_bytes c z));
+    flag = next.flag
+        ∙ ap (λ x. x || any_unmappable (raw_state b.encoder).rule (reference_after r)) reached.flag
+        ∙ sym (ap (λ x. a.had_unmappables || x) reached.unmappable ∙ or_true a.had_unmappables);
+  }

@@ -39,10 +39,11 @@ module _ (e : EncoderRule) where
   unfolding steps_of
   chars_of [] s = refl
   chars_of (c ∷ t) s =
-      let d = first_written_char c (e.bytes c) in
-      let set_now = set_for e s d in
+      let first_char = first_written_char c (e.bytes c) in
+      let set_now = set_for e s first_char in
       let others = steps_of e false set_now t in
-      escaped_chars (e.has s d) (e.designated d) (char_step e set_now c (e.bytes c) ∷ others)
+      escaped_chars (e.has s first_char) (e.designated first_char)
+      (char_step e set_now c (e.bytes c) ∷ others)
       ∙ ap (λ x. x ++ step_chars others) (char_reads e set_now c (e.bytes c))
       ∙ ap (λ x. c ∷ x) (chars_of t set_now)
 
@@ -71,8 +72,8 @@ module _ (e : EncoderRule) (lawful : IsLawfulEncoderRule e) where
   unfolding steps_of
   after_char s c t q [] x same ends later =
       let set_now = set_for e s (first_written_char c (e.bytes c)) in
-      let p = char_step e set_now c (e.bytes c) in
-      let first : p ≡ q = cc in
+      let step = char_step e set_now c (e.bytes c) in
+      let first : step ≡ q = cc in
       record {
         front = [];
         steps = ap (λ (y : Step). y ∷ []) first;
@@ -82,8 +83,8 @@ module _ (e : EncoderRule) (lawful : IsLawfulEncoderRule e) where
       }
   after_char s c t q (r ∷ rs) x same ends later =
       let set_now = set_for e s (first_written_char c (e.bytes c)) in
-      let p = char_step e set_now c (e.bytes c) in
-      let first : p ≡ q = cc in
+      let step = char_step e set_now c (e.bytes c) in
+      let first : step ≡ q = cc in
       let others : steps_of e false set_now t ≡ (r ∷ rs) ++ x = cc in
       let parts = later (r ∷ rs) x others ends in
       record {
@@ -107,34 +108,34 @@ module _ (e : EncoderRule) (lawful : IsLawfulEncoderRule e) where
   unfolding steps_of
   with_escape s c t h has_is [] x same ends later = cc
   with_escape s c t true has_is (q ∷ qs) x same ends later =
-      let d = first_written_char c (e.bytes c) in
-      let set_now = set_for e s d in
-      let p = char_step e set_now c (e.bytes c) in
+      let first_char = first_written_char c (e.bytes c) in
+      let set_now = set_for e s first_char in
+      let step = char_step e set_now c (e.bytes c) in
       let one = after_char s c t q qs x same ends later in
       record {
         front = c ∷ one.front;
-        steps = ap (λ b. (if b then [] else escape_step (e.designated d) ∷ [])
-            ++ (p ∷ steps_of e false set_now one.front)) has_is ∙ one.steps;
+        steps = ap (λ b. (if b then [] else escape_step (e.designated first_char) ∷ [])
+            ++ (step ∷ steps_of e false set_now one.front)) has_is ∙ one.steps;
         has = one.has;
       }
   with_escape s c t false has_is (q ∷ []) x same ends later =
-      let d = first_written_char c (e.bytes c) in
-      let first : escape_step (e.designated d) ≡ q = cc in
+      let first_char = first_written_char c (e.bytes c) in
+      let first : escape_step (e.designated first_char) ≡ q = cc in
       let none : false ≡ true =
       subst (λ (y : Step). is_some y.report ≡ true) (sym first) ends in
       cc
   with_escape s c t false has_is (q ∷ r ∷ rs) x same ends later =
-      let d = first_written_char c (e.bytes c) in
-      let set_now = set_for e s d in
-      let p = char_step e set_now c (e.bytes c) in
-      let first : escape_step (e.designated d) ≡ q = cc in
-      let others : p ∷ steps_of e false set_now t ≡ r ∷ (rs ++ x) = cc in
+      let first_char = first_written_char c (e.bytes c) in
+      let set_now = set_for e s first_char in
+      let step = char_step e set_now c (e.bytes c) in
+      let first : escape_step (e.designated first_char) ≡ q = cc in
+      let others : step ∷ steps_of e false set_now t ≡ r ∷ (rs ++ x) = cc in
       let one = after_char s c t r rs x others ends later in
       record {
         front = c ∷ one.front;
-        steps = ap (λ b. (if b then [] else escape_step (e.designated d) ∷ [])
-            ++ (p ∷ steps_of e false set_now one.front)) has_is
-            ∙ ap (λ (y : Step). y ∷ (p ∷ steps_of e false set_now one.front)) first
+        steps = ap (λ b. (if b then [] else escape_step (e.designated first_char) ∷ [])
+            ++ (step ∷ steps_of e false set_now one.front)) has_is
+            ∙ ap (λ (y : Step). y ∷ (step ∷ steps_of e false set_now one.front)) first
             ∙ ap (λ y. q ∷ y) one.steps;
         has = one.has;
       }
@@ -145,9 +146,9 @@ module _ (e : EncoderRule) (lawful : IsLawfulEncoderRule e) where
   parts [] s [] x same ends = cc
   parts [] s (q ∷ qs) x same ends = cc
   parts (c ∷ t) s done x same ends =
-      let d = first_written_char c (e.bytes c) in
-      with_escape s c t (e.has s d) refl done x same ends
-      (λ ps y later end. parts t (set_for e s d) ps y later end)
+      let first_char = first_written_char c (e.bytes c) in
+      with_escape s c t (e.has s first_char) refl done x same ends
+      (λ ps y later end. parts t (set_for e s first_char) ps y later end)
 
   -- the characters of references are written as they are, in a set that has them
   are_written : (s : CharacterSet) → e.has s 0x26 ≡ true → (x : List ℕ) → AreOfReferences x

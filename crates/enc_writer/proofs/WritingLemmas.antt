@@ -9,6 +9,7 @@ use Rattle.enc_units.specs.declared.coder_result.CoderResult.{CoderResult}
 use Rattle.enc_units.specs.Results.{encoder_result_of}
 use Rattle.enc_encoder.specs.declared.character_set.CharacterSet.TheVariants.{Ascii}
 use Rattle.enc_encoder.specs.ErrorMode.{CallInMode}
+use Rattle.enc_encoder.specs.Text.{reference_after}
 use Rattle.enc_encoder.specs.Unmappable.{any_unmappable}
 use Rattle.enc_encoder.proofs.UnmappableLemmas.{any_unmappable-append}
 use Rattle.enc_stream.specs.Encodings.{output_rule}
@@ -132,6 +133,27 @@ bytes_left old new result {c = c} held written after is_html result_is encodes w
     (omega (arith, length-drop held after)) in
     let rest_is = ap (λ t. length (bytes_from_state new t)) left_is in
     omega (arith, lengths, count, rest_is)
+
+-- the same, if a reference may be left to the caller
+pub bytes_left_reported : (old new : EncoderState) {units_of : ℕ → List ℕ} {c : CallInMode}
+    {left : List ℕ} (held written : ℕ) (after : List ℕ)
+    → (encodes : EncodesChunk units_of old new c) → c.wrote ≡ take written (drop held after)
+    → held + written ≤ length after → left ≡ encodes.rest
+    → (held + written) + length (bytes_from_state new left)
+    ≤ held + length (bytes_from_state old c.src)
+bytes_left_reported old new {c = c} held written after encodes wrote_is within left_is =
+    let later = bytes_from_state new encodes.rest in
+    let all : bytes_from_state old c.src ≡ c.wrote ++ (reference_after c.result ++ later) =
+    ap (bytes_from_state old) (sym (append-nil c.src)) ∙ encodes.call.text [] (λ _. refl)
+    ∙ ap (λ t. c.wrote ++ (reference_after c.result ++ bytes_from_state new t))
+    (append-nil encodes.rest) in
+    let lengths = ap length all ∙ length-append c.wrote (reference_after c.result ++ later) in
+    let lengths_after = length-append (reference_after c.result) later in
+    let count : length c.wrote ≡ written =
+    ap length wrote_is ∙ length-take-le written (drop held after)
+    (omega (arith, length-drop held after)) in
+    let rest_is = ap (λ t. length (bytes_from_state new t)) left_is in
+    omega (arith, lengths, lengths_after, count, rest_is)
 
 -- Bytes that fit leave room after those held.
 pub room_left : (filled len : ℕ) (output bytes : List ℕ) → filled ≤ length output

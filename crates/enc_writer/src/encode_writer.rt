@@ -23,9 +23,9 @@ const LEAST_ROOM: usize = 14;
 /// Each unmappable character becomes a decimal reference. The texts of all writes are one text: no
 /// escape sequence stands between two of them that would not stand there in one write.
 ///
-/// It borrows the sink and the buffer in which it collects bytes, and takes no memory. A writer that
-/// is dropped without [`EncodeWriter::finish`] loses the bytes held and the last escape sequence,
-/// with no error: dropping neither pushes nor flushes.
+/// It borrows the sink and the buffer in which it collects bytes, and takes no memory. A drop
+/// pushes and flushes nothing: without [`EncodeWriter::finish`] it loses the bytes held and the
+/// last escape sequence, and reports no error.
 ///
 /// A fault of the sink ends the writer for good, also one of kind `WouldBlock` or `TimedOut`: each
 /// later call returns `Failed`, and the bytes held are not pushed again. `Interrupted` is no fault.
@@ -232,7 +232,7 @@ impl<'a, W: Sink> EncodeWriter<'a, W> {
     /// Writes a text, with a decimal reference for each unmappable character.
     ///
     /// Its bytes are collected in the buffer, which is pushed when fewer than 14 bytes of it are
-    /// free. So a text of fewer than 4096 bytes is no push if its own bytes fit after those held and
+    /// free. So a text of fewer than 4096 bytes is no push if its bytes fit after those held and
     /// leave 14 bytes free. Longer text may be pushed without being encoded, after the bytes held,
     /// if it is its own bytes: in UTF-8 all of it, and in other encodings that have ASCII as itself
     /// at least 4096 bytes of ASCII at its start.
@@ -286,6 +286,12 @@ impl<'a, W: Sink> EncodeWriter<'a, W> {
         ensures progress { (result.0 ≡ CoderResult.InputEmpty → ⊥) →
             LeavesFewerSteps self.old.encoder self.new.encoder false
             (utf16_lossy_chars text.now) (utf16_lossy_chars (drop result.1 text.now)) }
+        ensures length { length self.new.output.now ≡ length self.old.output.now }
+        ensures filled { self.new.filled
+            + length (bytes_from_state self.new.encoder
+            (utf16_lossy_chars (drop result.1 text.now)))
+            ≡ self.old.filled
+            + length (bytes_from_state self.old.encoder (utf16_lossy_chars text.now)) }
         ensures writer { self.new.writer ≡ self.old.writer }
         ensures failed { self.new.failed ≡ self.old.failed }
     {
@@ -297,7 +303,8 @@ impl<'a, W: Sink> EncodeWriter<'a, W> {
 
     /// Writes a text in UTF-16, with a decimal reference for each unmappable character.
     ///
-    /// The same as [`EncodeWriter::write_str`], except that all of it is encoded. A surrogate
+    /// The same as [`EncodeWriter::write_str`], except that all of it is encoded, so no text is a
+    /// push if its bytes fit after those held and leave 14 bytes free. A surrogate
     /// without its partner in `text` is U+FFFD: so are both halves of a pair that is split between
     /// two writes.
     pub fn write_utf16(&mut self, text: &[u16]) -> Result<(), WriteFault>
@@ -317,6 +324,10 @@ impl<'a, W: Sink> EncodeWriter<'a, W> {
         ensures failed { OnErr result (self.new.failed ≡ true) }
         ensures from_then_on { IsErrOf result WriteFault.Failed ↔ self.old.failed ≡ true }
         ensures unchanged { IsErrOf result WriteFault.Failed → self.new ≡ self.old }
+        ensures no_push { FitsInBuffer (writer_of self.old) (utf16_lossy_chars text.now)
+            (length self.old.output.now) → self.new.writer ≡ self.old.writer }
+        ensures no_fault { FitsInBuffer (writer_of self.old) (utf16_lossy_chars text.now)
+            (length self.old.output.now) → self.new.failed ≡ self.old.failed }
         ensures same_writer { self.new.writer.ghost_name ≡ self.old.writer.ghost_name }
     {
         if self.failed {
@@ -348,6 +359,10 @@ impl<'a, W: Sink> EncodeWriter<'a, W> {
         ensures progress { (result.0 ≡ EncoderResult.InputEmpty → ⊥) →
             LeavesFewerSteps self.old.encoder self.new.encoder false
             (chars text.now) (chars (drop result.1 text.now)) }
+        ensures length { length self.new.output.now ≡ length self.old.output.now }
+        ensures filled { self.new.filled
+            + length (bytes_from_state self.new.encoder (chars (drop result.1 text.now)))
+            ≤ self.old.filled + length (bytes_from_state self.old.encoder (chars text.now)) }
         ensures writer { self.new.writer ≡ self.old.writer }
         ensures failed { self.new.failed ≡ self.old.failed }
         ensures had { self.new.had_unmappables ≡ self.old.had_unmappables }
@@ -395,6 +410,10 @@ impl<'a, W: Sink> EncodeWriter<'a, W> {
         ensures failed { OnErr result (self.new.failed ≡ true) }
         ensures from_then_on { IsErrOf result WriteFault.Failed ↔ self.old.failed ≡ true }
         ensures unchanged { IsErrOf result WriteFault.Failed → self.new ≡ self.old }
+        ensures no_push { FitsInBuffer (writer_of self.old) (chars text.now)
+            (length self.old.output.now) → self.new.writer ≡ self.old.writer }
+        ensures no_fault { FitsInBuffer (writer_of self.old) (chars text.now)
+            (length self.old.output.now) → self.new.failed ≡ self.old.failed }
         ensures same_writer { self.new.writer.ghost_name ≡ self.old.writer.ghost_name }
     {
         if self.failed {
@@ -474,8 +493,8 @@ impl<'a, W: Sink> EncodeWriter<'a, W> {
 
     /// Pushes the bytes held, and flushes the sink: what it writes to passes them on.
     ///
-    /// [`EncodeWriter::push_held`] does the same without a flush. No escape sequence is added: in ISO-2022-JP the bytes pushed may end in another character
-    /// set than ASCII.
+    /// [`EncodeWriter::push_held`] does the same without a flush. No escape sequence is added: in
+    /// ISO-2022-JP the bytes pushed may end in another character set than ASCII.
     ///
     /// Errors: `Writer` if the sink failed in this call, and `Failed` in each later call. The sink
     /// has taken a prefix of the bytes of all text written, and nothing more is written. The
@@ -510,8 +529,8 @@ impl<'a, W: Sink> EncodeWriter<'a, W> {
     /// that of the next text is also true if a character of this one was unmappable.
     ///
     /// Errors: `Writer` if the sink failed in this call, and `Failed` in each later call. The sink
-    /// has taken a prefix of the bytes of the text, and nothing more is written. The encoding stays,
-    /// and so does the flag of unmappable characters.
+    /// has taken a prefix of the bytes of the text, and nothing more is written. The encoding and
+    /// the flag of unmappable characters stay.
     pub fn end_text(&mut self) -> Result<bool, WriteFault>
         ensures ok { OnOk result (EndsText (W.contents self.old.writer.now)
             (W.contents self.new.writer.now) (writer_of self.old)) }
@@ -549,8 +568,8 @@ impl<'a, W: Sink> EncodeWriter<'a, W> {
     /// [`EncodeWriter::end_text`] does the same without a flush.
     ///
     /// Errors: `Writer` if the sink failed in this call, and `Failed` in each later call. The sink
-    /// has taken a prefix of the bytes of the text, and nothing more is written. The encoding stays,
-    /// and so does the flag of unmappable characters.
+    /// has taken a prefix of the bytes of the text, and nothing more is written. The encoding and
+    /// the flag of unmappable characters stay.
     pub fn finish(&mut self) -> Result<bool, WriteFault>
         ensures ok { OnOk result (EndsText (W.contents self.old.writer.now)
             (W.contents self.new.writer.now) (writer_of self.old)) }
@@ -585,7 +604,7 @@ impl<'a, W: Sink> EncodeWriter<'a, W> {
         writer
     }
 
-    /// Returns the error for which the sink has failed, and with it the writer, if the sink keeps it.
+    /// Returns the error for which the sink has failed, and so the writer, if the sink keeps it.
     ///
     /// A [`crate::FromWrite`] keeps it until it is taken: that of a full disk is of kind
     /// `StorageFull`. `None` if the sink has not failed.

@@ -119,7 +119,7 @@ fn the_flag_stays_after_its_reference_is_taken(rt: HostRuntime) {
 
 /// Ends a text to a sink that fails.
 fn end_to_a_fault<S: Sink>(rt: &impl Abort, sink: &mut S) {
-    let mut buffer = [0; 14];
+    let mut buffer = [0; 64];
     let mut encoding = EncodeWriter::new(sink, SHIFT_JIS, &mut buffer);
     assert!(rt; encoding.write_str("é") == Ok(()));
     assert!(rt; encoding.end_text() == Err(WriteFault::Writer));

@@ -290,13 +290,14 @@ fn a_text_is_pushed_at_once_from_4096_bytes_on(rt: HostRuntime) -> Result<(), Fa
     Ok(())
 }
 
-/// Writes a text three times, through a buffer that has room for all.
-fn write_thrice<S: Sink>(rt: &impl Abort, to: Encoding, text: &str, sink: &mut S) {
+/// Writes a text by each call, through a buffer that has room for all.
+fn write_by_each_call<S: Sink>(rt: &impl Abort, to: Encoding, text: &str, sink: &mut S) {
     let mut buffer = [0; 8192];
     let mut encoding = EncodeWriter::new(sink, to, &mut buffer);
     assert!(rt; encoding.write_str(text) == Ok(()));
-    assert!(rt; encoding.write_str(text) == Ok(()));
-    assert!(rt; encoding.write_str(text) == Ok(()));
+    assert!(rt; encoding.write_str_without_replacement(text) == Ok(None));
+    assert!(rt; encoding.write_utf16(&[0x61; 2500]) == Ok(()));
+    assert!(rt; encoding.write_str("b") == Ok(()));
 }
 
 #[test]
@@ -305,7 +306,7 @@ fn texts_that_fit_are_no_push(rt: HostRuntime) -> Result<(), Fail> {
         let text = long_text(rt.alloc(), 2500)?;
         let mut writer = StepWriter::new(rt.alloc(), &[]);
         let mut sink = FromWrite::new(&mut writer);
-        write_thrice(&rt, to, text.as_str(), &mut sink);
+        write_by_each_call(&rt, to, text.as_str(), &mut sink);
         assert!(rt; writer.calls == 0);
     }
     Ok(())

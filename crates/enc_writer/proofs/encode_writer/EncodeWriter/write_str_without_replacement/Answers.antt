@@ -4,9 +4,10 @@ use Rattle.std.proofs.Math.ListN.{length-drop}
 use Rattle.std.proofs.lemmas.List.{drop-drop}
 use Rattle.std.proofs.lemmas.Str.{IsCharBoundary-from_drop, IsUtf8-drop}
 use Rattle.enc_units.specs.declared.encoder_result.EncoderResult.TheVariants.{InputEmpty, OutputFull, Unmappable}
+use Rattle.enc_writer.specs.EncodedText.{bytes_from_state}
 use Rattle.enc_writer.specs.Writer.{writer_of}
 use Rattle.enc_writer.proofs.SinkLemmas.{on_err}
-use Rattle.enc_writer.proofs.WritingLemmas.{PushesBytes-none}
+use Rattle.enc_writer.proofs.WritingLemmas.{PushesBytes-none, room_left}
 use Rattle.enc_writer.proofs.StoppingLemmas.{HasStopped-none, StopsText-by, StopsWithin-stopped}
 use Rattle.enc_writer.proofs.ReportLemmas.{ReportsSteps-push, ReportsSteps-then}
 use Rattle.enc_writer.proofs.ReportLemmas.{WritesText-reported, HasStopped-reported, none_unmappable}
@@ -30,6 +31,7 @@ calls-init g c = (
         (PushesBytes-none _ (writer_of c.args.self.now));
     within = search rules;
     rest_is = refl;
+    no_push = λ fits. record { same = refl; room = refl; sum = search rules };
     going = search rules;
     had = refl;
     kept = refl;
@@ -125,9 +127,52 @@ calls-preserved g c =
         );
         rest_is = c.split_at.ensures.back ∙ ap (drop read) c.calls.invariant.1.rest_is
             ∙ drop-drop read c.calls.taken c.args.text.now;
+        no_push = λ fits.
+            let before = c.args.self.now in
+            let room = room_left before.filled (length before.output.now) before.output.now
+            (bytes_from_state before.encoder (chars c.args.text.now)) before.within fits in
+            let now = c.calls.invariant.1.no_push fits in
+            let same : c.make_room.new.self ≡ c.calls.self =
+            c.make_room.ensures.no_push (omega (arith, room, now.room, now.sum)) in
+            let filled = c.encode_mappable-outcome.ensures.filled in
+            record {
+              same = cc (same, now.same, c.encode_mappable-outcome.ensures.writer);
+              room = cc (same, now.room, c.encode_mappable-outcome.ensures.length);
+              sum = omega (arith, rw (same, ← unread) at filled, now.sum);
+            };
         going = search rules;
         had = search rules;
         kept = search rules;
         same_writer = search rules;
       },
     )
+
+pub returns-in_err-make_room-clause-no_push : goal.returns-in_err-make_room-clause-no_push
+returns-in_err-make_room-clause-no_push g c = λ fits.
+    let before = c.args.self.now in
+    let room = room_left before.filled (length before.output.now) before.output.now
+    (bytes_from_state before.encoder (chars c.args.text.now)) before.within fits in
+    let now = c.calls.invariant.1.no_push fits in
+    let same : c.make_room.new.self ≡ c.calls.self =
+    c.make_room.ensures.no_push (omega (arith, room, now.room, now.sum)) in
+    cc (same, now.same)
+
+pub returns-in-InputEmpty-clause-no_push : goal.returns-in-InputEmpty-clause-no_push
+returns-in-InputEmpty-clause-no_push g c = λ fits.
+    let before = c.args.self.now in
+    let room = room_left before.filled (length before.output.now) before.output.now
+    (bytes_from_state before.encoder (chars c.args.text.now)) before.within fits in
+    let now = c.calls.invariant.1.no_push fits in
+    let same : c.make_room.new.self ≡ c.calls.self =
+    c.make_room.ensures.no_push (omega (arith, room, now.room, now.sum)) in
+    cc (same, now.same, c.encode_mappable-outcome.ensures.writer)
+
+pub returns-in-Unmappable-clause-no_push : goal.returns-in-Unmappable-clause-no_push
+returns-in-Unmappable-clause-no_push g c = λ fits.
+    let before = c.args.self.now in
+    let room = room_left before.filled (length before.output.now) before.output.now
+    (bytes_from_state before.encoder (chars c.args.text.now)) before.within fits in
+    let now = c.calls.invariant.1.no_push fits in
+    let same : c.make_room.new.self ≡ c.calls.self =
+    c.make_room.ensures.no_push (omega (arith, room, now.room, now.sum)) in
+    cc (same, now.same, c.encode_mappable-outcome.ensures.writer)

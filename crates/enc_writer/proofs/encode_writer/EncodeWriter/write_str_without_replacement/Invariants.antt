@@ -1,8 +1,10 @@
-use Rattle.std.proofs.Common.{◌≡◌, ◌≤◌, chars, drop, length, false}
+use Rattle.std.proofs.Common.{◌≡◌, ◌+◌, ◌≤◌, chars, drop, length, false}
 use denote.Text.{Utf8}
 use denote.Shadow.{shadow}
 use Rattle.enc_units.specs.declared.encoder_result.EncoderResult.TheVariants.{OutputFull}
 use Rattle.enc_stream.specs.Encoder.{steps_left}
+use Rattle.enc_writer.specs.EncodedText.{bytes_from_state}
+use Rattle.enc_writer.specs.Writing.{FitsInBuffer}
 use Rattle.enc_writer.specs.ReportedSteps.{ReportsSteps}
 use Rattle.enc_writer.specs.Writer.{writer_of}
 use Rattle.enc_writer.proofs.encode_writer.EncodeWriter.write_str_without_replacement.Given as goal
@@ -14,6 +16,13 @@ invariant-calls g l = shadow (Utf8 l.rest) × record {
       (chars l.text) (chars l.rest) OutputFull;
   within : l.taken ≤ length l.text;
   rest_is : l.rest ≡ drop l.taken l.text;
+  no_push : FitsInBuffer (writer_of l.fn.self) (chars l.text) (length l.fn.self.output.now)
+      → record {
+        same : l.self.writer ≡ l.fn.self.writer;
+        room : length l.self.output.now ≡ length l.fn.self.output.now;
+        sum : l.self.filled + length (bytes_from_state l.self.encoder (chars l.rest))
+            ≤ l.fn.self.filled + length (bytes_from_state l.fn.self.encoder (chars l.text));
+      };
   going : l.self.failed ≡ false;
   had : l.self.had_unmappables ≡ l.fn.self.had_unmappables;
   kept : g.W.Sink.has_failed l.self.writer.now ≡ g.W.Sink.has_failed l.fn.self.writer.now;

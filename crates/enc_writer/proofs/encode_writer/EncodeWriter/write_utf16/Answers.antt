@@ -1,9 +1,11 @@
-use Rattle.std.proofs.Common.{rules, ◌≡◌, refl, ap, false}
+use Rattle.std.proofs.Common.{rules, ◌≡◌, refl, ap, false, arith, length}
 use Rattle.std.specs.Char.Utf16.{utf16_lossy_chars}
 use Rattle.enc_units.specs.declared.coder_result.CoderResult.TheVariants.{InputEmpty}
+use Rattle.enc_writer.specs.EncodedText.{bytes_from_state}
 use Rattle.enc_writer.specs.Writer.{writer_of}
 use Rattle.enc_writer.proofs.SinkLemmas.{on_err}
 use Rattle.enc_writer.proofs.WritingLemmas.{HasEncoded-none, HasEncoded-push, HasEncoded-then, WritesText-by}
+use Rattle.enc_writer.proofs.WritingLemmas.{room_left}
 use Rattle.enc_writer.proofs.StoppingLemmas.{HasStopped-none, HasStopped-held, StopsText-by, StopsWithin-stopped}
 use Rattle.enc_writer.proofs.encode_writer.EncodeWriter.write_utf16.Goals as goal
 
@@ -20,6 +22,7 @@ returns-then-self-clause-stopped g c =
 pub calls-init : goal.calls-init
 calls-init g c = record {
   encoded = HasEncoded-none _ (writer_of c.args.self.now) _ _;
+  no_push = λ fits. record { same = refl; room = refl; sum = refl };
   going = search rules;
   kept = refl;
   same_writer = refl;
@@ -56,7 +59,40 @@ calls-preserved g c =
           (HasEncoded-then
           (HasEncoded-push (utf16_lossy_chars c.calls.rest.now) false c.in_ok-make_room.ensures.ok)
           c.encode_units-outcome.ensures.part));
+      no_push = λ fits.
+          let before = c.args.self.now in
+          let room = room_left before.filled (length before.output.now) before.output.now
+          (bytes_from_state before.encoder (utf16_lossy_chars c.args.text.now)) before.within
+          fits in
+          let now = c.calls.invariant.no_push fits in
+          let same : c.make_room.new.self ≡ c.calls.self =
+          c.make_room.ensures.no_push (omega (arith, room, now.room, now.sum)) in
+          record {
+            same = cc (same, now.same, c.encode_units-outcome.ensures.writer);
+            room = cc (same, now.room, c.encode_units-outcome.ensures.length);
+            sum = cc (same, now.sum, c.encode_units-outcome.ensures.filled);
+          };
       going = search rules;
       kept = search rules;
       same_writer = search rules;
     }
+
+pub returns-in_err-make_room-clause-no_push : goal.returns-in_err-make_room-clause-no_push
+returns-in_err-make_room-clause-no_push g c = λ fits.
+    let before = c.args.self.now in
+    let room = room_left before.filled (length before.output.now) before.output.now
+    (bytes_from_state before.encoder (utf16_lossy_chars c.args.text.now)) before.within fits in
+    let now = c.calls.invariant.no_push fits in
+    let same : c.make_room.new.self ≡ c.calls.self =
+    c.make_room.ensures.no_push (omega (arith, room, now.room, now.sum)) in
+    cc (same, now.same)
+
+pub returns-then-eq-clause-no_push : goal.returns-then-eq-clause-no_push
+returns-then-eq-clause-no_push g c = λ fits.
+    let before = c.args.self.now in
+    let room = room_left before.filled (length before.output.now) before.output.now
+    (bytes_from_state before.encoder (utf16_lossy_chars c.args.text.now)) before.within fits in
+    let now = c.calls.invariant.no_push fits in
+    let same : c.make_room.new.self ≡ c.calls.self =
+    c.make_room.ensures.no_push (omega (arith, room, now.room, now.sum)) in
+    cc (same, now.same, c.encode_units-outcome.ensures.writer)
