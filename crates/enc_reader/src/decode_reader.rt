@@ -24,7 +24,6 @@ use enc_stream::constants::UTF_8;
 use enc_stream::laws::ascii_compatible_decode_ascii;
 use enc_stream::{BomHandling, CoderResult, Decoder, Encoding};
 pub use reporting::ReadStop;
-use std::io::ErrorKind;
 use std::{fmt, io};
 
 /// The least number of bytes that are lent. Fewer are decoded together with those that
@@ -232,7 +231,9 @@ impl<'a, R: Source> DecodeReader<'a, R> {
     ghost use Rattle.enc_reader.specs.Reading.{owed_sequences, owed_encoding};
     ghost use Rattle.enc_reader.specs.Reading.{NoneDetermined, FillsRoom};
     ghost use Rattle.enc_stream.specs.Faults.{whole_faults};
-    ghost use Rattle.std.specs.Prelude.{IfSome};
+    ghost use Rattle.std.specs.Prelude.{◌≢◌, IfSome, OnSome, Some};
+    ghost use Rattle.std.specs.IoError.{error_kind};
+    ghost use Rattle.std.specs.declared.io.ErrorKind.TheVariants as ErrorKind;
     ghost use Rattle.enc_reader.specs.Errors.{IsErrorOfReader};
     ghost use Rattle.enc_reader.specs.Turn.{IsOwnText, IsTurn};
     ghost use Rattle.enc_reader.specs.Counting.{HasGiven, owed_faults, CountsBytes};
@@ -590,20 +591,20 @@ impl<'a, R: Source> DecodeReader<'a, R> {
     ///
     /// It may be called after a fault.
     pub fn error(&self) -> Option<io::Error>
-        ensures { IfSome result (λ error. R.error self.now.reader.now ≡ Some error) }
+        ensures kept { IfSome result (λ e. R.error self.now.reader.now ≡ Some e) }
+        ensures failed { OnSome result (self.now.failed ≡ true) }
+        ensures retried { IfSome result (λ e. error_kind e ≢ ErrorKind.Interrupted) }
     {
         self.reader.error()
     }
 
     /// Returns a fault as an I/O error: the source's own, or one of the kind `Other`.
-    ///
-    /// An error of the kind `Interrupted` would ask for another call, so it is not passed on.
     pub(crate) fn io_error(&self, fault: ReadFault) -> io::Error
         ensures { IsErrorOfReader (R.error self.now.reader.now) result }
     {
         match self.error() {
-            Some(error) if error.kind() != ErrorKind::Interrupted => error,
-            _ => io::Error::from(fault),
+            Some(error) => error,
+            None => io::Error::from(fault),
         }
     }
 

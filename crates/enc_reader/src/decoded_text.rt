@@ -341,14 +341,14 @@ impl<'a, R: Source> BufRead for DecodedText<'a, R> {
             (state_held self.old)) (λ xs. IfOk result (λ s. StartsWith xs s.now)) }
         ensures end { IfSome (text_held (R.remaining self.old.reader.reader.now)
             (state_held self.old)) (λ xs. IfOk result (λ s. length s.now ≡ 0 → xs ≡ [])) }
+        ensures retried { IfErr result (λ error. error_kind error ≢ ErrorKind.Interrupted) }
+        ensures failed_before { IfErr result (λ error. self.old.reader.failed ≡ true
+            → IsReaderError (R.error self.old.reader.reader.now) error) }
         ensures* after_borrow { sem 𝓛 (Rests
             (text-row (record { mir = named 1; lft = [] }) R.row R.Source) self.entry (λ new.
             FillKeeps (text_held (R.remaining self.old.reader.reader.now) (state_held self.old))
             (text_held (R.remaining new.reader.reader.now) (state_held new))
             (Some (length (state_held new).held)) result)) }
-        ensures retried { IfErr result (λ error. error_kind error ≢ ErrorKind.Interrupted) }
-        ensures failed_before { IfErr result (λ error. self.old.reader.failed ≡ true
-            → IsReaderError (R.error self.old.reader.reader.now) error) }
     {
         if let Err(error) = self.fill_or_error() {
             return Err(error);

@@ -2,7 +2,9 @@
 
 ghost use Rattle.std.specs.Prelude.{◌≡◌, ◌≢◌, ℕ, ◌≤◌, ◌<◌, length, List, take, Option, Bool};
 ghost use Rattle.std.specs.Prelude.{◌↔◌, true, false, None, Some, IfOk, OnOk, OnErr, IfErr, IsErrAnd};
-ghost use Rattle.std.specs.Prelude.{IsNone, IfSome, IsSomeAnd};
+ghost use Rattle.std.specs.Prelude.{IsNone, IfSome, OnSome, IsSomeAnd};
+ghost use Rattle.std.specs.Option.{ForSome};
+ghost use Rattle.std.specs.declared.io.ErrorKind.TheVariants.{Interrupted};
 ghost use Rattle.std.specs.declared.io.Error.{Error};
 ghost use Rattle.std.specs.IoError.{error_kind};
 ghost use Rattle.std.specs.Io.KnownBytes.{IsAtEnd, ReadConsumes};
@@ -43,9 +45,13 @@ pub trait Source {
     fn failed(&self) -> bool
         ensures { result ≡ has_failed self.now };
 
-    /// Returns the error for which it has failed, if it keeps one. By default it keeps none.
+    /// Returns the error for which it has failed, if the source keeps it. The default keeps none.
+    ///
+    /// It is never of the kind `Interrupted`, after which a pull reads again.
     fn error(&self) -> Option<io::Error>
-        ensures { IfSome result (λ e. error self.now ≡ Some e) }
+        ensures kept { IfSome result (λ e. error self.now ≡ Some e) }
+        ensures failed { OnSome result (has_failed self.now ≡ true) }
+        ensures retried { IfSome result (λ e. error_kind e ≢ ErrorKind.Interrupted) }
     {
         None
     }
@@ -102,6 +108,7 @@ pub struct FromRead<R: Read> {
     // the error for which it has failed, until it is taken
     error: Option<io::Error>,
     ghost kept: { failed ≡ false → error ≡ None },
+    ghost retried: { ForSome error (λ e. error_kind e ≢ Interrupted) },
 }
 
 impl<R: Read> FromRead<R> {
@@ -133,6 +140,7 @@ impl<R: Read> FromRead<R> {
 
     /// Fails for an error of the reader, which is kept.
     fn fail(&mut self, error: io::Error)
+        requires retried { error_kind error ≢ ErrorKind.Interrupted }
         ensures failed { self.new.failed ≡ true }
         ensures error { self.new.error ≡ Some error }
         ensures inner { self.new.inner ≡ self.old.inner }

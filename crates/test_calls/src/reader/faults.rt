@@ -119,14 +119,9 @@ fn no_room_is_no_read(rt: HostRuntime) -> Result<(), Fail> {
 }
 
 /// A source that fails at once, and keeps no error.
+#[derive(Drop)]
 struct Broken {
     failed: bool,
-}
-
-/// A source that fails at once, and keeps this error.
-struct Keeps {
-    failed: bool,
-    error: Option<io::Error>,
 }
 
 impl Source for Broken {
@@ -144,47 +139,6 @@ impl Source for Broken {
     fn failed(&self) -> bool {
         self.failed
     }
-}
-
-impl Source for Keeps {
-    ghost use Rattle.std.specs.Prelude.{None as NoBytes};
-
-    ghost remaining = { λ _. NoBytes };
-
-    ghost has_failed = { λ source. source.failed };
-
-    ghost error = { λ source. source.error };
-
-    fn pull(&mut self, _buf: &mut [u8]) -> Result<usize, ()> {
-        self.failed = true;
-        Err(())
-    }
-
-    fn failed(&self) -> bool {
-        self.failed
-    }
-
-    fn error(&self) -> Option<io::Error> {
-        self.error
-    }
-}
-
-#[test]
-fn std_is_never_asked_for_another_call(rt: HostRuntime) -> Result<(), Fail> {
-    let mut source = Keeps {
-        failed: false,
-        error: Some(io::Error::from(ErrorKind::Interrupted)),
-    };
-    let mut input = [0; 4];
-    let reader = DecodeReader::new(&mut source, Some(WINDOWS_1252), &mut input);
-    let mut room = [0; 4];
-    let mut text = DecodedText::new(reader, &mut room);
-    let mut all = String::new(rt.alloc());
-    let Err(error) = text.read_to_string(&mut all) else {
-        return Err("no error".into());
-    };
-    assert!(rt; error.kind() == ErrorKind::Other);
-    Ok(())
 }
 
 #[test]
