@@ -1,7 +1,7 @@
 -- Text that is handed out where it was read, and a read after a chunk was pulled.
 use Rattle.std.proofs.Common.{◌≡◌, ℕ, ◌+◌, ◌-◌, ◌^◌, ◌≤◌, min, inl, inr, Bool, true, false, List, [], ◌∷◌, ◌++◌}
 use Rattle.std.proofs.Common.{length, take, drop, Option, refl, ap, ◌∙◌, sym, subst, arith, append_assoc}
-use Rattle.std.proofs.Common.{length-append}
+use Rattle.std.proofs.Common.{length-append, IsUtf8}
 use Rattle.std.proofs.Math.ListN.{length-drop}
 use Rattle.std.proofs.lemmas.List.{length-take, take-append-drop, take-take}
 use Rattle.std.proofs.lemmas.Str.{chars_from_encodes, scalars-chars}
@@ -38,8 +38,13 @@ own_bytes : (d : DecoderState) {bytes : List ℕ} → AreOwnBytes d bytes
 own_bytes d (inl utf_8) = inl utf_8
 own_bytes d (inr ascii) = inr (inl ((shows_ascii_compatible d.encoding).1 ascii.0, ascii.1))
 
+-- They are well-formed.
+pub own_is_utf_8 : (d : DecoderState) {bytes : List ℕ} → AreOwnBytes d bytes → IsUtf8 bytes
+own_is_utf_8 d {bytes = bytes} are_own = own_utf_8 d.encoding bytes (own_bytes d are_own)
+
 module _ (d : DecoderState) (may_be_latin1 : DecoderMayBeLatin1 d) where
-  between_sequences : (y : List ℕ) → remaining_sequences d y ≡ sequences_of (rule_of d.encoding) 0 y
+  pub between_sequences : (y : List ℕ)
+      → remaining_sequences d y ≡ sequences_of (rule_of d.encoding) 0 y
   between_sequences y =
       ap (λ l. sequences_in (phase_of l) d.encoding d.set (d.pending ++ y)) may_be_latin1.converting
       ∙ ap (λ p. sequences_of (rule_of d.encoding) d.set (p ++ y)) may_be_latin1.none_pending

@@ -5,5 +5,7 @@ pub mod CountingLemmas
 pub mod TurnLemmas
 pub mod ReportingLemmas
 pub mod LendingLemmas
+pub mod FillingLemmas
+pub mod LongTextLemmas
 pub mod HeldTextLemmas
 pub mod LineLemmas

@@ -131,6 +131,8 @@ PullsChunk-after {d = d} {ended = ended} {xs = xs} held n ys not_ended going hel
         length-take n (drop held ys),
         length-drop held ys,
       );
+      decoder = refl;
+      unread = unread;
     }
 
 -- A read up to now: the text handed out, and whether it waits, after `pulls` pulls. None was made

@@ -1,6 +1,7 @@
 pub mod Source
 pub mod Reading
 pub mod Turn
+pub mod Lending
 pub mod Counting
 pub mod Reporting
 pub mod Reader

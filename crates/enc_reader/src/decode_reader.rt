@@ -3,7 +3,7 @@
 ghost use Rattle.std.specs.Prelude.{◌≡◌, ◌↔◌, ◌-◌, ◌<◌, ◌≤◌, length, take, drop, [], true, false};
 ghost use Rattle.std.specs.Prelude.{IsUtf8, Option, Some};
 ghost use Rattle.std.specs.Prelude.{None, IfOk, OnOk, OnErr, IsErrOf, unwrap_or, IfErr};
-ghost use Rattle.enc_units.specs.Validity.{IsWellFormedUtf8};
+ghost use Rattle.enc_units.specs.Validity.{IsLongestPrefix, IsWellFormedUtf8};
 ghost use Rattle.enc_stream.specs.declared.bom.BomHandling.TheVariants.{Sniff};
 ghost use Rattle.enc_stream.specs.declared.constants.TheConstants.{UTF_8};
 ghost use Rattle.std.specs.Char.{encode_utf8};
@@ -168,8 +168,7 @@ fn pull_after<R: Source>(reader: &mut R, input: &mut [u8], held: usize) -> Resul
 
 /// Returns the length of the longest prefix that is well-formed UTF-8, sooner if all is ASCII.
 fn utf_8_len(bytes: &[u8]) -> usize
-    ensures within { result ≤ length bytes.now }
-    ensures utf_8 { IsWellFormedUtf8 (take result bytes.now) }
+    ensures { IsLongestPrefix IsWellFormedUtf8 bytes.now result }
 {
     let ascii = Encoding::ascii_valid_up_to(bytes);
     if ascii == bytes.len() {
@@ -235,7 +234,8 @@ impl<'a, R: Source> DecodeReader<'a, R> {
     ghost use Rattle.std.specs.IoError.{error_kind};
     ghost use Rattle.std.specs.declared.io.ErrorKind.TheVariants as ErrorKind;
     ghost use Rattle.enc_reader.specs.Errors.{IsErrorOfReader};
-    ghost use Rattle.enc_reader.specs.Turn.{IsOwnText, IsTurn};
+    ghost use Rattle.enc_reader.specs.Turn.{IsOwnText, IsTurn, HasBytesAtHand};
+    ghost use Rattle.enc_reader.specs.Lending.{LendsLongText};
     ghost use Rattle.enc_reader.specs.Counting.{HasGiven, owed_faults, CountsBytes};
     ghost use Rattle.enc_reader.specs.Counting.{PullsCounted, FillsCounted, HandsOutCounted};
     ghost use Rattle.enc_reader.specs.Reader.{IsAtHand, handed_text, state_of, written_len};
@@ -262,6 +262,7 @@ impl<'a, R: Source> DecodeReader<'a, R> {
         ensures no_errors { result.had_errors ≡ false }
         ensures given { HasGiven result.given (state_of result) 0 }
         ensures reader { result.reader.now ≡ reader.old }
+        ensures buffer_len { length result.input.now ≡ length input.old }
         ensures same_reader { result.reader.ghost_name ≡ reader.entry.ghost_name }
     {
         let encoding = encoding.unwrap_or(UTF_8);
@@ -293,6 +294,7 @@ impl<'a, R: Source> DecodeReader<'a, R> {
         ensures no_errors { result.had_errors ≡ false }
         ensures given { HasGiven result.given (state_of result) 0 }
         ensures reader { result.reader.now ≡ reader.old }
+        ensures buffer_len { length result.input.now ≡ length input.old }
         ensures same_reader { result.reader.ghost_name ≡ reader.entry.ghost_name }
     {
         let failed = reader.failed();
@@ -327,6 +329,7 @@ impl<'a, R: Source> DecodeReader<'a, R> {
         ensures failed { OnErr result (self.new.failed ≡ true) }
         ensures same { OnErr result (state_of self.new ≡ state_of self.old) }
         ensures fault { IfErr result (λ fault. fault ≡ ReadFault.Reader) }
+        ensures buffer_len { length self.new.input.now ≡ length self.old.input.now }
         ensures had_errors { self.new.had_errors ≡ self.old.had_errors }
         ensures same_reader { self.new.reader.ghost_name ≡ self.old.reader.ghost_name }
     {
@@ -355,6 +358,7 @@ impl<'a, R: Source> DecodeReader<'a, R> {
         ensures rest { drop result.written dst.new ≡ drop result.written dst.old }
         ensures waits { result.waits ≡ true → result.written ≡ 0 }
         ensures reader { self.new.reader ≡ self.old.reader }
+        ensures buffer_len { length self.new.input.now ≡ length self.old.input.now }
         ensures failed { self.new.failed ≡ self.old.failed }
         ensures had_errors { self.new.had_errors ≡ self.old.had_errors }
     {
@@ -426,6 +430,7 @@ impl<'a, R: Source> DecodeReader<'a, R> {
         ensures unchanged { IsErrOf result ReadFault.Failed → self.new ≡ self.old }
         ensures going { OnOk result (self.new.failed ≡ false) }
         ensures failed { OnErr result (self.new.failed ≡ true) }
+        ensures buffer_len { length self.new.input.now ≡ length self.old.input.now }
         ensures same_reader { self.new.reader.ghost_name ≡ self.old.reader.ghost_name }
     {
         if self.failed {
@@ -450,7 +455,7 @@ impl<'a, R: Source> DecodeReader<'a, R> {
 
     /// Returns whether the decoder is between two sequences, and no byte order mark may come.
     fn is_between(&self) -> bool
-        ensures { result ≡ true → DecoderMayBeLatin1 (state_of self.now).decoder }
+        ensures { result ≡ true ↔ DecoderMayBeLatin1 (state_of self.now).decoder }
     {
         self.decoder.latin1_byte_compatible_up_to(&[]).is_some()
     }
@@ -462,6 +467,9 @@ impl<'a, R: Source> DecodeReader<'a, R> {
         ensures room { result ≡ true
             → self.now.filled - self.now.at < length self.now.input.now }
         ensures none_determined { result ≡ true → NoneDetermined (state_of self.now) }
+        ensures few { result ≡ true → length (state_of self.now).unread < 4 }
+        ensures at_hand { result ≡ false
+            → HasBytesAtHand (length self.now.input.now) (state_of self.now) }
     {
         if self.at == self.filled {
             return true;
@@ -473,8 +481,8 @@ impl<'a, R: Source> DecodeReader<'a, R> {
             && self.is_between()
     }
 
-    /// Reads the next chunk if nothing is determined and the source is not at its end. After an
-    /// `Err`, which is `Reader`, the source has failed.
+    /// Reads chunks while the buffer lacks bytes and the source is not at its end. After an `Err`,
+    /// which is `Reader`, the source has failed.
     fn fill(&mut self) -> Result<(), ReadFault>
         requires going { self.old.failed ≡ false }
         ensures ok { OnOk result (FillsCounted (R.remaining self.old.reader.now)
@@ -488,10 +496,13 @@ impl<'a, R: Source> DecodeReader<'a, R> {
             (R.has_failed self.new.reader.now) (state_of self.old) (state_of self.new)) }
         ensures failed { OnErr result (self.new.failed ≡ true) }
         ensures fault { IfErr result (λ fault. fault ≡ ReadFault.Reader) }
+        ensures at_hand { OnOk result (self.new.ended ≡ false
+            → HasBytesAtHand (length self.new.input.now) (state_of self.new)) }
+        ensures buffer_len { length self.new.input.now ≡ length self.old.input.now }
         ensures had_errors { self.new.had_errors ≡ self.old.had_errors }
         ensures same_reader { self.new.reader.ghost_name ≡ self.old.reader.ghost_name }
     {
-        if !self.ended && self.lacks_bytes() {
+        'pulls: while !self.ended && self.lacks_bytes() {
             self.pull()?;
         }
         Ok(())
@@ -505,6 +516,8 @@ impl<'a, R: Source> DecodeReader<'a, R> {
         ensures within { result ≤ self.now.filled - self.now.at }
         ensures own { 0 < result → IsOwnText (state_of self.now).decoder
             (take result (state_of self.now).unread) }
+        ensures longest { (n : ℕ) → result < n → n ≤ length (state_of self.now).unread
+            → ¬ (IsOwnText (state_of self.now).decoder (take n (state_of self.now).unread)) }
     {
         if !self.is_between() {
             return 0;
@@ -524,10 +537,14 @@ impl<'a, R: Source> DecodeReader<'a, R> {
     /// Hands out the next text as [`DecodeReader::read_str`] does, but lends long bytes that are
     /// their own text.
     ///
-    /// These are well-formed in UTF-8, and ASCII in another ASCII-compatible encoding. Lent text
-    /// stays in the reader's own buffer, and is not copied. [`DecodeReader::text`] returns the
-    /// text, until the next read. It is empty only at the end. At least 4096 bytes are lent; `dst`
-    /// is unchanged then. Errors are those of `read_str`. Condition: `dst` has at least four bytes.
+    /// These are well-formed in UTF-8, and ASCII in another ASCII-compatible encoding. Where 4096
+    /// of them or more come next, among the undecoded bytes and those read in this call, all of
+    /// them are lent. This needs a decoder between two sequences with no byte order mark to come,
+    /// and a buffer of its own of at least four bytes. Fewer than 4096 are never lent.
+    ///
+    /// Lent text stays in the reader's own buffer, and is not copied; `dst` is unchanged then.
+    /// [`DecodeReader::text`] returns the text, until the next read. It is empty only at the end.
+    /// Errors are those of `read_str`. Condition: `dst` has at least four bytes.
     pub fn read_or_lend(&mut self, dst: &mut [u8]) -> Result<HandedText, ReadFault>
         requires room { 4 ≤ length dst.old }
         ensures ok { IfOk result (λ handed. HandsOut (R.remaining self.old.reader.now)
@@ -545,6 +562,10 @@ impl<'a, R: Source> DecodeReader<'a, R> {
             ≡ drop (written_len handed) dst.old) }
         ensures least { IfOk result (λ handed. handed.lent ≡ true
             → 4096 ≤ length (handed_text self.new dst.new handed)) }
+        ensures lends { IfOk result (λ handed. 4 ≤ length self.old.input.now → LendsLongText
+            (R.remaining self.old.reader.now) (R.remaining self.new.reader.now)
+            (state_of self.old) (state_of self.new) (handed_text self.new dst.new handed)
+            self.old.had_errors self.new.had_errors handed.lent) }
         ensures length { length dst.new ≡ length dst.old }
         ensures kept { OnOk result (R.has_failed self.new.reader.now
             ≡ R.has_failed self.old.reader.now) }
@@ -558,6 +579,7 @@ impl<'a, R: Source> DecodeReader<'a, R> {
         ensures unchanged { IsErrOf result ReadFault.Failed → self.new ≡ self.old }
         ensures going { OnOk result (self.new.failed ≡ false) }
         ensures failed { OnErr result (self.new.failed ≡ true) }
+        ensures buffer_len { length self.new.input.now ≡ length self.old.input.now }
         ensures same_reader { self.new.reader.ghost_name ≡ self.old.reader.ghost_name }
     {
         if self.failed {

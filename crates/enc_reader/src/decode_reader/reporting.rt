@@ -142,6 +142,7 @@ impl<'a, R: Source> DecodeReader<'a, R> {
         ensures waits { result.waits ≡ true → result.written ≡ 0 }
         ensures unreported { result.waits ≡ true → result.malformed ≡ None }
         ensures reader { self.new.reader ≡ self.old.reader }
+        ensures buffer_len { length self.new.input.now ≡ length self.old.input.now }
         ensures failed { self.new.failed ≡ self.old.failed }
         ensures had_errors { self.new.had_errors ≡ self.old.had_errors }
     {
@@ -230,6 +231,7 @@ impl<'a, R: Source> DecodeReader<'a, R> {
         ensures unchanged { IsErrOf result ReadFault.Failed → self.new ≡ self.old }
         ensures going { OnOk result (self.new.failed ≡ false) }
         ensures failed { OnErr result (self.new.failed ≡ true) }
+        ensures buffer_len { length self.new.input.now ≡ length self.old.input.now }
         ensures same_reader { self.new.reader.ghost_name ≡ self.old.reader.ghost_name }
     {
         if self.failed {

@@ -4,6 +4,7 @@ use enc_reader::{DecodeReader, FromRead, Source};
 use encoding_rs::{Encoding, UTF_8, WINDOWS_1252};
 use std::alloc::Global;
 use std::test::Fail;
+use test_support::devices::{ALL_BYTES, BYTE, Step, StepReader};
 use test_support::encodings::table;
 use test_support::reading::compare_read;
 
@@ -96,6 +97,26 @@ fn lends_utf_8_where_it_was_read(rt: HostRuntime) -> Result<(), Fail> {
     compare_read(&mut reader, Ok(0), b"")?;
     assert!(rt; reader.had_errors());
     Ok(())
+}
+
+#[test]
+fn lends_from_a_character_in_pieces_on(rt: HostRuntime) -> Result<(), Fail> {
+    let mut text = Vec::new(rt.alloc());
+    for _ in 0..1500 {
+        text.extend_from_slice("日".as_bytes())?;
+    }
+    let mut bytes = Vec::new(rt.alloc());
+    bytes.extend_from_slice("éab".as_bytes())?;
+    bytes.extend_from_slice(text.as_slice())?;
+    // two bytes of a character come one by one, and the third with all that follows
+    let steps = [Step::Move(4), BYTE, BYTE, ALL_BYTES];
+    let mut source = FromRead::new(StepReader::new(bytes.as_slice(), &steps));
+    let mut input = [0; 8192];
+    let mut reader = DecodeReader::new(&mut source, Some(UTF_8), &mut input);
+    compare_read(&mut reader, Ok(4), "éab".as_bytes())?;
+    let rest = lent(&mut reader, text.as_slice(), 4500)?;
+    assert!(rt; rest.is_empty());
+    compare_read(&mut reader, Ok(0), b"")
 }
 
 #[test]

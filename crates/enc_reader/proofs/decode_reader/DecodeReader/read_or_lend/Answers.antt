@@ -1,8 +1,9 @@
-use Rattle.std.proofs.Common.{arith, rules, ◌<◌}
+use Rattle.std.proofs.Common.{arith, rules, ◌<◌, refl}
 use Rattle.enc_reader.proofs.ReadingLemmas.{handed_utf_8}
 use Rattle.enc_reader.proofs.CountingLemmas.{nothing_undetermined}
 use Rattle.enc_reader.proofs.LendingLemmas.{HandsOutCounted-filled, HandsOutCounted-lent, CountsBytes-lent}
 use Rattle.enc_reader.proofs.LendingLemmas.{HandsOut-filled, HandsOut-chunk, FailsToRead-filled}
+use Rattle.enc_reader.proofs.LongTextLemmas.{own_text_at_hand, lent_len}
 use Rattle.enc_reader.proofs.decode_reader.DecodeReader.read_or_lend.Goals as goal
 
 pub returns-then-len-ge-LEAST_LENT-clause-ok : goal.returns-then-len-ge-LEAST_LENT-clause-ok
@@ -60,3 +61,42 @@ invariant_of-self-clause-settled g c =
     let some : 0 < c.text_ahead-len.result = omega arith in
     λ _ _. nothing_undetermined c.fill.new.self.decoder
     (c.text_ahead-len.ensures.own some).between.none_pending
+
+pub returns-then-len-ge-LEAST_LENT-clause-lends : goal.returns-then-len-ge-LEAST_LENT-clause-lends
+returns-then-len-ge-LEAST_LENT-clause-lends g c =
+    let after_fill = c.fill.new.self in
+    let fills = c.in_ok-fill.ensures.ok.fills in
+    let some : 0 < c.text_ahead-len.result = omega arith in
+    let hands_out = HandsOut-chunk _ _ after_fill.filled after_fill.at c.text_ahead-len.result
+    after_fill.input.now _ c.args.self.now.had_errors
+    after_fill.decoded after_fill.within c.text_ahead-len.ensures.within
+    (c.text_ahead-len.ensures.own some) after_fill.exhausted in
+    λ roomy. rw c.fill.ensures.had_errors (record {
+      hands_out = HandsOut-filled fills hands_out;
+      long = λ n least among is_own. (
+        refl,
+        omega (
+          arith,
+          own_text_at_hand fills hands_out c.in_ok-fill.ensures.at_hand
+              (omega (arith, roomy, c.fill.ensures.buffer_len)) c.text_ahead-len.ensures.longest n
+              (omega (arith, least)) among is_own,
+          lent_len after_fill.filled after_fill.at c.text_ahead-len.result after_fill.input.now
+              after_fill.within c.text_ahead-len.ensures.within,
+        ),
+      );
+    })
+
+pub returns-clause-lends : goal.returns-clause-lends
+returns-clause-lends g c =
+    let fills = c.in_ok-fill.ensures.ok.fills in
+    λ roomy. rw (← c.fill.ensures.had_errors) (record {
+      hands_out = HandsOut-filled fills c.in_ok-len.ensures.ok;
+      long = λ n least among is_own.
+          absurd (omega (
+            arith,
+            least,
+            own_text_at_hand fills c.in_ok-len.ensures.ok c.in_ok-fill.ensures.at_hand
+                (omega (arith, roomy, c.fill.ensures.buffer_len)) c.text_ahead-len.ensures.longest n
+                (omega (arith, least)) among is_own,
+          ));
+    })

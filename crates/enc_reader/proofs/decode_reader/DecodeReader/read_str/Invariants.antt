@@ -19,6 +19,7 @@ invariant-pulls g l = record {
   rest : drop l.turn.written l.dst ≡ drop l.turn.written l.fn.dst;
   none : l.turn.waits ≡ true → l.turn.written ≡ 0;
   room : length l.dst ≡ length l.fn.dst;
+  buffer_len : length l.self.input.now ≡ length l.fn.self.input.now;
   going : l.self.failed ≡ false;
   had_errors : l.self.had_errors ≡ l.fn.self.had_errors;
   kept : g.R.Source.has_failed l.self.reader.now ≡ g.R.Source.has_failed l.fn.self.reader.now;
