@@ -1,7 +1,8 @@
 -- Long text is lent whole: bytes at hand that begin their own text determine some of it, so that a
 -- read pulls nothing more.
-use Rattle.std.proofs.Common.{◌≡◌, ℕ, ◌+◌, ◌-◌, ◌<◌, ◌≤◌, zero, suc, ◌⊎◌, inl, inr, Bool, true, false, List, [], ◌∷◌}
-use Rattle.std.proofs.Common.{◌++◌, length, take, drop, Option, refl, ap, ◌∙◌, sym, subst, arith, append_assoc, append-nil}
+use Rattle.std.proofs.Common.{◌≡◌, ℕ, ◌+◌, ◌-◌, ◌<◌, ◌≤◌, zero, suc, ◌⊎◌, inl, inr, true, false, List, [], ◌∷◌}
+use Rattle.std.proofs.Common.{◌++◌, length, take, drop, Option, refl, ap, ◌∙◌, sym, subst, arith}
+use Rattle.std.proofs.Common.{append_assoc, append-nil}
 use Rattle.std.proofs.lemmas.Bool.{cases_lt}
 use Rattle.std.proofs.lemmas.Bool.Decides.{nat_tests}
 use Rattle.std.proofs.Math.ListN.{length-drop}
@@ -23,7 +24,7 @@ use Rattle.enc_stream.specs.declared.constants.TheConstants.{UTF_8}
 use Rattle.enc_stream.specs.declared.encoding.Encoding.{Encoding}
 use Rattle.enc_stream.specs.Encodings.{rule_of}
 use Rattle.enc_stream.specs.Decoding.{DecoderState, remaining_sequences}
-use Rattle.enc_reader.specs.Reading.{ReaderState, HandsOut, NoTextDetermined}
+use Rattle.enc_reader.specs.Reading.{ReaderState, NoTextDetermined}
 use Rattle.enc_reader.specs.Turn.{AreOwnBytes, FillsBuffer, HasBytesAtHand, IsOwnText}
 use Rattle.enc_reader.proofs.LendingLemmas.{between_sequences}
 
@@ -133,28 +134,32 @@ none_more s more n at_end at_hand roomy one is_own needed = elim (true_or_false 
   ]
 ]
 
+-- Some bytes at the front are their own text.
+pub record BeginsOwnText (d : DecoderState) (bytes : List ℕ) (n : ℕ) : Type 0 where
+  pub some : 0 < n
+  pub among : n ≤ length bytes
+  pub own : IsOwnText d (take n bytes)
+
 -- After a fill the bytes at hand have all own text that comes next.
-pub own_text_at_hand : {t₀ t₁ t₂ : Option (List ℕ)} {a b c : ReaderState} {wrote : List ℕ}
-    {had_before had_after : Bool} {room len : ℕ}
-    (fills : FillsBuffer t₀ t₁ a b) (hands_out : HandsOut t₁ t₂ b c wrote had_before had_after)
+pub own_text_at_hand : {t₀ t₁ : Option (List ℕ)} {a b : ReaderState} {room len : ℕ}
+    (fills : FillsBuffer t₀ t₁ a b) (more : List ℕ)
+    → (b.ended ≡ true → more ≡ []) → (more ≡ []) ⊎ NoTextDetermined b
     → (b.ended ≡ false → HasBytesAtHand room b) → 4 ≤ room
     → ((n : ℕ) → len < n → n ≤ length b.unread → ¬ (IsOwnText b.decoder (take n b.unread)))
-    → (n : ℕ) → 0 < n → n ≤ length (a.unread ++ (fills.bytes ++ hands_out.bytes))
-    → IsOwnText a.decoder (take n (a.unread ++ (fills.bytes ++ hands_out.bytes))) → n ≤ len
-own_text_at_hand {a = a} {b = b} {len = len} fills hands_out at_hand roomy longest n one among own =
-    let more = hands_out.bytes in
+    → (n : ℕ) → BeginsOwnText a.decoder (a.unread ++ (fills.bytes ++ more)) n → n ≤ len
+own_text_at_hand {a = a} {b = b} {len = len} fills more at_end needed at_hand roomy longest n begins =
     let all : a.unread ++ (fills.bytes ++ more) ≡ b.unread ++ more =
     sym (append_assoc a.unread fills.bytes more) ∙ ap (λ u. u ++ more) (sym fills.unread) in
     let own_after : IsOwnText b.decoder (take n (b.unread ++ more)) =
     subst (λ (d : DecoderState). IsOwnText d (take n (b.unread ++ more))) (sym fills.decoder)
-    (subst (λ u. IsOwnText a.decoder (take n u)) all own) in
-    let none : more ≡ [] = none_more b more n (λ ends. (hands_out.reads.none_after ends).0) at_hand
-    roomy one own_after hands_out.needed in
+    (subst (λ u. IsOwnText a.decoder (take n u)) all begins.own) in
+    let none : more ≡ [] =
+    none_more b more n at_end at_hand roomy begins.some own_after needed in
     let at_hand_only : b.unread ++ more ≡ b.unread =
     ap (λ u. b.unread ++ u) none ∙ append-nil b.unread in
     elim (cases_lt len n) [
       | inl longer ↦ absurd (longest n longer
-          (omega (arith, among, ap length all, ap length at_hand_only))
+          (omega (arith, begins.among, ap length all, ap length at_hand_only))
           (subst (λ u. IsOwnText b.decoder (take n u)) at_hand_only own_after))
       | inr within_len ↦ within_len
     ]

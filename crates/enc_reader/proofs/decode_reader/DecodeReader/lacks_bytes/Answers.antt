@@ -6,7 +6,8 @@ use Rattle.enc_reader.proofs.LendingLemmas.{incomplete_determines_none}
 use Rattle.enc_reader.proofs.FillingLemmas.{incomplete_is_short, long_is_whole, some_unread, unread_len}
 use Rattle.enc_reader.proofs.decode_reader.DecodeReader.lacks_bytes.Goals as goal
 use Rattle.enc_reader.proofs.decode_reader.DecodeReader.lacks_bytes.Goals.{then-unread-self, else-unread-self}
-use Rattle.enc_reader.proofs.decode_reader.DecodeReader.lacks_bytes.Goals.{then-is_incomplete_sequence, else-is_incomplete_sequence}
+use Rattle.enc_reader.proofs.decode_reader.DecodeReader.lacks_bytes.Goals.{then-is_incomplete_sequence}
+use Rattle.enc_reader.proofs.decode_reader.DecodeReader.lacks_bytes.Goals.{else-is_incomplete_sequence}
 
 pub returns-then-eq-clause-none_determined : goal.returns-then-eq-clause-none_determined
 returns-then-eq-clause-none_determined g c =
@@ -43,8 +44,8 @@ returns-else-eq-clause-at_hand g c =
             let same : w.eq.result ≡ true = rw encoding at w.eq.ensures in
             absurd (false≢true (sym c.if-eq.false ∙ w.value-is ∙ same))
         | else-is_incomplete_sequence w ↦ elim c.if-unread-self.branch [
-          | then-unread-self v ↦
-              sym v.is_incomplete_sequence.ensures ∙ sym v.value-is ∙ w.if-is_incomplete_sequence.false
+          | then-unread-self v ↦ sym v.is_incomplete_sequence.ensures ∙ sym v.value-is
+              ∙ w.if-is_incomplete_sequence.false
           | else-unread-self v ↦ long_is_whole (state_of reader).unread
               (omega (
                 arith,

@@ -77,9 +77,10 @@ returns-then-len-ge-LEAST_LENT-clause-lends g c =
         refl,
         omega (
           arith,
-          own_text_at_hand fills hands_out c.in_ok-fill.ensures.at_hand
+          own_text_at_hand fills hands_out.bytes (λ ends. (hands_out.reads.none_after ends).0)
+              hands_out.needed c.in_ok-fill.ensures.at_hand
               (omega (arith, roomy, c.fill.ensures.buffer_len)) c.text_ahead-len.ensures.longest n
-              (omega (arith, least)) among is_own,
+              (record { some = omega (arith, least); among = among; own = is_own }),
           lent_len after_fill.filled after_fill.at c.text_ahead-len.result after_fill.input.now
               after_fill.within c.text_ahead-len.ensures.within,
         ),
@@ -89,14 +90,16 @@ returns-then-len-ge-LEAST_LENT-clause-lends g c =
 pub returns-clause-lends : goal.returns-clause-lends
 returns-clause-lends g c =
     let fills = c.in_ok-fill.ensures.ok.fills in
+    let hands_out = c.in_ok-len.ensures.ok in
     λ roomy. rw (← c.fill.ensures.had_errors) (record {
-      hands_out = HandsOut-filled fills c.in_ok-len.ensures.ok;
+      hands_out = HandsOut-filled fills hands_out;
       long = λ n least among is_own.
           absurd (omega (
             arith,
             least,
-            own_text_at_hand fills c.in_ok-len.ensures.ok c.in_ok-fill.ensures.at_hand
+            own_text_at_hand fills hands_out.bytes (λ ends. (hands_out.reads.none_after ends).0)
+                hands_out.needed c.in_ok-fill.ensures.at_hand
                 (omega (arith, roomy, c.fill.ensures.buffer_len)) c.text_ahead-len.ensures.longest n
-                (omega (arith, least)) among is_own,
+                (record { some = omega (arith, least); among = among; own = is_own }),
           ));
     })
