@@ -147,19 +147,19 @@ pub own_text_at_hand : {t₀ t₁ : Option (List ℕ)} {a b : ReaderState} {room
     → (b.ended ≡ false → HasBytesAtHand room b) → 4 ≤ room
     → ((n : ℕ) → len < n → n ≤ length b.unread → ¬ (IsOwnText b.decoder (take n b.unread)))
     → (n : ℕ) → BeginsOwnText a.decoder (a.unread ++ (fills.bytes ++ more)) n → n ≤ len
-own_text_at_hand {a = a} {b = b} {len = len} fills more at_end needed at_hand roomy longest n begins =
+own_text_at_hand {a = a} {b = b} {len = len} fills more at_end needed at_hand roomy longest n own =
     let all : a.unread ++ (fills.bytes ++ more) ≡ b.unread ++ more =
     sym (append_assoc a.unread fills.bytes more) ∙ ap (λ u. u ++ more) (sym fills.unread) in
     let own_after : IsOwnText b.decoder (take n (b.unread ++ more)) =
     subst (λ (d : DecoderState). IsOwnText d (take n (b.unread ++ more))) (sym fills.decoder)
-    (subst (λ u. IsOwnText a.decoder (take n u)) all begins.own) in
+    (subst (λ u. IsOwnText a.decoder (take n u)) all own.own) in
     let none : more ≡ [] =
-    none_more b more n at_end at_hand roomy begins.some own_after needed in
+    none_more b more n at_end at_hand roomy own.some own_after needed in
     let at_hand_only : b.unread ++ more ≡ b.unread =
     ap (λ u. b.unread ++ u) none ∙ append-nil b.unread in
     elim (cases_lt len n) [
       | inl longer ↦ absurd (longest n longer
-          (omega (arith, begins.among, ap length all, ap length at_hand_only))
+          (omega (arith, own.among, ap length all, ap length at_hand_only))
           (subst (λ u. IsOwnText b.decoder (take n u)) at_hand_only own_after))
       | inr within_len ↦ within_len
     ]

@@ -4,6 +4,7 @@ ghost use Rattle.std.specs.Prelude.{◌≡◌, min};
 ghost use Rattle.recode_part.specs.Bound.{bytes_within};
 
 use recode_engine::Source;
+use std::io;
 
 /// A source of the first bytes of another, up to a bound if there is one.
 #[derive(Drop)]
@@ -46,6 +47,8 @@ impl<R: Source> Source for Bounded<R> {
 
     ghost has_failed = { λ source. R.has_failed source.inner };
 
+    ghost error = { λ source. R.error source.inner };
+
     fn pull(&mut self, buf: &mut [u8]) -> Result<usize, ()> {
         let Some(left) = self.left else {
             return self.inner.pull(buf);
@@ -61,5 +64,9 @@ impl<R: Source> Source for Bounded<R> {
 
     fn failed(&self) -> bool {
         self.inner.failed()
+    }
+
+    fn error(&self) -> Option<io::Error> {
+        self.inner.error()
     }
 }
