@@ -1,5 +1,7 @@
 //! Flushes of the sink: which calls pass one on, and flushes that fail.
 
+ghost use Rattle.std.specs.Prelude.{None, false};
+
 use enc_writer::{EncodeWriter, FromWrite, Sink, WriteFault};
 use encoding_rs::{ISO_2022_JP, SHIFT_JIS};
 use std::io::ErrorKind;
@@ -131,9 +133,9 @@ struct Counter {
 }
 
 impl Sink for Counter {
-    ghost contents = { λ _. Rattle.std.specs.Prelude.None };
+    ghost contents = { λ _. None };
 
-    ghost has_failed = { λ _. Rattle.std.specs.Prelude.false };
+    ghost has_failed = { λ _. false };
 
     fn push(&mut self, buf: &[u8]) -> Result<usize, ()> {
         self.taken = self.taken.saturating_add(buf.len());
