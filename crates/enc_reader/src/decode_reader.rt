@@ -387,8 +387,9 @@ impl<'a, R: Source> DecodeReader<'a, R> {
     /// Writes the next text to `dst`, in UTF-8: as many whole characters as fit.
     ///
     /// Returns the number of bytes written, 0 only at the end, and then in each later read. The
-    /// source is read only while this read has written nothing, so the text may be shorter than the
-    /// room. The bytes of `dst` after the text are unchanged. Condition: `dst` has at least four
+    /// source is read only while the bytes that it has given determine no text. So text that is
+    /// determined waits for no more bytes and is not lost if the source fails, and it may be shorter
+    /// than the room. The bytes of `dst` after it are unchanged. Condition: `dst` has at least four
     /// bytes.
     ///
     /// Errors write nothing: `Reader` if the source failed in this read (no error of it is tried

@@ -219,7 +219,8 @@ impl<'a, R: Source> DecodedText<'a, R> {
     /// - `Read`: the reader failed, as [`DecodeReader::read_str`] does: `Reader` in this call, and
     ///   `Failed` in each later one.
     /// - `Memory`: the text of the fault is still to be read.
-    /// - `MidCharacter`: only if `read` or `consume` took a part of a character before.
+    /// - `MidCharacter`: only if `read` or `consume` took a part of a character before. It is
+    ///   returned again until `read` or `consume` takes the rest of that character.
     pub fn read_line(&mut self, line: &mut String) -> Result<usize, LineFault>
         ensures ok { OnOk result (AppendsLine (R.remaining self.old.reader.reader.now)
             (R.remaining self.new.reader.reader.now) (text_state_of self.old)
