@@ -388,7 +388,7 @@ impl<'a, R: Source> DecodeReader<'a, R> {
     ///
     /// Returns the number of bytes written, 0 only at the end, and then in each later read. The
     /// source is read only while the bytes that it has given determine no text. So text that is
-    /// determined waits for no more bytes and is not lost if the source fails, and it may be shorter
+    /// determined waits for no more bytes, and is not lost if the source fails. It may be shorter
     /// than the room. The bytes of `dst` after it are unchanged. Condition: `dst` has at least four
     /// bytes.
     ///
