@@ -155,11 +155,17 @@ bytes_left_reported old new {c = c} held written after encodes wrote_is within l
     let rest_is = ap (λ t. length (bytes_from_state new t)) left_is in
     omega (arith, lengths, lengths_after, count, rest_is)
 
--- Bytes that fit leave room after those held.
-pub room_left : (filled len : ℕ) (output bytes : List ℕ) → filled ≤ length output
-    → length (take filled output ++ bytes) + 14 ≤ len → filled + length bytes + 14 ≤ len
-room_left filled len output bytes within fits =
-    omega (arith, length-append (take filled output) bytes, length-take-le filled output within)
+-- Where bytes fit into the buffer, 14 of its bytes stay free while they are put there.
+pub room_for_next : (filled : ℕ) (output bytes : List ℕ) (filled_now : ℕ) {len_now : ℕ}
+    → filled ≤ length output → length (take filled output ++ bytes) + 14 ≤ length output
+    → len_now ≡ length output → filled_now ≤ filled + length bytes → filled_now + 14 ≤ len_now
+room_for_next filled output bytes filled_now within fits room sum = omega (
+  arith,
+  length-append (take filled output) bytes,
+  length-take-le filled output within,
+  room,
+  sum,
+)
 
 module _ {k₀ k₁ k₂ : Option (List ℕ)} {a b c : WriterState} where
   pub HasEncoded-then : {t u v : List ℕ} {last : Bool} → HasEncoded k₀ k₁ a b t u last

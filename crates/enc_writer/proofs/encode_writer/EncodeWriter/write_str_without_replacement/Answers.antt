@@ -7,7 +7,7 @@ use Rattle.enc_units.specs.declared.encoder_result.EncoderResult.TheVariants.{In
 use Rattle.enc_writer.specs.EncodedText.{bytes_from_state}
 use Rattle.enc_writer.specs.Writer.{writer_of}
 use Rattle.enc_writer.proofs.SinkLemmas.{on_err}
-use Rattle.enc_writer.proofs.WritingLemmas.{PushesBytes-none, room_left}
+use Rattle.enc_writer.proofs.WritingLemmas.{PushesBytes-none, room_for_next}
 use Rattle.enc_writer.proofs.StoppingLemmas.{HasStopped-none, StopsText-by, StopsWithin-stopped}
 use Rattle.enc_writer.proofs.ReportLemmas.{ReportsSteps-push, ReportsSteps-then}
 use Rattle.enc_writer.proofs.ReportLemmas.{WritesText-reported, HasStopped-reported, none_unmappable}
@@ -129,11 +129,11 @@ calls-preserved g c =
             ∙ drop-drop read c.calls.taken c.args.text.now;
         no_push = λ fits.
             let before = c.args.self.now in
-            let room = room_left before.filled (length before.output.now) before.output.now
-            (bytes_from_state before.encoder (chars c.args.text.now)) before.within fits in
             let now = c.calls.invariant.1.no_push fits in
             let same : c.make_room.new.self ≡ c.calls.self =
-            c.make_room.ensures.no_push (omega (arith, room, now.room, now.sum)) in
+            c.make_room.ensures.no_push (room_for_next before.filled before.output.now
+            (bytes_from_state before.encoder (chars c.args.text.now)) c.calls.self.filled
+            before.within fits now.room (omega (arith, now.sum))) in
             let filled = c.encode_mappable-outcome.ensures.filled in
             record {
               same = cc (same, now.same, c.encode_mappable-outcome.ensures.writer);
@@ -150,29 +150,29 @@ calls-preserved g c =
 pub returns-in_err-make_room-clause-no_push : goal.returns-in_err-make_room-clause-no_push
 returns-in_err-make_room-clause-no_push g c = λ fits.
     let before = c.args.self.now in
-    let room = room_left before.filled (length before.output.now) before.output.now
-    (bytes_from_state before.encoder (chars c.args.text.now)) before.within fits in
     let now = c.calls.invariant.1.no_push fits in
     let same : c.make_room.new.self ≡ c.calls.self =
-    c.make_room.ensures.no_push (omega (arith, room, now.room, now.sum)) in
+    c.make_room.ensures.no_push (room_for_next before.filled before.output.now
+    (bytes_from_state before.encoder (chars c.args.text.now)) c.calls.self.filled
+    before.within fits now.room (omega (arith, now.sum))) in
     cc (same, now.same)
 
 pub returns-in-InputEmpty-clause-no_push : goal.returns-in-InputEmpty-clause-no_push
 returns-in-InputEmpty-clause-no_push g c = λ fits.
     let before = c.args.self.now in
-    let room = room_left before.filled (length before.output.now) before.output.now
-    (bytes_from_state before.encoder (chars c.args.text.now)) before.within fits in
     let now = c.calls.invariant.1.no_push fits in
     let same : c.make_room.new.self ≡ c.calls.self =
-    c.make_room.ensures.no_push (omega (arith, room, now.room, now.sum)) in
+    c.make_room.ensures.no_push (room_for_next before.filled before.output.now
+    (bytes_from_state before.encoder (chars c.args.text.now)) c.calls.self.filled
+    before.within fits now.room (omega (arith, now.sum))) in
     cc (same, now.same, c.encode_mappable-outcome.ensures.writer)
 
 pub returns-in-Unmappable-clause-no_push : goal.returns-in-Unmappable-clause-no_push
 returns-in-Unmappable-clause-no_push g c = λ fits.
     let before = c.args.self.now in
-    let room = room_left before.filled (length before.output.now) before.output.now
-    (bytes_from_state before.encoder (chars c.args.text.now)) before.within fits in
     let now = c.calls.invariant.1.no_push fits in
     let same : c.make_room.new.self ≡ c.calls.self =
-    c.make_room.ensures.no_push (omega (arith, room, now.room, now.sum)) in
+    c.make_room.ensures.no_push (room_for_next before.filled before.output.now
+    (bytes_from_state before.encoder (chars c.args.text.now)) c.calls.self.filled
+    before.within fits now.room (omega (arith, now.sum))) in
     cc (same, now.same, c.encode_mappable-outcome.ensures.writer)

@@ -5,7 +5,7 @@ use Rattle.enc_writer.specs.EncodedText.{bytes_from_state}
 use Rattle.enc_writer.specs.Writer.{writer_of}
 use Rattle.enc_writer.proofs.SinkLemmas.{on_err}
 use Rattle.enc_writer.proofs.WritingLemmas.{HasEncoded-none, HasEncoded-push, HasEncoded-then, WritesText-by}
-use Rattle.enc_writer.proofs.WritingLemmas.{room_left}
+use Rattle.enc_writer.proofs.WritingLemmas.{room_for_next}
 use Rattle.enc_writer.proofs.StoppingLemmas.{HasStopped-none, HasStopped-held, StopsText-by, StopsWithin-stopped}
 use Rattle.enc_writer.proofs.encode_writer.EncodeWriter.write_utf16.Goals as goal
 
@@ -61,12 +61,11 @@ calls-preserved g c =
           c.encode_units-outcome.ensures.part));
       no_push = λ fits.
           let before = c.args.self.now in
-          let room = room_left before.filled (length before.output.now) before.output.now
-          (bytes_from_state before.encoder (utf16_lossy_chars c.args.text.now)) before.within
-          fits in
           let now = c.calls.invariant.no_push fits in
           let same : c.make_room.new.self ≡ c.calls.self =
-          c.make_room.ensures.no_push (omega (arith, room, now.room, now.sum)) in
+          c.make_room.ensures.no_push (room_for_next before.filled before.output.now
+          (bytes_from_state before.encoder (utf16_lossy_chars c.args.text.now)) c.calls.self.filled
+          before.within fits now.room (omega (arith, now.sum))) in
           record {
             same = cc (same, now.same, c.encode_units-outcome.ensures.writer);
             room = cc (same, now.room, c.encode_units-outcome.ensures.length);
@@ -80,19 +79,19 @@ calls-preserved g c =
 pub returns-in_err-make_room-clause-no_push : goal.returns-in_err-make_room-clause-no_push
 returns-in_err-make_room-clause-no_push g c = λ fits.
     let before = c.args.self.now in
-    let room = room_left before.filled (length before.output.now) before.output.now
-    (bytes_from_state before.encoder (utf16_lossy_chars c.args.text.now)) before.within fits in
     let now = c.calls.invariant.no_push fits in
     let same : c.make_room.new.self ≡ c.calls.self =
-    c.make_room.ensures.no_push (omega (arith, room, now.room, now.sum)) in
+    c.make_room.ensures.no_push (room_for_next before.filled before.output.now
+    (bytes_from_state before.encoder (utf16_lossy_chars c.args.text.now)) c.calls.self.filled
+    before.within fits now.room (omega (arith, now.sum))) in
     cc (same, now.same)
 
 pub returns-then-eq-clause-no_push : goal.returns-then-eq-clause-no_push
 returns-then-eq-clause-no_push g c = λ fits.
     let before = c.args.self.now in
-    let room = room_left before.filled (length before.output.now) before.output.now
-    (bytes_from_state before.encoder (utf16_lossy_chars c.args.text.now)) before.within fits in
     let now = c.calls.invariant.no_push fits in
     let same : c.make_room.new.self ≡ c.calls.self =
-    c.make_room.ensures.no_push (omega (arith, room, now.room, now.sum)) in
+    c.make_room.ensures.no_push (room_for_next before.filled before.output.now
+    (bytes_from_state before.encoder (utf16_lossy_chars c.args.text.now)) c.calls.self.filled
+    before.within fits now.room (omega (arith, now.sum))) in
     cc (same, now.same, c.encode_units-outcome.ensures.writer)
