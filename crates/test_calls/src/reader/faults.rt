@@ -149,7 +149,10 @@ fn a_source_that_keeps_no_error_has_one_for_std(rt: HostRuntime) -> Result<(), F
     let mut room = [0; 4];
     let mut text = DecodedText::new(reader, &mut room);
     assert!(rt; text.reader().error().is_none());
-    for want in ["the source of the text failed", "the reader of the text has failed before"] {
+    for want in [
+        "the source of the text failed",
+        "the reader of the text has failed before",
+    ] {
         let Err(error) = text.read(&mut [0; 4]) else {
             return Err("no error".into());
         };

@@ -264,22 +264,26 @@ fn a_run_writes_determined_text_before_a_fault(rt: HostRuntime) -> Result<(), Fa
 
 #[test]
 fn reads_fill_the_room(rt: HostRuntime) -> Result<(), Fail> {
-    // 7 bytes of room hold two characters of three bytes, or a character less than the text
-    let rows: [(&[u8], usize); 4] = [
-        ("日本語".as_bytes(), 6),
-        ("abcdefgh".as_bytes(), 7),
-        ("日ééé".as_bytes(), 7),
-        ("abcé💩".as_bytes(), 5),
+    // of each text, the bytes of two reads into 7 bytes of room
+    let rows: [(&[u8], [usize; 2]); 4] = [
+        ("日本語日本語".as_bytes(), [6, 6]),
+        ("abcdefghijklmno".as_bytes(), [7, 7]),
+        ("日ééé日éé".as_bytes(), [7, 7]),
+        ("abcé💩abcé".as_bytes(), [5, 7]),
     ];
-    for (bytes, len) in rows {
-        let mut source = FromRead::new(bytes);
+    for (bytes, lens) in rows {
         let mut input = [0; 64];
-        let mut reader = DecodeReader::new(&mut source, Some(UTF_8), &mut input);
         let mut part = [0; 7];
-        assert!(rt; reader.read_str(&mut part) == Ok(len));
         let mut source = FromRead::new(bytes);
         let mut reader = DecodeReader::new(&mut source, Some(UTF_8), &mut input);
-        assert!(rt; reader.read_str_without_replacement(&mut part)? == ReadStop::Text(len));
+        for len in lens {
+            assert!(rt; reader.read_str(&mut part) == Ok(len));
+        }
+        let mut source = FromRead::new(bytes);
+        let mut reader = DecodeReader::new(&mut source, Some(UTF_8), &mut input);
+        for len in lens {
+            assert!(rt; reader.read_str_without_replacement(&mut part)? == ReadStop::Text(len));
+        }
     }
     Ok(())
 }
