@@ -20,6 +20,8 @@ fn faults_of_a_writer_are_compared_and_printed(rt: HostRuntime) -> Result<(), Fa
 fn a_writer_writes_to_a_sink(rt: HostRuntime) {
     let mut written: Vec<u8> = Vec::new(rt.alloc());
     let mut sink: FromWrite<&mut Vec<u8>> = FromWrite::new(&mut written);
+    let answer: Result<(), ()> = sink.flush();
+    assert!(rt; answer == Ok(()));
     let mut buffer = [0; 14];
     let mut writer: EncodeWriter<'_, FromWrite<&mut Vec<u8>>> = EncodeWriter::new(
         &mut sink,
@@ -43,8 +45,6 @@ fn a_writer_writes_to_a_sink(rt: HostRuntime) {
     assert!(rt; answer == Ok(true));
     let error: Option<io::Error> = writer.error();
     assert!(rt; error.is_none());
-    let answer: Result<(), ()> = sink.flush();
-    assert!(rt; answer == Ok(()));
     let error: Option<io::Error> = sink.error();
     assert!(rt; error.is_none());
     let error: Option<io::Error> = sink.take_error();
