@@ -12,9 +12,12 @@ pub enum Step {
     Move(usize),
     /// Fails with an error of this kind, and moves none.
     Fail(ErrorKind),
-    /// Fails with an error of this kind that has this message, and moves none.
-    FailWith(ErrorKind, &'static str),
+    /// Fails with an error of this kind whose message is [`MESSAGE`], and moves none.
+    FailWithMessage(ErrorKind),
 }
+
+/// The message of an error that has one.
+pub const MESSAGE: &str = "9 of 10 blocks";
 
 /// One byte a call.
 pub const BYTE: Step = Step::Move(1);
@@ -51,7 +54,7 @@ impl<'a> Steps<'a> {
         match self.next_step() {
             Step::Move(most) => Ok(most),
             Step::Fail(kind) => Err(io::Error::from(kind)),
-            Step::FailWith(kind, message) => Err(io::Error::new(kind, message)),
+            Step::FailWithMessage(kind) => Err(io::Error::new(kind, MESSAGE)),
         }
     }
 }

@@ -7,7 +7,7 @@ use std::io;
 use std::io::ErrorKind;
 use std::process::Abort;
 use std::test::Fail;
-use test_support::devices::{ALL_BYTES, BYTE, Step, StepWriter};
+use test_support::devices::{ALL_BYTES, BYTE, MESSAGE, Step, StepWriter};
 use test_support::recoding::{INTERRUPTED, steps_but};
 
 /// Returns what is printed of an error.
@@ -28,15 +28,15 @@ const KINDS: [ErrorKind; 3] = [
 #[test]
 fn a_write_fails_at_once_and_its_error_is_kept_whole(rt: HostRuntime) -> Result<(), Fail> {
     for kind in KINDS {
-        let steps = [Step::FailWith(kind, "9 of 10 blocks"), ALL_BYTES];
+        let steps = [Step::FailWithMessage(kind), ALL_BYTES];
         let mut writer = StepWriter::new(rt.alloc(), &steps);
         let mut sink = FromWrite::new(&mut writer);
         assert!(rt; sink.push(b"a") == Err(()));
         assert!(rt; sink.error().map(|e| e.kind()) == Some(kind));
         let text = printed(rt.alloc(), sink.error())?;
-        assert!(rt; text.as_str() == "9 of 10 blocks");
+        assert!(rt; text.as_str() == MESSAGE);
         let text = printed(rt.alloc(), sink.take_error())?;
-        assert!(rt; text.as_str() == "9 of 10 blocks");
+        assert!(rt; text.as_str() == MESSAGE);
         assert!(rt; sink.failed() && sink.error().is_none());
         assert!(rt; writer.calls == 1);
     }
@@ -62,7 +62,7 @@ fn write_to_a_fault<S: Sink>(rt: &impl Abort, alloc: Global, sink: &mut S) -> Re
     assert!(rt; encoding.push_held() == Err(WriteFault::Writer));
     assert!(rt; encoding.error().map(|e| e.kind()) == Some(ErrorKind::StorageFull));
     let text = printed(alloc, encoding.error())?;
-    assert!(rt; text.as_str() == "no room");
+    assert!(rt; text.as_str() == MESSAGE);
     assert!(rt; encoding.write_str("a") == Err(WriteFault::Failed));
     assert!(rt; encoding.error().map(|e| e.kind()) == Some(ErrorKind::StorageFull));
     Ok(())
@@ -70,7 +70,7 @@ fn write_to_a_fault<S: Sink>(rt: &impl Abort, alloc: Global, sink: &mut S) -> Re
 
 #[test]
 fn a_writer_gives_the_error_of_its_sink(rt: HostRuntime) -> Result<(), Fail> {
-    let steps = [Step::FailWith(ErrorKind::StorageFull, "no room")];
+    let steps = [Step::FailWithMessage(ErrorKind::StorageFull)];
     let mut writer = StepWriter::new(rt.alloc(), &steps);
     let mut sink = FromWrite::new(&mut writer);
     write_to_a_fault(&rt, rt.alloc(), &mut sink)

@@ -6,7 +6,7 @@ use std::alloc::Global;
 use std::io;
 use std::io::{BufRead, ErrorKind, Read};
 use std::test::Fail;
-use test_support::devices::{ALL_BYTES, BYTE, Step, StepReader};
+use test_support::devices::{ALL_BYTES, BYTE, MESSAGE, Step, StepReader};
 use test_support::recoding::{INTERRUPTED, steps_but};
 
 /// Returns what is printed of an error.
@@ -28,16 +28,16 @@ const KINDS: [ErrorKind; 4] = [
 #[test]
 fn a_read_fails_at_once_and_its_error_is_kept_whole(rt: HostRuntime) -> Result<(), Fail> {
     for kind in KINDS {
-        let steps = [Step::FailWith(kind, "sector 9"), ALL_BYTES];
+        let steps = [Step::FailWithMessage(kind), ALL_BYTES];
         let mut device = StepReader::new(b"ab", &steps);
         let mut source = FromRead::new(&mut device);
         assert!(rt; source.error().is_none());
         assert!(rt; source.pull(&mut [0; 4]) == Err(()));
         assert!(rt; source.error().map(|e| e.kind()) == Some(kind));
         let text = printed(rt.alloc(), source.error())?;
-        assert!(rt; text.as_str() == "sector 9");
+        assert!(rt; text.as_str() == MESSAGE);
         let text = printed(rt.alloc(), source.take_error())?;
-        assert!(rt; text.as_str() == "sector 9");
+        assert!(rt; text.as_str() == MESSAGE);
         assert!(rt; source.failed() && source.error().is_none());
         assert!(rt; device.calls == 1);
     }
@@ -58,7 +58,7 @@ fn a_read_is_made_again_after_many_interruptions(rt: HostRuntime) -> Result<(), 
 #[test]
 fn a_reader_gives_the_error_of_its_source(rt: HostRuntime) -> Result<(), Fail> {
     for kind in KINDS {
-        let steps = [BYTE, Step::FailWith(kind, "sector 9"), ALL_BYTES];
+        let steps = [BYTE, Step::FailWithMessage(kind), ALL_BYTES];
         let mut source = FromRead::new(StepReader::new(b"ab", &steps));
         let mut input = [0; 4];
         let mut reader = DecodeReader::new(&mut source, Some(WINDOWS_1252), &mut input);
@@ -67,7 +67,7 @@ fn a_reader_gives_the_error_of_its_source(rt: HostRuntime) -> Result<(), Fail> {
         assert!(rt; reader.error().map(|e| e.kind()) == Some(kind));
         assert!(rt; reader.read_str(&mut [0; 4]) == Err(ReadFault::Failed));
         let text = printed(rt.alloc(), reader.error())?;
-        assert!(rt; text.as_str() == "sector 9");
+        assert!(rt; text.as_str() == MESSAGE);
     }
     Ok(())
 }
@@ -75,7 +75,7 @@ fn a_reader_gives_the_error_of_its_source(rt: HostRuntime) -> Result<(), Fail> {
 #[test]
 fn std_gets_the_error_of_the_source(rt: HostRuntime) -> Result<(), Fail> {
     for kind in KINDS {
-        let steps = [BYTE, Step::FailWith(kind, "sector 9"), ALL_BYTES];
+        let steps = [BYTE, Step::FailWithMessage(kind), ALL_BYTES];
         let mut source = FromRead::new(StepReader::new(b"ab", &steps));
         let mut input = [0; 4];
         let reader = DecodeReader::new(&mut source, Some(WINDOWS_1252), &mut input);
@@ -89,7 +89,7 @@ fn std_gets_the_error_of_the_source(rt: HostRuntime) -> Result<(), Fail> {
         };
         assert!(rt; error.kind() == kind);
         let printed = format!(in rt.alloc(); "{error}")?;
-        assert!(rt; printed.as_str() == "sector 9");
+        assert!(rt; printed.as_str() == MESSAGE);
         for _ in 0..2 {
             let Err(error) = text.read(&mut [0; 4]) else {
                 return Err("no error".into());

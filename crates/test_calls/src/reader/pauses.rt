@@ -146,11 +146,12 @@ fn read_line<R: Source>(
 fn read_text<R: Source>(
     alloc: Global,
     call: Call,
-    mut reader: DecodeReader<'_, R>,
+    reader: DecodeReader<'_, R>,
     most: usize,
 ) -> Result<Vec<u8>, Fail> {
     let mut text = Vec::new(alloc);
     if let Call::ReadStr | Call::Report | Call::Lend = call {
+        let mut reader = reader;
         for _ in 0..most {
             let goes_on = match call {
                 Call::ReadStr => read_str(&mut reader, &mut text)?,
