@@ -142,30 +142,41 @@ fn read_line<R: Source>(
     Ok(matches!(&outcome, Ok(n) if *n > 0))
 }
 
-/// Reads until `most` bytes of text are there, or to the end or a fault.
-fn read_text<R: Source>(
+/// Reads from a reader until `most` bytes of text are there, or to the end or a fault.
+fn read_directly<R: Source>(
     alloc: Global,
     call: Call,
-    reader: DecodeReader<'_, R>,
+    source: &mut R,
     most: usize,
 ) -> Result<Vec<u8>, Fail> {
+    let mut input = [0; 16384];
+    let mut reader = DecodeReader::new(source, Some(UTF_8), &mut input);
     let mut text = Vec::new(alloc);
-    if let Call::ReadStr | Call::Report | Call::Lend = call {
-        let mut reader = reader;
-        for _ in 0..most {
-            let goes_on = match call {
-                Call::ReadStr => read_str(&mut reader, &mut text)?,
-                Call::Report => report(&mut reader, &mut text)?,
-                _ => lend(&mut reader, &mut text)?,
-            };
-            if !goes_on || text.len() >= most {
-                break;
-            }
+    for _ in 0..most {
+        let goes_on = match call {
+            Call::ReadStr => read_str(&mut reader, &mut text)?,
+            Call::Report => report(&mut reader, &mut text)?,
+            _ => lend(&mut reader, &mut text)?,
+        };
+        if !goes_on || text.len() >= most {
+            break;
         }
-        return Ok(text);
     }
+    Ok(text)
+}
+
+/// The same, through a `DecodedText`.
+fn read_held<R: Source>(
+    alloc: Global,
+    call: Call,
+    source: &mut R,
+    most: usize,
+) -> Result<Vec<u8>, Fail> {
+    let mut input = [0; 16384];
+    let reader = DecodeReader::new(source, Some(UTF_8), &mut input);
     let mut room = [0; 8192];
     let mut held = DecodedText::new(reader, &mut room);
+    let mut text = Vec::new(alloc);
     for _ in 0..most {
         let goes_on = match call {
             Call::Read => read(&mut held, &mut text)?,
@@ -177,6 +188,19 @@ fn read_text<R: Source>(
         }
     }
     Ok(text)
+}
+
+/// Reads by this call until `most` bytes of text are there, or to the end or a fault.
+fn read_text<R: Source>(
+    alloc: Global,
+    call: Call,
+    source: &mut R,
+    most: usize,
+) -> Result<Vec<u8>, Fail> {
+    match call {
+        Call::ReadStr | Call::Report | Call::Lend => read_directly(alloc, call, source, most),
+        Call::Read | Call::FillBuf | Call::Line => read_held(alloc, call, source, most),
+    }
 }
 
 /// Two chunks of letters, and the last bytes after them; the steps of a device that gives these
@@ -203,9 +227,7 @@ fn determined_text_comes_before_the_next_read(rt: HostRuntime) -> Result<(), Fai
             let (bytes, steps, want) = input_of(rt.alloc(), row, FAULT)?;
             let mut device = StepReader::new(bytes.as_slice(), steps.as_slice());
             let mut source = FromRead::new(&mut device);
-            let mut input = [0; 16384];
-            let reader = DecodeReader::new(&mut source, Some(UTF_8), &mut input);
-            let text = read_text(rt.alloc(), call, reader, want.len())?;
+            let text = read_text(rt.alloc(), call, &mut source, want.len())?;
             assert!(rt; text.as_slice() == want.as_slice(), "{:?}", row.0);
             // a line may have more of its text to come
             let reads = if let Call::Line = call { 3 } else { 2 };
@@ -222,9 +244,7 @@ fn determined_text_comes_before_a_fault(rt: HostRuntime) -> Result<(), Fail> {
             let (bytes, steps, want) = input_of(rt.alloc(), row, FAULT)?;
             let mut device = StepReader::new(bytes.as_slice(), steps.as_slice());
             let mut source = FromRead::new(&mut device);
-            let mut input = [0; 16384];
-            let reader = DecodeReader::new(&mut source, Some(UTF_8), &mut input);
-            let text = read_text(rt.alloc(), call, reader, 3 * LETTERS)?;
+            let text = read_text(rt.alloc(), call, &mut source, 3 * LETTERS)?;
             assert!(rt; text.as_slice() == want.as_slice(), "{:?}", row.0);
             assert!(rt; device.calls == 3, "{:?}", row.0);
         }
@@ -240,9 +260,7 @@ fn all_text_comes_before_the_end(rt: HostRuntime) -> Result<(), Fail> {
             want.extend_from_slice(row.2.as_bytes())?;
             let device = StepReader::new(bytes.as_slice(), steps.as_slice());
             let mut source = FromRead::new(device);
-            let mut input = [0; 16384];
-            let reader = DecodeReader::new(&mut source, Some(UTF_8), &mut input);
-            let text = read_text(rt.alloc(), call, reader, 3 * LETTERS)?;
+            let text = read_text(rt.alloc(), call, &mut source, 3 * LETTERS)?;
             assert!(rt; text.as_slice() == want.as_slice(), "{:?}", row.0);
         }
     }
