@@ -188,7 +188,7 @@ fn compare_marked(alloc: Global, encoding: Encoding, handling: BomHandling) -> R
 
 #[test]
 fn marks_in_every_encoding(rt: HostRuntime) -> Result<(), Fail> {
-    for (encoding, _, _) in table() {
+    for encoding in table() {
         for handling in HANDLINGS {
             compare_broken(rt.alloc(), *encoding, *handling)?;
             compare_marked(rt.alloc(), *encoding, *handling)?;

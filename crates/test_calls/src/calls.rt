@@ -1,8 +1,9 @@
-//! Calls that the documents show, and runs of decoders. Expected values are by hand from the
-//! Encoding Standard.
+//! Calls that the documents show, runs of decoders, and a set of encodings. Expected values are by
+//! hand from the Encoding Standard.
 
 use encoding_rs::run::{BomHandling, DecodeCall, RunError, decode_run};
 use encoding_rs::*;
+use std::collections::HashSet;
 use std::test::Fail;
 
 #[test]
@@ -109,5 +110,20 @@ fn a_run_of_single_bytes_ends_within_its_calls(rt: HostRuntime) -> Result<(), Fa
     assert!(rt; report.faults.as_slice() == [(0, 1), (2, 2)].as_slice());
     assert!(rt; (report.read, report.calls) == (4, 6));
     assert!(rt; report.finished && report.had_errors);
+    Ok(())
+}
+
+#[test]
+fn a_set_holds_what_was_put_in(rt: HostRuntime) -> Result<(), Fail> {
+    let mut set = HashSet::new(rt.alloc());
+    set.insert(UTF_8)?;
+    set.insert(ISO_2022_JP)?;
+    assert!(rt; set.contains(&UTF_8));
+    assert!(rt; set.contains(&ISO_2022_JP));
+    assert!(rt; !set.contains(&WINDOWS_1252));
+    assert!(rt; set.remove(&ISO_2022_JP));
+    assert!(rt; set.contains(&UTF_8));
+    assert!(rt; !set.contains(&ISO_2022_JP));
+    assert!(rt; set.len() == 1);
     Ok(())
 }

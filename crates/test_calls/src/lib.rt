@@ -13,8 +13,6 @@ mod calls;
 #[cfg(test)]
 mod doc_examples;
 #[cfg(test)]
-mod encodings;
-#[cfg(test)]
 mod errors;
 #[cfg(test)]
 mod lending;

@@ -19,7 +19,7 @@ const REMOVE: BomHandling = BomHandling::Remove;
 #[test]
 fn empty_inputs_take_no_memory(rt: HostRuntime) -> Result<(), Fail> {
     let alloc = rt.alloc();
-    for (encoding, _, _) in table() {
+    for encoding in table() {
         let (text, _, _) = encoding.decode(alloc, b"")?;
         assert!(rt; text.capacity() == 0);
         let (text, _) = encoding.decode_with_bom_removal(alloc, b"")?;
@@ -131,10 +131,10 @@ fn long_bytes(alloc: Global) -> Result<Vec<u8>, AllocError> {
 
 #[test]
 fn two_encodings_have_two_names_for_debugging(rt: HostRuntime) -> Result<(), Fail> {
-    for (i, (one, _, _)) in table().iter().enumerate() {
+    for (i, one) in table().iter().enumerate() {
         let text = format!(in rt.alloc(); "{one:?}")?;
         assert!(rt; !text.is_empty());
-        for (j, (other, _, _)) in table().iter().enumerate() {
+        for (j, other) in table().iter().enumerate() {
             let other = format!(in rt.alloc(); "{other:?}")?;
             assert!(rt; (text == other) == (i == j), "{other}");
         }
@@ -177,7 +177,7 @@ fn compare_long(alloc: Global, encoding: Encoding, bytes: &[u8]) -> Result<(), F
 fn long_inputs_of_every_encoding(rt: HostRuntime) -> Result<(), Fail> {
     let bytes = long_bytes(rt.alloc())?;
     assert!(rt; bytes.len() == LONG);
-    for (encoding, _, _) in table() {
+    for encoding in table() {
         compare_long(rt.alloc(), *encoding, &bytes)?;
     }
     Ok(())
