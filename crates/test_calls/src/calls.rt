@@ -28,21 +28,6 @@ fn recodes_at_once(rt: HostRuntime) -> Result<(), Fail> {
     Ok(())
 }
 
-// A character and its escape sequences in two calls.
-#[test]
-fn encodes_in_chunks(rt: HostRuntime) {
-    let mut bytes = [0; 8];
-    let mut encoder = ISO_2022_JP.new_encoder();
-    // an escape sequence and two bytes for one character; the escape sequence at the end is still
-    // to come
-    let outcome = encoder.encode_from_utf8_without_replacement("あ", &mut bytes, false);
-    assert!(rt; outcome == (EncoderResult::InputEmpty, 3, 5));
-    assert!(rt; &bytes[..5] == b"\x1B$B$\"".as_slice());
-    let outcome = encoder.encode_from_utf8_without_replacement("", &mut bytes, true);
-    assert!(rt; outcome == (EncoderResult::InputEmpty, 0, 3));
-    assert!(rt; &bytes[..3] == b"\x1B(B".as_slice());
-}
-
 #[test]
 fn a_run_looks_for_marks(rt: HostRuntime) -> Result<(), Fail> {
     let calls = [DecodeCall {

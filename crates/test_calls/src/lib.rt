@@ -15,8 +15,6 @@ mod doc_examples;
 #[cfg(test)]
 mod errors;
 #[cfg(test)]
-mod lending;
-#[cfg(test)]
 mod long_texts;
 #[cfg(test)]
 mod one_shot;
