@@ -2,9 +2,7 @@
 //! U+203E and U+2212 those of the standard.
 
 use crate::encoding::runs::EncoderRow;
-use crate::samples::sample::{
-    BarredRow, Decoded, DecoderLengthsRow, Pointer, Sample,
-};
+use crate::samples::sample::{BarredRow, Decoded, DecoderLengthsRow, Pointer, Sample};
 use crate::samples::shared;
 use enc_index::{Codec, List};
 use encoding_rs::SHIFT_JIS;

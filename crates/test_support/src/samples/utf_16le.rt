@@ -1,9 +1,7 @@
 //! UTF-16LE (Encoding Standard 14.4), which is written as UTF-8. The bytes are those of Python's
 //! codec utf-16-le.
 
-use crate::samples::sample::{
-    Among, BarredRow, Decoded, DecoderLengthsRow, Sample,
-};
+use crate::samples::sample::{Among, BarredRow, Decoded, DecoderLengthsRow, Sample};
 use crate::samples::shared;
 use enc_index::Codec;
 use encoding_rs::UTF_16LE;

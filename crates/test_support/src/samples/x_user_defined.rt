@@ -1,9 +1,7 @@
 //! x-user-defined (Encoding Standard 14.5), by hand from the standard.
 
 use crate::encoding::runs::EncoderRow;
-use crate::samples::sample::{
-    Decoded, DecoderLengthsRow, EncoderLengthsRow, Sample,
-};
+use crate::samples::sample::{Decoded, DecoderLengthsRow, EncoderLengthsRow, Sample};
 use enc_index::Codec;
 use encoding_rs::X_USER_DEFINED;
 
