@@ -1,6 +1,8 @@
 //! The rows of decoders.
 
 use crate::fault::RowFault;
+use crate::queries::{latin1, length, lengths};
+use crate::whole::whole;
 use crate::words::{Unreadable, Words, choice, number_of, pair_of};
 use enc_codec::{NewDecoder, VariantDecoder};
 use enc_names::EncodingId;
@@ -13,15 +15,15 @@ use test_support::decoding::{
 
 /// A decoder and its output.
 #[derive(Drop)]
-struct Target {
-    decoder: Decoder,
+pub struct Target {
+    pub decoder: Decoder,
     output: Output,
 }
 
 /// An encoding of a head, with the decoder of its codec.
 #[derive(Clone, Copy)]
-struct Subject {
-    encoding: Encoding,
+pub struct Subject {
+    pub encoding: Encoding,
     codec: VariantDecoder,
 }
 
@@ -59,7 +61,7 @@ fn output_of(word: &str) -> Result<Output, Unreadable> {
 }
 
 /// The encoding that a label names, with the decoder of its codec.
-fn subject_of(label: &str) -> Result<Subject, Unreadable> {
+pub(crate) fn subject_of(label: &str) -> Result<Subject, Unreadable> {
     match (
         Encoding::for_label(label.as_bytes()),
         EncodingId::for_label(label.as_bytes()),
@@ -171,8 +173,15 @@ impl Decoding {
     ) -> Result<(), RowFault> {
         match name {
             "text" => self.text(alloc, words),
+            "whole" => whole(alloc, (&self.subjects, self.handling), words),
+            _ if self.targets.is_empty() => {
+                Err(Unreadable::Unknown("the head names no output").into())
+            }
             "call" => self.call(alloc, words),
             "used" => self.used(words),
+            "lengths" => lengths(&self.targets, words),
+            "length" => length(&self.targets, words),
+            "latin1" => latin1(alloc, &self.targets, words),
             _ => Err(Unreadable::Unknown("no row of a decoder has this name").into()),
         }
     }

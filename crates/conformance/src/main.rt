@@ -8,6 +8,9 @@
 
 mod decoding;
 mod fault;
+mod names;
+mod queries;
+mod whole;
 mod words;
 
 use decoding::Decoding;
@@ -35,6 +38,9 @@ fn run(alloc: Global, line: &str, section: &mut Section) -> Result<(), RowFault>
         *section = Section::None;
         *section = Section::Decoder(Decoding::new(alloc, &mut words)?);
         return Ok(());
+    }
+    if matches!(name, "encoding" | "label" | "mark" | "valid") {
+        return names::run(alloc, name, &mut words);
     }
     match section {
         Section::None => Err(Unreadable::NoHead.into()),

@@ -1,5 +1,5 @@
-//! Tests of `encoding_rs`: names, labels, properties and byte order marks of all encodings,
-//! outputs, length queries, one-shot calls and runs; of `enc_reader` and of `recode_engine`.
+//! Tests of `encoding_rs`: byte order marks in all encodings, long inputs, memory and runs; of
+//! `enc_reader` and of `recode_engine`. The folder conformance has the rows of single calls.
 //! `test_writer` tests `enc_writer`, and `test_codecs` each decoder and encoder.
 //!
 //! Expected values come from outside, as each table says: from examples of the Encoding Standard,
@@ -11,25 +11,15 @@ mod bom;
 #[cfg(test)]
 mod calls;
 #[cfg(test)]
-mod division;
-#[cfg(test)]
 mod doc_examples;
 #[cfg(test)]
-mod encodings;
-#[cfg(test)]
-mod ends;
-#[cfg(test)]
 mod errors;
-#[cfg(test)]
-mod lending;
 #[cfg(test)]
 mod long_texts;
 #[cfg(test)]
 mod one_shot;
 #[cfg(test)]
 mod outputs;
-#[cfg(test)]
-mod queries;
 #[cfg(test)]
 mod reader;
 #[cfg(test)]

@@ -183,7 +183,7 @@ const BETWEEN: &[&[u8]] = &[
 
 #[test]
 fn lends_the_text_of_the_whole_input(rt: HostRuntime) -> Result<(), Fail> {
-    for (encoding, _, _) in table() {
+    for encoding in table() {
         for between in BETWEEN {
             let mut bytes = Vec::new(rt.alloc());
             push_letters(&mut bytes, 9999)?;

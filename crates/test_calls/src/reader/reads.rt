@@ -102,7 +102,7 @@ const INPUTS: &[&[u8]] = &[
 
 #[test]
 fn reads_the_text_of_the_whole_input(rt: HostRuntime) -> Result<(), Fail> {
-    for (encoding, _, _) in table() {
+    for encoding in table() {
         for bytes in INPUTS {
             compare_with_whole(rt.alloc(), *encoding, *bytes)?;
         }

@@ -502,7 +502,7 @@ const OF_ALL_KINDS: &str =
 #[test]
 fn writes_each_encoding_in_small_parts(rt: HostRuntime) -> Result<(), Fail> {
     let text = OF_ALL_KINDS.as_bytes();
-    for (to, _, _) in table() {
+    for to in table() {
         let name = to.name();
         let ran = run_whole(rt.alloc(), (UTF_8, *to), text)?;
         let slow = run_by(rt.alloc(), (UTF_8, *to), text, (&[BYTE], &[BYTE]))?;
