@@ -6,8 +6,12 @@
 //! standard error. The exit status is 0 if all rows hold, and otherwise 1.
 #![tactic(auto)]
 
+mod among;
+mod bytes;
 mod decoding;
 mod fault;
+mod held;
+mod repeat;
 mod words;
 
 use decoding::Decoding;
