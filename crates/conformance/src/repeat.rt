@@ -64,8 +64,8 @@ pub(crate) fn long_input(alloc: Global, words: &mut Words<'_>) -> Result<LongInp
     Ok(input)
 }
 
-/// Decodes a long input in equal calls. Each reads or writes something, so that there are fewer than
-/// bytes and code units.
+/// Decodes a long input in equal calls. Each but the last reads or writes something, so that there
+/// are no more than bytes and code units, and one.
 fn compare_calls(
     alloc: Global,
     encoding: Encoding,
@@ -92,14 +92,16 @@ pub(crate) fn compare_long(
     input: &LongInput,
 ) -> Result<(), RowFault> {
     for (offer, room) in CALLS {
-        for utf16 in [false, true] {
+        for (utf16, replace) in [(false, true), (true, true), (false, false), (true, false)] {
             let call = DecodeCall {
                 utf16,
-                replace: input.malformed,
+                replace,
                 offer,
                 room,
             };
-            compare_calls(alloc, encoding, input, call)?;
+            if replace || !input.malformed {
+                compare_calls(alloc, encoding, input, call)?;
+            }
         }
     }
     Ok(())

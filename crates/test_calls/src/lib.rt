@@ -1,6 +1,6 @@
 //! Tests of `encoding_rs`: names, labels, properties and byte order marks of all encodings,
 //! outputs, length queries, one-shot calls and runs; of `enc_reader` and of `recode_engine`.
-//! `test_writer` tests `enc_writer`, and `test_codecs` each decoder and encoder.
+//! `test_writer` tests `enc_writer`, and `test_codecs` each encoder.
 //!
 //! Expected values come from outside, as each table says: from examples of the Encoding Standard,
 //! from Unicode's tables, and from other converters.
@@ -23,8 +23,6 @@ mod errors;
 #[cfg(test)]
 mod lending;
 #[cfg(test)]
-mod long_texts;
-#[cfg(test)]
 mod one_shot;
 #[cfg(test)]
 mod outputs;
@@ -34,5 +32,3 @@ mod queries;
 mod reader;
 #[cfg(test)]
 mod recode;
-#[cfg(test)]
-mod runs;
