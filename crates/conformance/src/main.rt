@@ -6,10 +6,14 @@
 //! standard error. The exit status is 0 if all rows hold, and otherwise 1.
 #![tactic(auto)]
 
+mod among;
+mod bytes;
 mod decoding;
 mod fault;
+mod held;
 mod names;
 mod queries;
+mod repeat;
 mod whole;
 mod words;
 

@@ -15,8 +15,6 @@ mod doc_examples;
 #[cfg(test)]
 mod errors;
 #[cfg(test)]
-mod long_texts;
-#[cfg(test)]
 mod one_shot;
 #[cfg(test)]
 mod outputs;
@@ -24,5 +22,3 @@ mod outputs;
 mod reader;
 #[cfg(test)]
 mod recode;
-#[cfg(test)]
-mod runs;
