@@ -1,4 +1,4 @@
-//! What scripts/bench times beside its twins over the Rust crate encoding_rs, by the first argument:
+//! What scripts/bench times beside twins over the Rust crate encoding_rs, by the first argument:
 //!
 //! - `bench utf16`: encodes and decodes UTF-16
 //! - `bench calls`: makes short calls again and again
