@@ -43,9 +43,9 @@ const INPUTS: &[(&str, &str, &str)] = &[
 
 /// The examples that run over each part of a file, whose file `stdout` says what each gives. Places
 /// of malformed sequences are those of Python's codecs, and in ISO-2022-JP and UTF-16 by hand from
-/// the Encoding Standard; charsets those that Python's `email` finds, except that it neither drops a
-/// comment nor reads a backslash before a letter (RFC 2045, 5322); encodings of heads those of the
-/// HTML Standard's steps by hand.
+/// the Encoding Standard; charsets those that Python's `email` finds, except that it neither drops
+/// a comment nor reads a backslash before a letter (RFC 2045, 5322); encodings of heads those of
+/// the HTML Standard's steps by hand.
 const PARTED: &[(&str, &str)] = &[
     ("faults", "faults.txt"),
     ("mail-part", "mails.txt"),
