@@ -11,8 +11,6 @@ pub mod decoding;
 pub mod devices;
 pub mod encoding;
 pub mod encodings;
-pub mod growths;
-pub mod lent_growths;
 pub mod reading;
 pub mod recoding;
 pub mod samples;
