@@ -7,10 +7,13 @@
 #![tactic(auto)]
 
 mod decoding;
+mod encoding;
 mod fault;
+mod sums;
 mod words;
 
 use decoding::Decoding;
+use encoding::Encoders;
 use fault::RowFault;
 use std::alloc::Global;
 use std::io::{self, Read};
@@ -25,6 +28,7 @@ enum Section {
     /// No head was read before, or one that can't be read.
     None,
     Decoder(Decoding),
+    Encoder(Encoders),
 }
 
 /// Runs a row.
@@ -36,9 +40,15 @@ fn run(alloc: Global, line: &str, section: &mut Section) -> Result<(), RowFault>
         *section = Section::Decoder(Decoding::new(alloc, &mut words)?);
         return Ok(());
     }
+    if name == "encoder" {
+        *section = Section::None;
+        *section = Section::Encoder(Encoders::new(alloc, &mut words)?);
+        return Ok(());
+    }
     match section {
         Section::None => Err(Unreadable::NoHead.into()),
         Section::Decoder(decoding) => decoding.run(alloc, name, &mut words),
+        Section::Encoder(encoders) => encoders.run(alloc, name, &mut words),
     }
 }
 
