@@ -41,6 +41,17 @@ struct Expected {
     bytes: Vec<u8>,
 }
 
+impl Expected {
+    /// The answer and the bytes.
+    fn wanted(&self) -> Wanted<'_> {
+        Wanted {
+            answer: self.answer,
+            written: self.written,
+            bytes: &self.bytes,
+        }
+    }
+}
+
 /// Length queries: from UTF-8 and from UTF-16.
 type Lengths = (Option<usize>, Option<usize>);
 
@@ -282,6 +293,9 @@ impl Encoders {
         match name {
             "text" => self.text(alloc, words),
             "long" => self.long(alloc, words),
+            "whole" | "sum" if !self.barred.is_empty() => {
+                Err(Unreadable::Unknown("this row bars no characters").into())
+            }
             "whole" => self.whole(alloc, words),
             "sum" => self.sum(words),
             "call" | "units" | "pending" | "lengths" => {
@@ -374,11 +388,7 @@ impl Encoders {
             last: expected.last,
             room: expected.room,
         };
-        let want = Wanted {
-            answer: expected.answer,
-            written: expected.written,
-            bytes: &expected.bytes,
-        };
+        let want = expected.wanted();
         for target in &mut self.targets {
             let way = Way {
                 source: target.source,
@@ -399,11 +409,7 @@ impl Encoders {
             last: expected.last,
             room: expected.room,
         };
-        let want = Wanted {
-            answer: expected.answer,
-            written: expected.written,
-            bytes: &expected.bytes,
-        };
+        let want = expected.wanted();
         for target in &mut self.targets {
             if !matches!(target.source, Source::Utf16) {
                 return Err(Unreadable::Unknown("an encoder of the head reads UTF-8").into());

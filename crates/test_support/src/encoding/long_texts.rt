@@ -59,7 +59,11 @@ fn compare_room(
     expect(row.1.starts_with(&bytes), "no prefix of the bytes", &case)?;
     let fits = way.replaces && room >= row.1.len().saturating_add(kept_back(asked));
     let is_whole = answer.stop == EncoderResult::InputEmpty && bytes.len() == row.1.len();
-    expect(is_whole || !fits, "one call has room and does not finish", &case)
+    expect(
+        is_whole || !fits,
+        "one call has room and does not finish",
+        &case,
+    )
 }
 
 /// Encodes a text by one call, in each room up to `SMALL_ROOMS`, around its length, and in a large

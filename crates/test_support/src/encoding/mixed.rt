@@ -61,7 +61,11 @@ fn compare_alike(alloc: Global, asked: Asked, row: Encoded<'_>) -> Result<(), Fa
         let report = compare_run(alloc, asked, row, &calls)?;
         let is_silent = report.unmappables.is_empty() || !call.replace;
         let case = case_of(asked, row.0, ROOM);
-        expect(is_silent, "a call with replacement reports a character", &case)?;
+        expect(
+            is_silent,
+            "a call with replacement reports a character",
+            &case,
+        )?;
     }
     Ok(())
 }
