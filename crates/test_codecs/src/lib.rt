@@ -2,10 +2,9 @@
 //! of index look-ups, and of outputs; and of each public item, by its path (`surface`).
 //!
 //! Each codec has a module in `codecs` with a table of rows. One call runs the rows through the
-//! `Encoding` and through the codec's `RawDecoder`. `encoders` has texts and their bytes, with
-//! references and without, from both forms of input. Expected values come from outside, as each
-//! table says: from examples of the Encoding Standard, from Unicode's tables, and from other
-//! converters.
+//! `Encoding` and through the codec's `RawDecoder`. Texts and their bytes are rows of conformance;
+//! `encoders` has what these can't say. Expected values come from outside, as each table says: from
+//! examples of the Encoding Standard, from Unicode's tables, and from other converters.
 #![tactic(auto)]
 
 #[cfg(test)]

@@ -9,18 +9,18 @@ use encoding_rs::EncoderResult;
 use std::alloc::Global;
 use std::test::Fail;
 
-/// All rooms less than this are tried.
-const SMALL_ROOMS: usize = 80;
-
-/// The rooms from a few bytes less than a text has to this many more are tried.
-const MORE_ROOMS: usize = 14;
-
-/// A room that is more than any text here needs.
-const LARGE_ROOM: usize = 600;
-
-/// The rooms of texts in two parts. Calls with 32 bytes of room and more write many characters at
+/// All rooms less than this are tried. Calls with 32 bytes of room and more write many characters at
 /// once.
-const CUT_ROOMS: [usize; 2] = [17, 40];
+const SMALL_ROOMS: usize = 49;
+
+/// Larger rooms.
+const LARGE_ROOMS: [usize; 5] = [56, 63, 64, 77, 600];
+
+/// Added to one byte less than a text has: with references ten bytes are kept back.
+const AROUND: [usize; 4] = [0, 1, 10, 11];
+
+/// The room of texts in two parts.
+const CUT_ROOM: usize = 40;
 
 /// Predicts the answer of a call in this way by a new encoder, and appends its bytes.
 fn predict_call(
@@ -66,22 +66,22 @@ fn compare_room(
     )
 }
 
-/// Encodes a text by one call, in each room up to `SMALL_ROOMS`, around its length, and in a large
-/// one; and in two parts, cut between any two characters.
+/// Encodes a text by one call, in small rooms, in large ones, and around its length; and in two parts,
+/// cut between any two characters.
 pub fn compare_long(alloc: Global, asked: Asked, row: Encoded<'_>) -> Result<(), Fail> {
-    let first = row.1.len().saturating_sub(3).max(SMALL_ROOMS);
+    let before = row.1.len().saturating_sub(1);
     for way in SLICE_WAYS {
         for room in 0..SMALL_ROOMS {
             compare_room(alloc, (asked, way), row, room)?;
         }
-        for room in first..row.1.len().saturating_add(MORE_ROOMS) {
+        for room in LARGE_ROOMS {
             compare_room(alloc, (asked, way), row, room)?;
         }
-        compare_room(alloc, (asked, way), row, LARGE_ROOM)?;
+        for more in AROUND {
+            compare_room(alloc, (asked, way), row, before.saturating_add(more))?;
+        }
         for (place, _) in row.0.char_indices() {
-            for room in CUT_ROOMS {
-                compare_parts(alloc, (asked, way), row, (place, room))?;
-            }
+            compare_parts(alloc, (asked, way), row, (place, CUT_ROOM))?;
         }
     }
     Ok(())

@@ -30,6 +30,8 @@ struct Run {
     encoder: Encoder,
     /// Predicts calls with replacement, by calls without it.
     model: Encoder,
+    /// Whether it does.
+    is_predicted: bool,
     asked: Asked,
     way: Way,
     room: usize,
@@ -48,10 +50,16 @@ pub fn case_of((encoding, _): Asked, text: &str, room: usize) -> Case<'_> {
 }
 
 /// Starts a run.
-fn start(alloc: Global, asked: Asked, way: Way, room: usize) -> Result<Run, Fail> {
+fn start(
+    alloc: Global,
+    (asked, way): (Asked, Way),
+    room: usize,
+    is_predicted: bool,
+) -> Result<Run, Fail> {
     Ok(Run {
         encoder: encoder_of(asked)?,
         model: encoder_of(asked)?,
+        is_predicted,
         asked,
         way,
         room,
@@ -84,7 +92,7 @@ fn compare_predicted(
 fn call(alloc: Global, run: &mut Run, offer: &Offer<'_>) -> Result<Answer, Fail> {
     let mut bytes = Vec::new(alloc);
     let answer = make_call(alloc, &mut run.encoder, run.way, offer, &mut bytes)?;
-    if run.way.replaces {
+    if run.way.replaces && run.is_predicted {
         compare_predicted(alloc, run, offer, (answer, &bytes))?;
     }
     let is_full = answer.stop == EncoderResult::OutputFull;
@@ -146,20 +154,36 @@ fn compare(run: &Run, row: Encoded<'_>) -> Result<(), Fail> {
     expect_bytes(bytes, front, way.name(), &case)
 }
 
-/// Runs a row in two parts.
+/// Passes a row's text in two parts, and compares what comes of it.
+fn compare_run(alloc: Global, run: &mut Run, row: Encoded<'_>, place: usize) -> Result<(), Fail> {
+    let Some((front, rest)) = row.0.split_at_checked(place) else {
+        return Err(Fail::new("a character is cut"));
+    };
+    offer(alloc, run, front, false)?;
+    offer(alloc, run, rest, true)?;
+    compare(run, row)
+}
+
+/// Runs a row in two parts. The calls are not predicted.
 pub fn compare_parts(
     alloc: Global,
     (asked, way): (Asked, Way),
     row: Encoded<'_>,
     (place, room): (usize, usize),
 ) -> Result<(), Fail> {
-    let Some((front, rest)) = row.0.split_at_checked(place) else {
-        return Err(Fail::new("a character is cut"));
-    };
-    let mut run = start(alloc, asked, way, room)?;
-    offer(alloc, &mut run, front, false)?;
-    offer(alloc, &mut run, rest, true)?;
-    compare(&run, row)
+    let mut run = start(alloc, (asked, way), room, false)?;
+    compare_run(alloc, &mut run, row, place)
+}
+
+/// Runs a row in two parts, and predicts calls with replacement.
+fn compare_predicted_parts(
+    alloc: Global,
+    (asked, way): (Asked, Way),
+    row: Encoded<'_>,
+    (place, room): (usize, usize),
+) -> Result<(), Fail> {
+    let mut run = start(alloc, (asked, way), room, true)?;
+    compare_run(alloc, &mut run, row, place)
 }
 
 /// Runs a text a character at a time.
@@ -169,7 +193,7 @@ fn run_characters(
     text: &str,
     room: usize,
 ) -> Result<Run, Fail> {
-    let mut run = start(alloc, asked, way, room)?;
+    let mut run = start(alloc, (asked, way), room, true)?;
     let mut local = [0; 4];
     for character in text.chars() {
         let own = character.encode_utf8(&mut local);
@@ -187,7 +211,7 @@ pub fn compare_cuts(alloc: Global, asked: Asked, row: Encoded<'_>) -> Result<(),
     for way in ALL_WAYS {
         for room in 0..ROOMS {
             for (place, _) in row.0.char_indices() {
-                compare_parts(alloc, (asked, way), row, (place, room))?;
+                compare_predicted_parts(alloc, (asked, way), row, (place, room))?;
             }
             let run = run_characters(alloc, (asked, way), row.0, room)?;
             compare(&run, row)?;
