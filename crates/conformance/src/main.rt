@@ -13,6 +13,7 @@ mod among;
 mod bytes;
 mod calls;
 mod decoding;
+mod encoding;
 mod fault;
 mod growths;
 mod held;
@@ -22,11 +23,13 @@ mod names;
 mod one_shot;
 mod queries;
 mod repeat;
+mod sums;
 mod web_platform;
 mod whole;
 mod words;
 
 use decoding::Decoding;
+use encoding::Encoders;
 use fault::RowFault;
 use mode::{Mode, answer_questions, make_calls, refuse_growths};
 use std::alloc::Global;
@@ -43,6 +46,7 @@ enum Section {
     /// No head was read before, or one that can't be read.
     None,
     Decoder(Decoding),
+    Encoder(Encoders),
 }
 
 /// Runs a row.
@@ -54,12 +58,18 @@ fn run(alloc: Global, line: &str, section: &mut Section) -> Result<(), RowFault>
         *section = Section::Decoder(Decoding::new(alloc, &mut words)?);
         return Ok(());
     }
+    if name == "encoder" {
+        *section = Section::None;
+        *section = Section::Encoder(Encoders::new(alloc, &mut words)?);
+        return Ok(());
+    }
     if matches!(name, "encoding" | "label" | "mark" | "valid") {
         return names::run(alloc, name, &mut words);
     }
     match section {
         Section::None => Err(Unreadable::NoHead.into()),
         Section::Decoder(decoding) => decoding.run(alloc, name, &mut words),
+        Section::Encoder(encoders) => encoders.run(alloc, name, &mut words),
     }
 }
 

@@ -1,9 +1,9 @@
 //! Tests of each encoder, of index look-ups, of outputs, and of the second decoder of UTF-8; and of
 //! each public item, by its path (`surface`).
 //!
-//! `encoders` has texts and their bytes, with references and without, from both forms of input.
-//! Expected values come from outside, as each table says: from examples of the Encoding Standard,
-//! from Unicode's tables, and from other converters. Decoders have rows in conformance/.
+//! `encoders` has runs and lists, which rows can't say. Expected values come from outside, as each
+//! table says: from examples of the Encoding Standard, from Unicode's tables, and from other
+//! converters. Decoders and encoders have rows in conformance/.
 #![tactic(auto)]
 
 #[cfg(test)]

@@ -1,11 +1,5 @@
-//! Writes for each encoding, in a row as crates/test_codecs/src/encoders/sums.rt has it, two sums over what the Rust crate
-//! encodes single characters to, without replacement and with it:
-//! every character of the Basic Multilingual Plane and each 97th of the others, and in Big5 every one of plane 2.
-//! scripts/compare-crate builds and runs it.
-//!
-//! A sum is FNV-1a with 64 bits, over numbers: of a character that is mappable its bytes and 0x100. Of any other one they
-//! are without replacement 0x200 and the character that is reported, and with it the bytes of its reference, with the
-//! escape sequence that may follow, and 0x200.
+//! Writes a line `NAME REPORT REPLACE` for each encoding: the sums of a row `sum` of conformance/README.md, over what the
+//! Rust crate encodes single characters to. scripts/compare-crate builds and runs it.
 use encoding_rs::{BIG5, EncoderResult, Encoding};
 
 const OFFSET_BASIS: u64 = 0xCBF2_9CE4_8422_2325;
@@ -51,18 +45,12 @@ fn add_replaced(sum: u64, encoding: &'static Encoding, character: char) -> u64 {
     add(sum, if had_unmappables { 0x200 } else { 0x100 })
 }
 
-/// A sum as the tests write it.
-fn grouped(sum: u64) -> String {
-    let digits = format!("{sum:016X}");
-    format!("0x{}_{}_{}_{}", &digits[..4], &digits[4..8], &digits[8..12], &digits[12..])
-}
-
 fn main() {
     for name in NAMES {
         let encoding = Encoding::for_label(name.as_bytes()).expect("a name is a label");
         let characters = || (0..=0x10_FFFF).filter_map(char::from_u32).filter(|c| is_tried(encoding, *c));
         let reported = characters().fold(OFFSET_BASIS, |sum, c| add_character(sum, encoding, c));
         let replaced = characters().fold(OFFSET_BASIS, |sum, c| add_replaced(sum, encoding, c));
-        println!("({}, {}, {})", name.replace('-', "_").to_uppercase(), grouped(reported), grouped(replaced));
+        println!("{name} {reported:016X} {replaced:016X}");
     }
 }
