@@ -1,6 +1,6 @@
 //! Tests of `encoding_rs`: names, labels, properties and byte order marks of all encodings,
-//! outputs, length queries, one-shot calls and runs; of `enc_reader` and of `recode_engine`.
-//! `test_writer` tests `enc_writer`, and `test_codecs` each decoder and encoder.
+//! outputs, length queries, one-shot calls and runs. `test_codecs` tests each decoder and encoder,
+//! `test_reader` and `test_writer` reading and writing.
 //!
 //! Expected values come from outside, as each table says: from examples of the Encoding Standard,
 //! from Unicode's tables, and from other converters.
@@ -30,9 +30,5 @@ mod one_shot;
 mod outputs;
 #[cfg(test)]
 mod queries;
-#[cfg(test)]
-mod reader;
-#[cfg(test)]
-mod recode;
 #[cfg(test)]
 mod runs;
