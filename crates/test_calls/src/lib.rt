@@ -1,6 +1,6 @@
-//! Tests of `encoding_rs`: byte order marks in all encodings, long inputs, memory and runs; of
-//! `enc_reader` and of `recode_engine`. The folder conformance has the rows of single calls.
-//! `test_writer` tests `enc_writer`, and `test_codecs` each decoder and encoder.
+//! Tests of `encoding_rs`: byte order marks in all encodings, long inputs, memory and runs. The
+//! folder conformance has the rows of single calls. `test_codecs` tests units and indexes,
+//! `test_reader` and `test_writer` reading and writing.
 //!
 //! Expected values come from outside, as each table says: from examples of the Encoding Standard,
 //! from Unicode's tables, and from other converters.
@@ -18,7 +18,3 @@ mod errors;
 mod one_shot;
 #[cfg(test)]
 mod outputs;
-#[cfg(test)]
-mod reader;
-#[cfg(test)]
-mod recode;

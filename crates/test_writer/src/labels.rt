@@ -1,8 +1,6 @@
 //! The encodings of labels, and the exit statuses.
 
-use encoding_rs::{
-    SHIFT_JIS, UTF_8, UTF_16BE, UTF_16LE, WINDOWS_1251, WINDOWS_1252, X_USER_DEFINED,
-};
+use enc_stream::constants::*;
 use recode_engine::{RecodeFault, labels, status};
 
 #[test]
@@ -21,6 +19,7 @@ fn knows_labels(rt: HostRuntime) {
         ("\u{B}utf-8", "utf-8"),
         ("utf-8x", "utf-8"),
         ("replacement", "utf-8"),
+        ("utf-8", "replacement"),
         ("utf-8", "hz-gb-2312"),
     ] {
         assert!(rt; labels(from, to) == None, "{from} {to}");

@@ -4,6 +4,7 @@
 use std::alloc::Global;
 use std::io;
 use std::io::{ErrorKind, Read, Write};
+use std::test::Fail;
 
 /// The action of a device at a call.
 #[derive(Clone, Copy)]
@@ -24,6 +25,23 @@ pub const BYTE: Step = Step::Move(1);
 
 /// As many bytes as there are, or as there is room for.
 pub const ALL_BYTES: Step = Step::Move(usize::MAX);
+
+/// A writer takes 0 bytes.
+pub const NOTHING: Step = Step::Move(0);
+
+/// A fault.
+pub const FAULT: Step = Step::Fail(ErrorKind::BrokenPipe);
+
+/// The error after which std's own loops try again.
+pub const INTERRUPTED: Step = Step::Fail(ErrorKind::Interrupted);
+
+/// Kinds of errors after which a call could be made again. It is not.
+pub const KINDS: [ErrorKind; 4] = [
+    ErrorKind::WouldBlock,
+    ErrorKind::TimedOut,
+    ErrorKind::StorageFull,
+    ErrorKind::UnexpectedEof,
+];
 
 /// The steps of a device, in turn. The last one is also that of each later call, and a device
 /// without steps moves all.
@@ -57,6 +75,20 @@ impl<'a> Steps<'a> {
             Step::FailWithMessage(kind) => Err(io::Error::new(kind, MESSAGE)),
         }
     }
+}
+
+/// Steps with another one at the nth call, counted from 1. After it they go on for four calls.
+pub fn steps_but(alloc: Global, steps: &[Step], nth: usize, step: Step) -> Result<Vec<Step>, Fail> {
+    let mut usual = Steps::new(steps);
+    let mut changed = Vec::new(alloc);
+    for _ in 1..nth {
+        changed.push(usual.next_step())?;
+    }
+    changed.push(step)?;
+    for _ in 0..4 {
+        changed.push(usual.next_step())?;
+    }
+    Ok(changed)
 }
 
 /// Gives bytes by steps: at least one while it has any, since 0 would mean that it is at its end.
