@@ -20,3 +20,11 @@ takes() {
         exit 2
     fi
 }
+
+# Refuses a word that is no number.
+is_number() {
+    if [[ ! $1 =~ ^[0-9]+$ ]]; then
+        echo "${0##*/}: $1 is no number: ${0##*/} --help says what it does" >&2
+        exit 2
+    fi
+}
