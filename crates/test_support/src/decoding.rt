@@ -17,7 +17,7 @@ pub use calls::{
     Call, ReportingCall, decode_whole, make_call, make_calls, make_calls_of, make_reporting_calls,
     make_reporting_calls_of, new_decoder,
 };
-pub use cuts::{Others, compare_all, compare_cuts_of, compare_offers, compare_uses};
+pub use cuts::{Others, compare_all, compare_cuts_of, compare_input, compare_offers, compare_uses};
 pub use mixed::compare_mixed;
 pub use one_shot::{Mode, compare_single_bytes, compare_strict, compare_with_run, decode_at_once};
 pub use outputs::{ALL_OUTPUTS, Answer, Given, Output, call_into};

@@ -129,6 +129,9 @@ pub enum Others {
     All,
 }
 
+/// The rooms below this go through every cut, and the others through few.
+const CUT_ROOMS: usize = 5;
+
 /// Runs an input into one output with each room below `rooms`, with and without replacement.
 fn compare_output(
     alloc: Global,
@@ -139,6 +142,7 @@ fn compare_output(
     for reporting in [false, true] {
         let way = Use { reporting, ..way };
         for room in 0..rooms {
+            let wide = wide && room < CUT_ROOMS;
             compare_each_cut(alloc, (way, wide), input, room)?;
         }
     }
@@ -178,21 +182,29 @@ pub fn compare_cuts_of(
     compare_mixed(alloc, way, input)
 }
 
-/// Runs the input of each row through every cut and room, by the encoding and by a new decoder of
-/// it by itself, and in single bytes after byte order marks that break off. The first row goes into
-/// all outputs so.
+/// Runs an input through every cut and room, by the encoding and by a new decoder of it by itself,
+/// and in single bytes after byte order marks that break off.
+pub fn compare_input(
+    alloc: Global,
+    (encoding, decoder): (Encoding, impl RawDecoder),
+    others: Others,
+    input: &Input<'_>,
+) -> Result<(), Fail> {
+    let way = Use::new(encoding, BomHandling::Off);
+    compare_cuts_of(alloc, (way, others), input)?;
+    compare_raw_cuts(alloc, (encoding.name(), decoder), input)?;
+    compare_after_broken_marks(alloc, encoding, input.bytes)
+}
+
+/// Runs the input of each row so. The first row goes into all outputs.
 pub fn compare_all(
     alloc: Global,
     (encoding, decoder): (Encoding, impl RawDecoder),
     rows: &[Row],
 ) -> Result<(), Fail> {
-    let way = Use::new(encoding, BomHandling::Off);
     let mut others = Others::All;
     for row in rows {
-        let input = input_of(row);
-        compare_cuts_of(alloc, (way, others), &input)?;
-        compare_raw_cuts(alloc, (encoding.name(), decoder), &input)?;
-        compare_after_broken_marks(alloc, encoding, input.bytes)?;
+        compare_input(alloc, (encoding, decoder), others, &input_of(row))?;
         others = Others::Few;
     }
     Ok(())

@@ -1,0 +1,243 @@
+//! The rows of decoders.
+
+use crate::fault::RowFault;
+use crate::words::{Unreadable, Words, choice, number_of, pair_of};
+use enc_codec::{NewDecoder, VariantDecoder};
+use enc_names::EncodingId;
+use encoding_rs::run::BomHandling;
+use encoding_rs::{Decoder, DecoderResult, Encoding};
+use std::alloc::Global;
+use test_support::decoding::{
+    Given, Input, Others, Output, Use, compare_cuts_of, compare_input, make_call, new_decoder,
+};
+
+/// A decoder and its output.
+#[derive(Drop)]
+struct Target {
+    decoder: Decoder,
+    output: Output,
+}
+
+/// An encoding of a head, with the decoder of its codec.
+#[derive(Clone, Copy)]
+struct Subject {
+    encoding: Encoding,
+    codec: VariantDecoder,
+}
+
+/// What the rows after a head `decoder` are of.
+#[derive(Drop)]
+pub struct Decoding {
+    subjects: Vec<Subject>,
+    handling: BomHandling,
+    reporting: bool,
+    /// The decoders of the rows `call`, each with its output.
+    targets: Vec<Target>,
+    /// Whether no row `text` has been before.
+    is_first: bool,
+}
+
+/// The byte order marks that a word names, if it names some.
+fn marks_of(word: &str) -> Option<BomHandling> {
+    match word {
+        "off" => Some(BomHandling::Off),
+        "sniff" => Some(BomHandling::Sniff),
+        "remove" => Some(BomHandling::Remove),
+        _ => None,
+    }
+}
+
+/// The output that a word names.
+fn output_of(word: &str) -> Result<Output, Unreadable> {
+    match word {
+        "utf8" => Ok(Output::Utf8),
+        "utf16" => Ok(Output::Utf16),
+        "str" => Ok(Output::Str),
+        "string" => Ok(Output::String),
+        _ => Err(Unreadable::Unknown("no output has this name")),
+    }
+}
+
+/// The encoding that a label names, with the decoder of its codec.
+fn subject_of(label: &str) -> Result<Subject, Unreadable> {
+    match (
+        Encoding::for_label(label.as_bytes()),
+        EncodingId::for_label(label.as_bytes()),
+    ) {
+        (Some(encoding), Some(id)) => Ok(Subject {
+            encoding,
+            codec: id.codec().new_decoder(),
+        }),
+        _ => Err(Unreadable::Unknown("no encoding has this label")),
+    }
+}
+
+/// The result that a word is: `InputEmpty`, `OutputFull` or `Malformed(LEN,AFTER)`.
+fn result_of(word: &str) -> Result<DecoderResult, Unreadable> {
+    if word == "InputEmpty" {
+        return Ok(DecoderResult::InputEmpty);
+    }
+    if word == "OutputFull" {
+        return Ok(DecoderResult::OutputFull);
+    }
+    let Some(numbers) = word.strip_prefix("Malformed(") else {
+        return Err(Unreadable::Unknown("no result has this name"));
+    };
+    let Some(numbers) = numbers.strip_suffix(')') else {
+        return Err(Unreadable::Unknown("no result has this name"));
+    };
+    match pair_of(numbers, ',')? {
+        (len, after) if len < 256 && after < 256 => {
+            Ok(DecoderResult::Malformed(len as u8, after as u8))
+        }
+        _ => Err(Unreadable::Number),
+    }
+}
+
+/// The least room in which calls reach the end of a text: that of its longest character.
+fn room_of(text: &str) -> usize {
+    let mut room = 0;
+    for character in text.chars() {
+        room = room.max(character.len_utf8());
+    }
+    room
+}
+
+/// The malformed sequences of a row `text`, and its room.
+fn places_of(
+    alloc: Global,
+    words: &mut Words<'_>,
+    room: usize,
+) -> Result<(Vec<(usize, usize)>, usize), Unreadable> {
+    let (mut malformed, mut room) = (Vec::new(alloc), room);
+    for _ in 0..words.len() {
+        if !words.has_more() {
+            break;
+        }
+        let word = words.word()?;
+        match word.strip_prefix("room=") {
+            Some(number) => room = number_of(number)?,
+            None => malformed.push(pair_of(word, '+')?)?,
+        }
+    }
+    Ok((malformed, room))
+}
+
+impl Decoding {
+    /// Reads `LABEL.. MARKS report|replace [OUTPUT..]`: what the rows that follow are of.
+    pub(crate) fn new(alloc: Global, words: &mut Words<'_>) -> Result<Decoding, Unreadable> {
+        let mut subjects = Vec::new(alloc);
+        let mut handling = None;
+        for _ in 0..words.len() {
+            let word = words.word()?;
+            handling = marks_of(word);
+            if handling.is_some() {
+                break;
+            }
+            subjects.push(subject_of(word)?)?;
+        }
+        let (Some(handling), false) = (handling, subjects.is_empty()) else {
+            return Err(Unreadable::Missing);
+        };
+        let reporting = choice(words.word()?, ("report", "replace"))?;
+        let mut targets = Vec::new(alloc);
+        for _ in 0..words.len() {
+            if !words.has_more() {
+                break;
+            }
+            let output = output_of(words.word()?)?;
+            for Subject { encoding, .. } in &subjects {
+                targets.push(Target {
+                    decoder: new_decoder(*encoding, handling),
+                    output,
+                })?;
+            }
+        }
+        Ok(Decoding {
+            subjects,
+            handling,
+            reporting,
+            targets,
+            is_first: true,
+        })
+    }
+
+    /// Runs the row of this name.
+    pub(crate) fn run(
+        &mut self,
+        alloc: Global,
+        name: &str,
+        words: &mut Words<'_>,
+    ) -> Result<(), RowFault> {
+        match name {
+            "text" => self.text(alloc, words),
+            "call" => self.call(alloc, words),
+            "used" => self.used(words),
+            _ => Err(Unreadable::Unknown("no row of a decoder has this name").into()),
+        }
+    }
+
+    /// Runs `BYTES TEXT [AT+LEN ..] [room=N]` through every cut, room and output.
+    fn text(&mut self, alloc: Global, words: &mut Words<'_>) -> Result<(), RowFault> {
+        let (bytes, text) = (words.bytes(alloc)?, words.text(alloc)?);
+        let (malformed, room) = places_of(alloc, words, room_of(&text))?;
+        words.end()?;
+        let input = Input {
+            bytes: &bytes,
+            text: text.as_bytes(),
+            malformed: &malformed,
+            room,
+        };
+        let others = if self.is_first {
+            Others::All
+        } else {
+            Others::Few
+        };
+        self.is_first = false;
+        for Subject { encoding, codec } in &self.subjects {
+            if self.handling == BomHandling::Off {
+                compare_input(alloc, (*encoding, *codec), others, &input)?;
+            } else {
+                let way = Use::new(*encoding, self.handling);
+                compare_cuts_of(alloc, (way, others), &input)?;
+            }
+        }
+        Ok(())
+    }
+
+    /// Makes the call `BYTES more|last ROOM RESULT READ WRITTEN replaced|- TEXT` with each decoder.
+    fn call(&mut self, alloc: Global, words: &mut Words<'_>) -> Result<(), RowFault> {
+        let src = words.bytes(alloc)?;
+        let last = choice(words.word()?, ("last", "more"))?;
+        let room = words.number()?;
+        let result = result_of(words.word()?)?;
+        let (read, written) = (words.number()?, words.number()?);
+        let replaced = choice(words.word()?, ("replaced", "-"))?;
+        let text = words.text(alloc)?;
+        words.end()?;
+        let given = Given {
+            src: &src,
+            last,
+            room,
+            reporting: self.reporting,
+        };
+        let want = (result, read, written, replaced);
+        for target in &mut self.targets {
+            let output = (target.output, given);
+            make_call(alloc, &mut target.decoder, output, (want, text.as_str()))?;
+        }
+        Ok(())
+    }
+
+    /// Compares the encoding of each decoder with that of a label.
+    fn used(&mut self, words: &mut Words<'_>) -> Result<(), RowFault> {
+        let used = subject_of(words.word()?)?.encoding;
+        words.end()?;
+        for target in &self.targets {
+            if target.decoder.encoding() != used {
+                return Err(RowFault::fails("a decoder has another encoding"));
+            }
+        }
+        Ok(())
+    }
+}
