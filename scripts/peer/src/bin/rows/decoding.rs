@@ -369,7 +369,7 @@ impl Decoders {
             let query = query.map_or(String::from("none"), shown);
             let Answer { read, written, replaced, text, .. } = answer;
             let text = hex(text.as_bytes());
-            return Err(format!("fails part=call of={used} output={shown_output} result={given} read={read} written={written} replaced={replaced} text={text} query={query}"));
+            return Err(format!("fails part=call stage=call of={used} output={shown_output} result={given} read={read} written={written} replaced={replaced} text={text} query={query}"));
         }
         Ok(())
     }

@@ -299,7 +299,7 @@ impl Encoders {
             }
             let Answer { read, written, replaced, bytes, .. } = answer;
             let bytes = hex(&bytes);
-            return Err(format!("fails part=call of={name} input={shown_input} result={result_of} read={read} written={written} replaced={replaced} bytes={bytes}"));
+            return Err(format!("fails part=call stage=call of={name} input={shown_input} result={result_of} read={read} written={written} replaced={replaced} bytes={bytes}"));
         }
         Ok(())
     }
