@@ -9,6 +9,7 @@ REPLACEMENT = "\ufffd"
 
 # Causes of texts.
 PRIVATE = "bytes have private-use characters, where the standard has others or malformed sequences"
+CONTROLS = "lead bytes, or bytes without a character, are control characters by themselves"
 LACKS = "bytes that have a character are malformed"
 HAS = "bytes of a malformed sequence have a character"
 OTHER = "bytes have another character"
@@ -23,7 +24,7 @@ UNMAPPABLE = "characters that have bytes are unmappable"
 MAPPABLE = "characters that are unmappable have bytes"
 OTHER_BYTES = "characters have other bytes"
 # Causes of Python and of Node.
-KATAKANA = "there is no half-width katakana, which 1B 28 49 begins"
+LATIN_1 = "windows-1252 is decoded as ISO-8859-1: 80 to 9F are control characters"
 ERROR = "the codec raises an error, though errors have a handler"
 NO_DECODER = "there is no TextDecoder of the encoding: it throws RangeError"
 THROWS = "without `fatal`, a TextDecoder throws TypeError if the input is cut"
@@ -46,6 +47,7 @@ BYTE_80 = "the Latin-1 prefix ends at byte 80 (docs/UPSTREAM.md)"
 NOT_EXPLAINED = "not explained"
 
 NEW_IN_2022 = {*map(chr, range(0xFE10, 0xFE1A)), *map(chr, range(0x9FB4, 0x9FBC)), "\u1e3f", "\ue7c7"}
+CONTROL = {chr(it) for it in range(0x80, 0xA0)}
 LOSING = ("Big5", "EUC-KR", "Shift_JIS")
 # The encodings whose lengths are others.
 OTHER_LENGTHS = ("Big5", "EUC-JP", "EUC-KR", "GBK", "gb18030", "ISO-2022-JP", "Shift_JIS")
@@ -101,6 +103,8 @@ def cause_of_texts(want, got):
     (plain_want, plain_got), more = (it.replace(REPLACEMENT, "") for it in (want, got)), set(got) - set(want) - {REPLACEMENT}
     if more and all(unicodedata.category(it) == "Co" for it in more):
         return PRIVATE
+    if more and more <= CONTROL:
+        return CONTROLS
     if plain_want == plain_got:
         return COUNT if REPLACEMENT in got else SKIPS
     if REPLACEMENT not in want:
@@ -133,8 +137,6 @@ def of_python(failure):
     part, stage = failure.get("part"), failure.get("stage")
     if part == "error":
         return [ERROR]
-    if failure.get("codec") == "iso2022_jp" and b"\x1b(I" in failure.row.fields["src"]:
-        return [KATAKANA]
     if stage == "cut":
         return [CUT]
     if part == "bytes":
@@ -154,7 +156,10 @@ def of_node(failure):
         return [THROWS if stage == "cut" else NOT_EXPLAINED]
     if stage == "cut":
         return [CUT]
-    return [cause_of_encoding(failure)] if part == "bytes" else causes_of_texts(failure)
+    if part == "bytes":
+        return [cause_of_encoding(failure)]
+    want, got = failure.texts()
+    return [LATIN_1] if failure.get("of") == "windows-1252" and set(got) - set(want) <= CONTROL else causes_of_texts(failure)
 
 
 def numbers_of(result):

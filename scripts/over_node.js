@@ -55,6 +55,12 @@ function compare(label, cuts, text, isMalformed) {
   return 'holds';
 }
 
+// Whether a decoder with `fatal` throws.
+function isThrown(label, src) {
+  const made = decoded(label, true, [src]);
+  return made === null ? 'holds' : fails({ part: 'fatal', stage: 'whole', of: label, cut: 'no', text: hex(made) });
+}
+
 function among(label, letter, middle, text, isMalformed) {
   const letters = Math.floor((40 - middle.length) / letter.length), many = (it, count) => Array(count).fill(it);
   for (let front = 0; front <= letters; front++) {
@@ -75,8 +81,8 @@ function bytes(label, first, text) {
 const DECODING = {
   text: (label, [src, text, places]) => compare(label, cutsOf(bytesOf(src)), textOf(text), places !== '-'),
   whole: (label, [src, text, , flag]) => {
-    const malformed = flag === 'yes';
-    return compare(label, [['no', [bytesOf(src)]]], section.reports && malformed ? null : textOf(text), malformed);
+    if (section.reports && flag === 'yes') return isThrown(label, bytesOf(src));
+    return compare(label, [['no', [bytesOf(src)]]], textOf(text), flag === 'yes');
   },
   among: (label, [letter, src, text, places]) => among(label, bytesOf(letter), bytesOf(src), textOf(text), places !== '-'),
   repeat: (label, [count, src, text]) => {

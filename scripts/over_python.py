@@ -7,7 +7,7 @@ HANDLER = "rows-of-conformance"
 # The codec that stands for each encoding. x-user-defined and replacement have none.
 CODECS = {
     "UTF-8": "utf_8", "UTF-16BE": "utf_16_be", "UTF-16LE": "utf_16_le", "GBK": "gbk", "gb18030": "gb18030",
-    "Big5": "big5hkscs", "EUC-JP": "euc_jp", "ISO-2022-JP": "iso2022_jp", "Shift_JIS": "cp932", "EUC-KR": "cp949",
+    "Big5": "big5hkscs", "EUC-JP": "euc_jp", "ISO-2022-JP": "iso2022_jp_ext", "Shift_JIS": "cp932", "EUC-KR": "cp949",
     "IBM866": "cp866", "ISO-8859-8-I": "iso8859_8", "KOI8-R": "koi8_r", "KOI8-U": "koi8_u", "macintosh": "mac_roman",
     "windows-874": "cp874", "x-mac-cyrillic": "mac_cyrillic",
     **{f"ISO-8859-{it}": f"iso8859_{it}" for it in (2, 3, 4, 5, 6, 7, 8, 10, 13, 14, 15, 16)},

@@ -260,6 +260,8 @@ def among(words):
     made = {"letter": words.bytes(), "src": words.bytes(), "text": words.text(), "malformed": []}
     if words.rest:
         made["malformed"].append(pair_of(words.word(), "+"))
+    if not made["letter"] or any(at for at, _ in made["malformed"]):
+        raise Unreadable("no letter, or a malformed sequence that is not at 0")
     return made
 
 
