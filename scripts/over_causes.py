@@ -19,6 +19,7 @@ TAKES = "a malformed sequence takes bytes after it along"
 PLACES = "the text is the same, and the malformed sequences are other bytes"
 CUT = "another text if the input is cut than if it is whole"
 GB18030_2022 = "the characters of GB18030-2022, and U+3000 of A3 A0, are those of an older edition or of private use"
+FOUR_BYTES = "GBK has no sequences of four bytes, which it has in common with gb18030"
 # Causes of bytes.
 UNMAPPABLE = "characters that have bytes are unmappable"
 MAPPABLE = "characters that are unmappable have bytes"
@@ -48,6 +49,7 @@ NOT_EXPLAINED = "not explained"
 
 NEW_IN_2022 = {*map(chr, range(0xFE10, 0xFE1A)), *map(chr, range(0x9FB4, 0x9FBC)), "\u1e3f", "\ue7c7"}
 CONTROL = {chr(it) for it in range(0x80, 0xA0)}
+FOUR = re.compile(rb"[\x81-\xfe][0-9][\x81-\xfe][0-9]")
 LOSING = ("Big5", "EUC-KR", "Shift_JIS")
 # The encodings whose lengths are others.
 OTHER_LENGTHS = ("Big5", "EUC-JP", "EUC-KR", "GBK", "gb18030", "ISO-2022-JP", "Shift_JIS")
@@ -76,7 +78,10 @@ class Failure(NamedTuple):
         want, got = self.row.fields["text"], bytes.fromhex(self.get("text").strip("-")).decode("utf-8", "surrogatepass")
         if self.row.name == "among":
             return want.strip("a"), got.strip("a")
-        return (want * self.row.fields["n"] if self.row.name == "repeat" else want), got
+        if self.row.name == "repeat":
+            side, middle = want * self.row.fields["n"], self.row.fields["middle_text"]
+            want = side + middle + side if self.row.fields["middle"] else side
+        return want, got
 
 
 def is_within(part, whole):
@@ -121,6 +126,8 @@ def causes_of_texts(failure):
         return [GB18030_2022]
     if failure.row.name == "bytes":
         return causes_of_bytes(want, got)
+    if failure.get("of") == "GBK" and failure.get("codec") != "gb18030" and FOUR.search(failure.row.fields["src"]):
+        return [FOUR_BYTES]
     return [cause_of_texts(want, got)]
 
 
@@ -195,6 +202,8 @@ def of_crate(failure):
     part, row = failure.get("part"), failure.row
     if part == "panic":
         return [cause_of_panic(failure)]
+    if part == "split":
+        return [SPLIT]
     if part == "stuck":
         return [(SMALL if row.kind == "decoder" else SMALL_ENCODER) if failure.is_small else None]
     if part == "places" and row.head.marks != "off" and b"\xef\xbb" in row.fields["src"]:

@@ -85,9 +85,11 @@ const DECODING = {
     return compare(label, [['no', [bytesOf(src)]]], textOf(text), flag === 'yes');
   },
   among: (label, [letter, src, text, places]) => among(label, bytesOf(letter), bytesOf(src), textOf(text), places !== '-'),
-  repeat: (label, [count, src, text]) => {
-    const whole = Buffer.concat(Array(Number(count)).fill(bytesOf(src)));
-    return compare(label, [['no', [whole]], ['each(997)', pieces(whole, 997)]], textOf(text).repeat(Number(count)), false);
+  repeat: (label, [count, src, text, middle, ofMiddle]) => {
+    const side = Buffer.concat(Array(Number(count)).fill(bytesOf(src))), ofSide = textOf(text).repeat(Number(count));
+    const whole = middle === '-' ? side : Buffer.concat([side, bytesOf(middle), side]);
+    const want = middle === '-' ? ofSide : ofSide + textOf(ofMiddle) + ofSide;
+    return compare(label, [['no', [whole]], ['each(997)', pieces(whole, 997)]], want, want.includes('\u{FFFD}'));
   },
   bytes: (label, [first, text]) => bytes(label, Number(first), textOf(text)),
 };
@@ -105,7 +107,7 @@ function decode(name, words) {
 
 // The whole texts of UTF-8.
 function encode(name, [text, bytes]) {
-  if (!['text', 'whole'].includes(name) || section.names.join() !== 'UTF-8' || section.barring) return 'skip';
+  if (!['text', 'long', 'whole'].includes(name) || section.names.join() !== 'UTF-8' || section.barring) return 'skip';
   const made = new TextEncoder().encode(textOf(text));
   return hex(made) === bytes ? 'holds' : fails({ part: 'bytes', stage: 'whole', of: 'UTF-8', bytes: hex(made) });
 }

@@ -4,15 +4,17 @@ import codecs
 from typing import NamedTuple
 
 HANDLER = "rows-of-conformance"
-# The codec that stands for each encoding. x-user-defined and replacement have none.
+# The codec that stands for each encoding: that over which most rows hold. x-user-defined and replacement have none.
 CODECS = {
-    "UTF-8": "utf_8", "UTF-16BE": "utf_16_be", "UTF-16LE": "utf_16_le", "GBK": "gbk", "gb18030": "gb18030",
+    "UTF-8": "utf_8", "UTF-16BE": "utf_16_be", "UTF-16LE": "utf_16_le", "GBK": "gb18030", "gb18030": "gb18030",
     "Big5": "big5hkscs", "EUC-JP": "euc_jp", "ISO-2022-JP": "iso2022_jp_ext", "Shift_JIS": "cp932", "EUC-KR": "cp949",
     "IBM866": "cp866", "ISO-8859-8-I": "iso8859_8", "KOI8-R": "koi8_r", "KOI8-U": "koi8_u", "macintosh": "mac_roman",
     "windows-874": "cp874", "x-mac-cyrillic": "mac_cyrillic",
     **{f"ISO-8859-{it}": f"iso8859_{it}" for it in (2, 3, 4, 5, 6, 7, 8, 10, 13, 14, 15, 16)},
     **{f"windows-{it}": f"cp{it}" for it in range(1250, 1259)},
 }
+# The codec of an encoder, if it is another.
+ENCODERS = {"GBK": "gbk"}
 UTF = ("UTF-8", "UTF-16BE", "UTF-16LE")
 
 
@@ -80,7 +82,7 @@ class Rows:
         if name in ("decoder", "encoder"):
             self.section = Section(name == "decoder", words[0].split(","), words[1], name == "encoder" and words[3] != "-")
             return "holds"
-        known = {"text": self.text, "whole": self.whole, "among": self.among, "repeat": self.repeat, "bytes": self.bytes}
+        known = {"text": self.text, "long": self.text, "whole": self.whole, "among": self.among, "repeat": self.repeat, "bytes": self.bytes}
         if name not in known or not self.section or self.section.barring:
             return "skip"
         codecs_of = {it: codec for it in self.section.names if (codec := self.codec(it))}
@@ -90,7 +92,7 @@ class Rows:
     def codec(self, name):
         """The codec of an encoding, or none. `remove` is that of a byte order mark of UTF-8 or UTF-16."""
         if not self.section.decodes:
-            return CODECS.get(self.outputs[name])
+            return ENCODERS.get(name) or CODECS.get(self.outputs[name])
         if self.section.marks == "off" or (self.section.marks == "remove" and name not in UTF):
             return CODECS.get(name)
         return "utf_8_sig" if (self.section.marks, name) == ("remove", "UTF-8") else None
@@ -121,7 +123,7 @@ class Rows:
                 return shown(part="error", **how, error=type(error).__name__)
             if text != wanted[0]:
                 return shown(part="text", **how, text=text, malformed=places)
-            if places != wanted[1]:
+            if wanted[1] is not None and places != wanted[1]:
                 return shown(part="places", **how, text=text, malformed=places)
         return "holds"
 
@@ -163,9 +165,12 @@ class Rows:
         return "holds"
 
     def repeat(self, of, codec, *words):
-        src, text = bytes.fromhex(words[1].strip("-")) * int(words[0]), bytes.fromhex(words[2].strip("-")).decode()
+        src, text, middle, of_middle = (bytes.fromhex(it.strip("-")) for it in words[1:5])
+        src, text = src * int(words[0]), text.decode() * int(words[0])
+        if middle:
+            src, text = src + middle + src, text + of_middle.decode() + text
         cuts = [("no", [src]), ("each(997)", [src[at:at + 997] for at in range(0, len(src), 997)] or [src])]
-        return self.compare(of, codec, src, cuts, (text * int(words[0]), []))
+        return self.compare(of, codec, src, cuts, (text, None))
 
     def bytes(self, of, codec, *words):
         first, text = int(words[0]), bytes.fromhex(words[1].strip("-")).decode()

@@ -265,6 +265,18 @@ def among(words):
     return made
 
 
+def repeat(words):
+    made = {"n": words.number(), "src": words.bytes(), "text": words.text(), "middle": b"", "middle_text": ""}
+    return made | ({"middle": words.bytes(), "middle_text": words.text()} if words.rest else {})
+
+
+def sums(words):
+    both = [words.word(), words.word()]
+    if not all(re.fullmatch("[0-9A-F]{16}", it) for it in both):
+        raise Unreadable("no sum of sixteen hexadecimal digits")
+    return {"sums": both}
+
+
 def first_bytes(words):
     word, text = words.word(), words.text()
     if not re.fullmatch("[0-9A-F]{1,2}", word):
@@ -294,9 +306,11 @@ FORMS = {
     ("decoder", "latin1"): lambda it: {"src": it.bytes(), "length": it.number_or_none()},
     ("decoder", "whole"): lambda it: whole(it, it.bytes, it.text, "malformed"),
     ("decoder", "among"): among,
-    ("decoder", "repeat"): lambda it: {"n": it.number(), "src": it.bytes(), "text": it.text()},
+    ("decoder", "repeat"): repeat,
     ("decoder", "bytes"): first_bytes,
     ("encoder", "text"): lambda it: {"text": it.text(), "bytes": it.bytes()},
+    ("encoder", "long"): lambda it: {"text": it.text(), "bytes": it.bytes()},
+    ("encoder", "sum"): sums,
     ("encoder", "call"): encoder_call,
     ("encoder", "units"): units_call,
     ("encoder", "pending"): lambda it: {"pending": it.choice("yes", "no")},

@@ -1,6 +1,7 @@
 //! Rows of encoders.
 use crate::words::{bytes_of, caught, hex, named, number_of, parts, shown, text_of, Words};
 use encoding_rs::{CoderResult, Encoder, EncoderResult, Encoding};
+use peer::sums::sums_of;
 use std::borrow::Cow;
 
 /// Room for the whole text of a row, in bytes.
@@ -58,6 +59,8 @@ struct Answer {
 struct Run {
     bytes: Vec<u8>,
     is_finished: bool,
+    /// Whether a call has read a lead surrogate without its trail.
+    is_split: bool,
 }
 
 /// What a call reads and how.
@@ -145,7 +148,8 @@ fn run_chunk(encoder: &mut Encoder, input: Input, mut text: &str, given: Given, 
     let mut idle = 0;
     loop {
         let answer = call(encoder, input, text, given);
-        if !text.is_char_boundary(answer.read) {
+        run.is_split = !text.is_char_boundary(answer.read);
+        if run.is_split {
             return false;
         }
         text = &text[answer.read..];
@@ -181,6 +185,7 @@ fn compare(stage: &str, way: Way, (text, bytes): (&str, &[u8]), cut: Cut, room: 
     let run = caught(|| run(way, text, cut, room));
     let part = match &run {
         None => "panic",
+        Some(run) if run.is_split => "split",
         Some(run) if run.is_finished && run.bytes != bytes => "bytes",
         Some(run) if !bytes.starts_with(&run.bytes) => "bytes",
         Some(run) if !run.is_finished && room >= way.least() => "stuck",
@@ -214,6 +219,23 @@ fn compare_all(encoding: &'static Encoding, row: (&str, &[u8])) -> Result<(), St
     compare_cuts("cut", encoding, row, |_| vec![AMPLE])?;
     compare_cuts("room", encoding, row, |way| (way.least()..ROOMS).collect())?;
     compare_cuts("small", encoding, row, |way| (0..way.least()).collect())
+}
+
+/// Encodes a long text whole and in two parts, in room enough and in little.
+fn compare_long(encoding: &'static Encoding, row: (&str, &[u8])) -> Result<(), String> {
+    for (input, reports) in INPUTS.into_iter().flat_map(|input| [(input, false), (input, true)]) {
+        let way = Way { encoding, input, reports };
+        compare("whole", way, row, Cut::No, AMPLE)?;
+        for (place, _) in row.0.char_indices() {
+            compare("cut", way, row, Cut::At(place), AMPLE)?;
+            compare("room", way, row, Cut::At(place), 17)?;
+            compare("room", way, row, Cut::At(place), 40)?;
+        }
+        for room in way.least()..row.1.len() + 14 {
+            compare("room", way, row, Cut::No, room)?;
+        }
+    }
+    Ok(())
 }
 
 /// The four length queries of an encoder.
@@ -267,6 +289,11 @@ impl Encoders {
                 let (text, bytes) = (text_of(words.next()), bytes_of(words.next()));
                 self.subjects.iter().try_for_each(|it| compare_all(it, (&text, &bytes)))
             }
+            "long" => {
+                let (text, bytes) = (text_of(words.next()), bytes_of(words.next()));
+                self.subjects.iter().try_for_each(|it| compare_long(it, (&text, &bytes)))
+            }
+            "sum" => self.sum(words),
             "call" => {
                 let text = text_of(words.next());
                 self.call(words, |encoder, input, given| call(encoder, input, &text, given))
@@ -300,6 +327,18 @@ impl Encoders {
             let Answer { read, written, replaced, bytes, .. } = answer;
             let bytes = hex(&bytes);
             return Err(format!("fails part=call stage=call of={name} input={shown_input} result={result_of} read={read} written={written} replaced={replaced} bytes={bytes}"));
+        }
+        Ok(())
+    }
+
+    fn sum(&self, words: &mut Words) -> Result<(), String> {
+        let want = words.next();
+        for encoding in &self.subjects {
+            let (reported, replaced) = sums_of(encoding);
+            let given = format!("{reported:016X},{replaced:016X}");
+            if given != want {
+                return Err(format!("fails part=sum of={} sums={given}", encoding.name()));
+            }
         }
         Ok(())
     }

@@ -49,7 +49,7 @@ pub fn shown_places(places: &[(usize, usize)]) -> String {
     if all.is_empty() { String::from("-") } else { all.join(",") }
 }
 
-/// The bytes of hexadecimal digits.
+/// The bytes of hexadecimal digits, and none of a dash.
 pub fn bytes_of(digits: &str) -> Vec<u8> {
     let pairs = digits.as_bytes().chunks_exact(2);
     pairs.map(|pair| u8::from_str_radix(std::str::from_utf8(pair).expect("ASCII"), 16).expect("digits")).collect()
