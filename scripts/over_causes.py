@@ -11,14 +11,15 @@ REPLACEMENT = "\ufffd"
 PRIVATE = "bytes have private-use characters, where the standard has others or malformed sequences"
 CONTROLS = "lead bytes, or bytes without a character, are control characters by themselves"
 LACKS = "bytes that have a character are malformed"
-HAS = "bytes of a malformed sequence have a character"
+LACKS_CONTROLS = "bytes that are control characters above U+007F are malformed"
+HAS = "bytes that are malformed, or the last of them, have a character"
 OTHER = "bytes have another character"
 COUNT = "malformed bytes become another number of U+FFFD"
 SKIPS = "malformed bytes are skipped, without U+FFFD"
 TAKES = "a malformed sequence takes bytes after it along"
 PLACES = "the text is the same, and the malformed sequences are other bytes"
 CUT = "another text if the input is cut than if it is whole"
-GB18030_2022 = "the characters of GB18030-2022, and U+3000 of A3 A0, are those of an older edition or of private use"
+GB18030_2022 = "the characters of GB18030-2022 are those of an older edition, and A3 A0 is of private use"
 FOUR_BYTES = "GBK has no sequences of four bytes, which it has in common with gb18030"
 # Causes of bytes.
 UNMAPPABLE = "characters that have bytes are unmappable"
@@ -48,6 +49,9 @@ BYTE_80 = "the Latin-1 prefix ends at byte 80 (docs/UPSTREAM.md)"
 NOT_EXPLAINED = "not explained"
 
 NEW_IN_2022 = {*map(chr, range(0xFE10, 0xFE1A)), *map(chr, range(0x9FB4, 0x9FBC)), "\u1e3f", "\ue7c7"}
+# These, and those of private use in their place before.
+OLD = (*range(0xE78D, 0xE797), 0xE81E, 0xE826, 0xE82B, 0xE82C, 0xE832, 0xE843, 0xE854, 0xE864)
+IN_2022 = NEW_IN_2022 | {*map(chr, OLD)}
 CONTROL = {chr(it) for it in range(0x80, 0xA0)}
 FOUR = re.compile(rb"[\x81-\xfe][0-9][\x81-\xfe][0-9]")
 LOSING = ("Big5", "EUC-KR", "Shift_JIS")
@@ -99,13 +103,13 @@ def is_2022(want, got):
 def causes_of_bytes(want, got):
     """The causes of a row `bytes`: of each byte that differs."""
     pairs = {(it, other) for it, other in zip(want, got) if it != other}
-    kinds = {LACKS if other == REPLACEMENT else HAS if it == REPLACEMENT else OTHER for it, other in pairs}
-    return sorted(kinds) or [NOT_EXPLAINED]
+    return sorted({cause_of_texts(*it) for it in pairs}) or [NOT_EXPLAINED]
 
 
 def cause_of_texts(want, got):
     """The cause of a text that is given for another."""
-    (plain_want, plain_got), more = (it.replace(REPLACEMENT, "") for it in (want, got)), set(got) - set(want) - {REPLACEMENT}
+    plain_want, plain_got = (it.replace(REPLACEMENT, "") for it in (want, got))
+    more = set(plain_got) - set(plain_want)
     if more and all(unicodedata.category(it) == "Co" for it in more):
         return PRIVATE
     if more and more <= CONTROL:
@@ -113,7 +117,8 @@ def cause_of_texts(want, got):
     if plain_want == plain_got:
         return COUNT if REPLACEMENT in got else SKIPS
     if REPLACEMENT not in want:
-        return LACKS if REPLACEMENT in got else OTHER
+        lacks = LACKS_CONTROLS if set(plain_want) - set(plain_got) <= CONTROL else LACKS
+        return lacks if REPLACEMENT in got else OTHER
     if is_within(plain_want, plain_got):
         return HAS
     return TAKES if is_within(plain_got, plain_want) else OTHER
@@ -134,6 +139,9 @@ def causes_of_texts(failure):
 def cause_of_encoding(failure):
     """The cause of bytes, of Python or of Node."""
     want = failure.row.fields["text" if failure.row.name == "whole" else "bytes"]
+    text = failure.row.fields["src" if failure.row.name == "whole" else "text"]
+    if failure.get("of") in ("gb18030", "GBK") and IN_2022.intersection(text):
+        return GB18030_2022
     references = [len(re.findall(rb"&#\d+;", it)) for it in (want, bytes.fromhex(failure.get("bytes").strip("-")))]
     if references[0] == references[1]:
         return OTHER_BYTES
@@ -166,7 +174,8 @@ def of_node(failure):
     if part == "bytes":
         return [cause_of_encoding(failure)]
     want, got = failure.texts()
-    return [LATIN_1] if failure.get("of") == "windows-1252" and set(got) - set(want) <= CONTROL else causes_of_texts(failure)
+    is_latin_1 = failure.get("of") == "windows-1252" and set(got) - set(want) <= CONTROL
+    return [LATIN_1] if is_latin_1 else causes_of_texts(failure)
 
 
 def numbers_of(result):
@@ -177,9 +186,13 @@ def numbers_of(result):
 def cause_of_panic(failure):
     if failure.row.name in ("latin1", "lengths", "length"):
         return FINISHED
-    if failure.row.kind == "decoder" and not failure.is_small:
-        return MARK_PANIC if failure.row.head.marks != "off" else SECOND_PANIC if failure.get("of") == "ISO-2022-JP" else None
-    return SMALL_PANIC if failure.row.kind == "decoder" else None
+    if failure.row.kind == "encoder":
+        return None
+    if failure.is_small:
+        return SMALL_PANIC
+    if failure.row.head.marks != "off":
+        return MARK_PANIC
+    return SECOND_PANIC if failure.get("of") == "ISO-2022-JP" else None
 
 
 def cause_of_call(failure):
@@ -188,7 +201,8 @@ def cause_of_call(failure):
     result, read, query = given["result"], int(given["read"]), given.get("query", "0")
     both = numbers_of(result), numbers_of(fields["result"])
     if all(both) and both[0][0] == both[1][0]:
-        return AFTER if read - both[0][1] == fields["read"] - both[1][1] else HELD_MARK if failure.row.head.marks != "off" else None
+        apart = read - both[0][1] - (fields["read"] - both[1][1])
+        return HELD_MARK if apart == 1 and failure.row.head.marks != "off" else None if apart else AFTER
     if result == "Unmappable(FFFD)" and failure.row.name == "units":
         return SPLIT
     if result == "OutputFull" and read <= fields["read"] and int(given["written"]) <= fields["written"]:

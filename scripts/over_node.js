@@ -1,6 +1,6 @@
 // Answers rows of conformance by Node's TextDecoder and TextEncoder, for scripts/over.py, which writes the lines of
-// standard input. TextDecoder removes the byte order mark of its own encoding, as `remove` says, or with ignoreBOM none,
-// as `off`. It looks for no other. By the standard it refuses the encoding replacement.
+// standard input. TextDecoder removes the byte order mark of its own encoding, as `remove` says, or with ignoreBOM
+// none, as `off`. It looks for no other. By the standard it refuses the encoding replacement.
 'use strict';
 const { readFileSync } = require('node:fs');
 
@@ -49,7 +49,7 @@ function compare(label, cuts, text, isMalformed) {
     const how = { stage: cut === 'no' ? 'whole' : 'cut', of: label, cut };
     const made = decoded(label, false, chunks), strict = decoded(label, true, chunks);
     if (made !== text) return fails({ part: 'text', ...how, text: made === null ? 'throws' : hex(made) });
-    if ((strict === null) !== isMalformed) return fails({ part: 'fatal', ...how, text: strict === null ? 'throws' : hex(strict) });
+    if ((strict === null) !== isMalformed) return fails({ part: 'fatal', ...how });
     if (strict !== null && strict !== text) return fails({ part: 'text', ...how, text: hex(strict) });
   }
   return 'holds';
@@ -84,7 +84,9 @@ const DECODING = {
     if (section.reports && flag === 'yes') return isThrown(label, bytesOf(src));
     return compare(label, [['no', [bytesOf(src)]]], textOf(text), flag === 'yes');
   },
-  among: (label, [letter, src, text, places]) => among(label, bytesOf(letter), bytesOf(src), textOf(text), places !== '-'),
+  among: (label, [letter, src, text, places]) => {
+    return among(label, bytesOf(letter), bytesOf(src), textOf(text), places !== '-');
+  },
   repeat: (label, [count, src, text, middle, ofMiddle]) => {
     const side = Buffer.concat(Array(Number(count)).fill(bytesOf(src))), ofSide = textOf(text).repeat(Number(count));
     const whole = middle === '-' ? side : Buffer.concat([side, bytesOf(middle), side]);
@@ -107,7 +109,8 @@ function decode(name, words) {
 
 // The whole texts of UTF-8.
 function encode(name, [text, bytes]) {
-  if (!['text', 'long', 'whole'].includes(name) || section.names.join() !== 'UTF-8' || section.barring) return 'skip';
+  const isUtf8 = section.names.join() === 'UTF-8' && section.barred === '-';
+  if (!isUtf8 || !['text', 'long', 'whole'].includes(name)) return 'skip';
   const made = new TextEncoder().encode(textOf(text));
   return hex(made) === bytes ? 'holds' : fails({ part: 'bytes', stage: 'whole', of: 'UTF-8', bytes: hex(made) });
 }
@@ -122,8 +125,8 @@ function label(digits, name) {
 function answer(line) {
   const [name, ...words] = line.split(' ');
   if (name === 'decoder' || name === 'encoder') {
-    const decodes = name === 'decoder';
-    section = { decodes, names: words[0].split(','), marks: words[1], reports: words[2] === 'report', barring: words[3] !== '-' };
+    const [names, marks, mode, barred] = words;
+    section = { decodes: name === 'decoder', names: names.split(','), marks, reports: mode === 'report', barred };
     return 'holds';
   }
   if (name === 'label') return label(...words);

@@ -13,8 +13,8 @@ CODECS = {
     **{f"ISO-8859-{it}": f"iso8859_{it}" for it in (2, 3, 4, 5, 6, 7, 8, 10, 13, 14, 15, 16)},
     **{f"windows-{it}": f"cp{it}" for it in range(1250, 1259)},
 }
-# The codec of an encoder, if it is another.
-ENCODERS = {"GBK": "gbk"}
+# What answers each kind of rows.
+ROWS = {"text": "text", "long": "text", "whole": "whole", "among": "among", "repeat": "repeat", "bytes": "bytes"}
 UTF = ("UTF-8", "UTF-16BE", "UTF-16LE")
 
 
@@ -80,19 +80,19 @@ class Rows:
 
     def answer(self, name, *words):
         if name in ("decoder", "encoder"):
-            self.section = Section(name == "decoder", words[0].split(","), words[1], name == "encoder" and words[3] != "-")
+            barring = name == "encoder" and words[3] != "-"
+            self.section = Section(name == "decoder", words[0].split(","), words[1], barring)
             return "holds"
-        known = {"text": self.text, "long": self.text, "whole": self.whole, "among": self.among, "repeat": self.repeat, "bytes": self.bytes}
-        if name not in known or not self.section or self.section.barring:
+        if name not in ROWS or not self.section or self.section.barring:
             return "skip"
-        codecs_of = {it: codec for it in self.section.names if (codec := self.codec(it))}
-        found = [known[name](of, codec, *words) for of, codec in codecs_of.items()]
+        codec_of = {it: codec for it in self.section.names if (codec := self.codec(it))}
+        found = [getattr(self, ROWS[name])(of, codec, *words) for of, codec in codec_of.items()]
         return next((it for it in found if it != "holds"), "holds" if found else "skip")
 
     def codec(self, name):
         """The codec of an encoding, or none. `remove` is that of a byte order mark of UTF-8 or UTF-16."""
         if not self.section.decodes:
-            return ENCODERS.get(name) or CODECS.get(self.outputs[name])
+            return CODECS.get(self.outputs[name])
         if self.section.marks == "off" or (self.section.marks == "remove" and name not in UTF):
             return CODECS.get(name)
         return "utf_8_sig" if (self.section.marks, name) == ("remove", "UTF-8") else None
@@ -142,14 +142,13 @@ class Rows:
     def whole(self, of, codec, *words):
         """The text or the bytes of the whole, and whether something was at fault."""
         front, back = (bytes.fromhex(it.strip("-")) for it in words[:2])
-        flag = words[3] == "yes"
+        flag, how = words[3] == "yes", {"stage": "whole", "of": of, "codec": codec}
         if self.section.decodes:
             text, places = self.decoded(codec, [front])
-            is_right = (text == back.decode() or (flag and not back), bool(places)) == (True, flag)
-            return "holds" if is_right else shown(part="text", stage="whole", of=of, codec=codec, text=text, malformed=places)
+            is_right = text == back.decode() and bool(places) == flag
+            return "holds" if is_right else shown(part="text", **how, text=text, malformed=places)
         made, is_unmappable = self.encoded(codec, [front.decode()])
-        is_right = (made, is_unmappable) == (back, flag)
-        return "holds" if is_right else shown(part="bytes", stage="whole", of=of, codec=codec, bytes=made)
+        return "holds" if (made, is_unmappable) == (back, flag) else shown(part="bytes", **how, bytes=made)
 
     def among(self, of, codec, *words):
         letter, middle, text = (bytes.fromhex(it.strip("-")) for it in words[:3])

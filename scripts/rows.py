@@ -129,8 +129,8 @@ def encoding_of(label):
 
 def result_of(word, named):
     """A result of a decoder, or of an encoder, which names the unmappable character."""
-    hexadecimal = r"Unmappable\([0-9A-F]{1,6}\)"
-    if word not in ("InputEmpty", "OutputFull") and not re.fullmatch(hexadecimal if named else r"Malformed\(\d+,\d+\)", word):
+    faults = r"Unmappable\([0-9A-F]{1,6}\)" if named else r"Malformed\([0-9]{1,3},[0-9]{1,3}\)"
+    if not re.fullmatch(f"InputEmpty|OutputFull|{faults}", word):
         raise Unreadable("no result has this name")
     return word
 
@@ -248,7 +248,8 @@ def units_call(words):
 
 
 def length(words):
-    return {"of": one_of(words.word(), ("utf8", "report", "utf16")), "n": words.number(), "length": words.number_or_none()}
+    of = one_of(words.word(), ("utf8", "report", "utf16"))
+    return {"of": of, "n": words.number(), "length": words.number_or_none()}
 
 
 def whole(words, src, text, fault):
@@ -287,8 +288,8 @@ def first_bytes(words):
 
 
 def encoding(words):
-    return {"encoding": words.name(), "output": words.name(), "flags": tuple(one_of(words.word(), FLAGS)
-                                                                             for _ in range(len(words.rest)))}
+    made = {"encoding": words.name(), "output": words.name()}
+    return made | {"flags": [one_of(words.word(), FLAGS) for _ in range(len(words.rest))]}
 
 
 def mark(words):
