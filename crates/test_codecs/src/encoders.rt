@@ -129,7 +129,7 @@ fn long_texts_of_every_encoding(rt: HostRuntime) -> Result<(), Fail> {
     let alloc = rt.alloc();
     let text = long_text(alloc)?;
     assert!(rt; text.len() == LONG);
-    for (encoding, _, _) in table() {
+    for encoding in table() {
         let bytes = compare_with_run(alloc, *encoding, &text)?;
         compare_by_characters(*encoding, &text, &bytes)?;
         compare_decoded(alloc, encoding.output_encoding(), &bytes)?;

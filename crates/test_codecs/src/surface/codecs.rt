@@ -97,14 +97,14 @@ pub(crate) fn decode_sample<D: RawDecoder>(
     sample: &Sample,
 ) -> Result<(), Fail> {
     decode_all(rt, start, b"", "")?;
-    let (bytes, text) = sample.decoded;
+    let (_, (bytes, text), _, _) = *sample;
     decode_all(rt, start, bytes, text)
 }
 
 #[test]
 fn each_codec_has_a_decoder(rt: HostRuntime) -> Result<(), Fail> {
     for sample in SAMPLES {
-        let (codec, _) = copies(sample.codec)?;
+        let (codec, _) = copies(sample.0)?;
         let decoder: VariantDecoder = codec.new_decoder();
         assert!(rt; variant_name(&decoder) == variant_of(codec));
         assert!(rt; codec.text_lengths().utf8(5, 0) == decoder.max_utf8_buffer_length(5));
@@ -130,7 +130,7 @@ fn compare_pointer(rt: &impl Abort, (list, pointer, want): Pointer) -> Result<()
 
 /// Compares the pointers of a sample.
 fn compare_pointers(rt: &impl Abort, sample: &Sample) -> Result<(), Fail> {
-    for pointer in sample.pointers {
+    for pointer in sample.3 {
         compare_pointer(rt, *pointer)?;
     }
     Ok(())

@@ -64,7 +64,7 @@ pub(crate) fn encode_sample<E: RawEncoder + Drop>(
     mut encoder: E,
     sample: &Sample,
 ) {
-    let (text, bytes) = sample.encoded;
+    let (_, _, (text, bytes), _) = *sample;
     let mut dst: [u8; 8] = [0; 8];
     let answer = encoder.encode(&mut Utf8Chars::new(text), &mut dst, true);
     let want = (EncoderResult::InputEmpty, text.len(), bytes.len());
@@ -74,7 +74,7 @@ pub(crate) fn encode_sample<E: RawEncoder + Drop>(
 
 /// The encoder of a codec is the variant of this name.
 fn compare_variant(rt: &impl Abort, sample: &Sample, name: &str) {
-    let codec: Codec = sample.codec;
+    let codec: Codec = sample.0;
     let is_there: bool = has_encoder(codec);
     assert!(rt; is_there);
     let encoder: VariantEncoder = new_encoder(codec, &[]);
@@ -85,9 +85,9 @@ fn compare_variant(rt: &impl Abort, sample: &Sample, name: &str) {
 #[test]
 fn each_codec_but_three_has_an_encoder(rt: HostRuntime) {
     for sample in SAMPLES {
-        match variant_of(sample.codec) {
+        match variant_of(sample.0) {
             Some(name) => compare_variant(&rt, sample, name),
-            None => assert!(rt; !has_encoder(sample.codec)),
+            None => assert!(rt; !has_encoder(sample.0)),
         }
     }
 }
