@@ -87,12 +87,13 @@ fn add_code(
 pub(crate) fn sums_of(encoding: Encoding) -> Result<(u64, u64), RowFault> {
     let mut sums = (OFFSET_BASIS, OFFSET_BASIS);
     for step in 0..STEPS {
-        let first = step * STEP;
+        let first = step.saturating_mul(STEP);
+        let after = first.saturating_add(STEP);
         sums = add_code(sums, encoding, first)?;
-        if !is_whole(encoding, first) && !is_whole(encoding, first + STEP) {
+        if !is_whole(encoding, first) && !is_whole(encoding, after) {
             continue;
         }
-        for code in first + 1..first + STEP {
+        for code in first.saturating_add(1)..after {
             if is_whole(encoding, code) {
                 sums = add_code(sums, encoding, code)?;
             }
