@@ -15,9 +15,15 @@ const MAPPABLE: u64 = 0x100;
 /// Added for an unmappable one.
 const UNMAPPABLE: u64 = 0x200;
 
-/// Whether the sums of an encoding have a character.
-fn is_tried(encoding: Encoding, code: u32) -> bool {
-    code < 0x1_0000 || code % 97 == 0 || (code >> 16 == 2 && encoding == BIG5)
+/// Of the planes that are not taken whole, each code point is that is a multiple of this.
+const STEP: u32 = 97;
+
+/// The number of code points, over `STEP`.
+const STEPS: u32 = 0x11_0000 / STEP + 1;
+
+/// Whether the sums of an encoding have each character of a code point's plane.
+fn is_whole(encoding: Encoding, code: u32) -> bool {
+    code < 0x1_0000 || (code >> 16 == 2 && encoding == BIG5)
 }
 
 /// Adds a number.
@@ -60,18 +66,38 @@ fn add_replaced(sum: u64, encoding: Encoding, text: &str) -> Result<u64, RowFaul
     }
 }
 
+/// Adds a character to both sums, if a code point is one.
+fn add_code(
+    (reported, replaced): (u64, u64),
+    encoding: Encoding,
+    code: u32,
+) -> Result<(u64, u64), RowFault> {
+    let Some(character) = char::from_u32(code) else {
+        return Ok((reported, replaced));
+    };
+    let mut local = [0; 4];
+    let text = character.encode_utf8(&mut local);
+    Ok((
+        add_reported(reported, encoding, text)?,
+        add_replaced(replaced, encoding, text)?,
+    ))
+}
+
 /// The sums of an encoding, without replacement and with it.
 pub(crate) fn sums_of(encoding: Encoding) -> Result<(u64, u64), RowFault> {
-    let (mut reported, mut replaced, mut local) = (OFFSET_BASIS, OFFSET_BASIS, [0; 4]);
-    for code in 0..0x11_0000 {
-        if !is_tried(encoding, code) {
+    let mut sums = (OFFSET_BASIS, OFFSET_BASIS);
+    for step in 0..STEPS {
+        let first = step.saturating_mul(STEP);
+        let after = first.saturating_add(STEP);
+        sums = add_code(sums, encoding, first)?;
+        if !is_whole(encoding, first) && !is_whole(encoding, after) {
             continue;
         }
-        if let Some(character) = char::from_u32(code) {
-            let text = character.encode_utf8(&mut local);
-            reported = add_reported(reported, encoding, text)?;
-            replaced = add_replaced(replaced, encoding, text)?;
+        for code in first.saturating_add(1)..after {
+            if is_whole(encoding, code) {
+                sums = add_code(sums, encoding, code)?;
+            }
         }
     }
-    Ok((reported, replaced))
+    Ok(sums)
 }

@@ -83,8 +83,11 @@ fn lists_have_no_ascii(rt: HostRuntime) {
     }
 }
 
-/// The length of the long text, in bytes of UTF-8.
-const LONG: usize = 2_000;
+/// The length of the text that is encoded at once, in bytes of UTF-8.
+const LONG: usize = 20_000;
+
+/// The length of the text that is encoded by single characters.
+const SHORT: usize = 2_000;
 
 /// Characters of many encodings.
 const CHARACTERS: &str =
@@ -93,12 +96,12 @@ const CHARACTERS: &str =
         \u{AC00}\u{D7A3} \u{4E02} \u{1F4A9} \u{20000} \u{A5}~\u{1B} \u{F780}\u{80}";
 
 /// The characters over and over, and a's at the end.
-fn long_text(alloc: Global) -> Result<String, AllocError> {
+fn long_text(alloc: Global, len: usize) -> Result<String, AllocError> {
     let mut text = String::new(alloc);
-    for _ in 0..LONG / CHARACTERS.len() {
+    for _ in 0..len / CHARACTERS.len() {
         text.push_str(CHARACTERS)?;
     }
-    for _ in text.len()..LONG {
+    for _ in text.len()..len {
         text.push('a')?;
     }
     Ok(text)
@@ -122,17 +125,18 @@ fn compare_decoded(alloc: Global, encoding: Encoding, bytes: &[u8]) -> Result<()
     )
 }
 
-/// Encodes a long text in every encoding: at once, by a run and by single characters; and decodes
-/// its bytes.
+/// Encodes long texts in every encoding, at once, by a run and by single characters, and decodes
+/// their bytes.
 #[test]
 fn long_texts_of_every_encoding(rt: HostRuntime) -> Result<(), Fail> {
     let alloc = rt.alloc();
-    let text = long_text(alloc)?;
-    assert!(rt; text.len() == LONG);
+    let (long, short) = (long_text(alloc, LONG)?, long_text(alloc, SHORT)?);
+    assert!(rt; (long.len(), short.len()) == (LONG, SHORT));
     for encoding in table() {
-        let bytes = compare_with_run(alloc, *encoding, &text)?;
-        compare_by_characters(*encoding, &text, &bytes)?;
+        let bytes = compare_with_run(alloc, *encoding, &long)?;
         compare_decoded(alloc, encoding.output_encoding(), &bytes)?;
+        let bytes = compare_with_run(alloc, *encoding, &short)?;
+        compare_by_characters(*encoding, &short, &bytes)?;
     }
     Ok(())
 }

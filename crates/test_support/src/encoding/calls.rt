@@ -142,11 +142,12 @@ fn call_to_front(
         return Err(Fail::new("a call has more room than its buffer"));
     };
     let (answer, written) = encode(encoder, replaces, (input, last), dst);
-    let (front, rest) = dst.split_at(written.min(room));
-    if written > room || rest.iter().any(|byte| *byte != UNTOUCHED) {
-        return Err(Fail::new("a call writes outside of its room"));
+    match dst.split_at_checked(written) {
+        Some((front, rest)) if rest.iter().all(|byte| *byte == UNTOUCHED) => {
+            bytes.extend_from_slice(front)?;
+        }
+        _ => return Err(Fail::new("a call writes outside of its room")),
     }
-    bytes.extend_from_slice(front)?;
     Ok(answer)
 }
 
