@@ -157,7 +157,7 @@ impl Decoding {
                 targets.push(Target {
                     decoder: new_decoder(*encoding, handling),
                     output,
-                    codec: is_off.then_some(*codec),
+                    codec: if is_off { Some(*codec) } else { None },
                 })?;
             }
         }
