@@ -12,8 +12,15 @@ use test_support::decoding::{Cut, Given, MOST_ROOM, Output, Use, call_into, new_
 /// The length of each input, in bytes.
 const LENGTH: usize = 40;
 
-/// The rooms of short calls into UTF-8. Into other outputs they have the first.
-const SHORT_ROOMS: [usize; 3] = [4, 5, 7];
+/// The outputs of short calls, each with the room of a call: with less than 16 code units, of which
+/// loops take as many at once, and with more.
+const SHORT_CALLS: [(Output, usize); 5] = [
+    (Output::Utf8, 5),
+    (Output::Utf16, 7),
+    (Output::Utf16, 18),
+    (Output::Str, 18),
+    (Output::String, 18),
+];
 
 /// U+FFFD, which stands for a malformed sequence.
 const REPLACEMENT_CHARACTER: &[u8] = b"\xEF\xBF\xBD";
@@ -174,12 +181,31 @@ fn steps_of(alloc: Global, place: &Place) -> Result<Vec<usize>, Fail> {
     Ok(steps)
 }
 
+/// The same after so many letters of this length, before which nothing is pending.
+fn steps_after(
+    alloc: Global,
+    (letters, len): (usize, usize),
+    steps: &[usize],
+) -> Result<Vec<usize>, AllocError> {
+    let mut all = Vec::new(alloc);
+    for letter in 0..letters {
+        for _ in 1..len {
+            all.push(letter)?;
+        }
+        all.push(letter.saturating_add(1))?;
+    }
+    for step in steps {
+        all.push(step.saturating_add(letters))?;
+    }
+    Ok(all)
+}
+
 /// What calls with the whole input have to do in this room. They write what fits of the text. If
 /// that is not all, they read the bytes before the one that shows what does not fit.
 fn wanted(place: &Place, steps: &[usize], room: usize) -> Filled {
     let len = place.text.len();
     let (mut read, mut written) = (0_usize, 0);
-    for step in steps {
+    for step in steps.iter().take(place.bytes.len()) {
         if *step <= room {
             read = read.saturating_add(1);
             written = *step;
@@ -203,20 +229,24 @@ fn wanted(place: &Place, steps: &[usize], room: usize) -> Filled {
     }
 }
 
-/// Compares calls with the whole input into one output, in each room, with single bytes.
-fn compare_rooms(alloc: Global, place: &Place) -> Result<(), Fail> {
-    let steps = steps_of(alloc, place)?;
-    for room in 0..place.text.len().saturating_add(2) {
-        let mut decoder = new_decoder(place.encoding, BomHandling::Off);
-        let mut text = Vec::new(alloc);
-        let (way, all) = ((place.reporting, room), (place.bytes.as_slice(), true));
-        let filled = fill(alloc, &mut decoder, way, all, &mut text)?;
-        if filled != wanted(place, &steps, room) {
-            return Err(Fail::new(format_args!("a run stops elsewhere in room {room}")));
-        }
-        if !place.text.starts_with(&text) {
-            return Err(Fail::new(format_args!("no prefix of the text in room {room}")));
-        }
+/// Whether calls are tried in this room: near the bytes, near the end, and near a multiple of 16.
+fn is_tried(place: &Place, room: usize) -> bool {
+    let after = room.saturating_add(1);
+    let is_near_bytes = place.before <= after && room <= place.before.saturating_add(4);
+    is_near_bytes || after % 16 < 3 || place.text.len() <= after.saturating_add(1)
+}
+
+/// Compares calls with the whole input into one output, in this room, with single bytes.
+fn compare_room(alloc: Global, place: &Place, steps: &[usize], room: usize) -> Result<(), Fail> {
+    let mut decoder = new_decoder(place.encoding, BomHandling::Off);
+    let mut text = Vec::new(alloc);
+    let (way, all) = ((place.reporting, room), (place.bytes.as_slice(), true));
+    let filled = fill(alloc, &mut decoder, way, all, &mut text)?;
+    if filled != wanted(place, steps, room) {
+        return Err(Fail::new(format_args!("a run stops elsewhere in room {room}")));
+    }
+    if !place.text.starts_with(&text) {
+        return Err(Fail::new(format_args!("no prefix of the text in room {room}")));
     }
     Ok(())
 }
@@ -246,13 +276,18 @@ fn compare_short_calls(
 }
 
 /// Compares the bytes of a row at one place.
-fn compare_place(alloc: Global, place: &Place, row: &Among) -> Result<(), Fail> {
-    compare_rooms(alloc, place)?;
-    for room in SHORT_ROOMS {
-        compare_short_calls(alloc, (place, row), (Output::Utf8, room))?;
+fn compare_place(
+    alloc: Global,
+    (place, row): (&Place, &Among),
+    steps: &[usize],
+) -> Result<(), Fail> {
+    for room in 0..place.text.len().saturating_add(2) {
+        if is_tried(place, room) {
+            compare_room(alloc, place, steps, room)?;
+        }
     }
-    for output in [Output::Utf16, Output::Str, Output::String] {
-        compare_short_calls(alloc, (place, row), (output, SHORT_ROOMS[0]))?;
+    for calls in SHORT_CALLS {
+        compare_short_calls(alloc, (place, row), calls)?;
     }
     Ok(())
 }
@@ -265,11 +300,14 @@ pub(crate) fn compare_among(
 ) -> Result<(), RowFault> {
     let rest = LENGTH.saturating_sub(row.bytes.len());
     let letters = rest.checked_div(row.letter.len()).unwrap_or(0);
-    for before in 0..letters.saturating_add(1) {
-        let counts = (before, letters.saturating_sub(before));
-        for reporting in [false, true] {
-            let place = place_of(alloc, (encoding, reporting), row, counts)?;
-            compare_place(alloc, &place, row)?;
+    for reporting in [false, true] {
+        let way = (encoding, reporting);
+        let first = steps_of(alloc, &place_of(alloc, way, row, (0, letters))?)?;
+        for before in 0..letters.saturating_add(1) {
+            let counts = (before, letters.saturating_sub(before));
+            let place = place_of(alloc, way, row, counts)?;
+            let steps = steps_after(alloc, (before, row.letter.len()), &first)?;
+            compare_place(alloc, (&place, row), &steps)?;
         }
     }
     Ok(())

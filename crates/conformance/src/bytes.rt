@@ -20,11 +20,12 @@ pub(crate) fn byte_row(alloc: Global, words: &mut Words<'_>) -> Result<ByteRow, 
     let text = words.text(alloc)?;
     words.end()?;
     let mut bytes = Vec::new(alloc);
-    for number in (0_u32..256).skip(first as usize).take(text.chars().count()) {
+    for number in 0..text.chars().count() {
+        let number = number.saturating_add(first as usize);
+        if number > 255 {
+            return Err(Unreadable::Number);
+        }
         bytes.push(number as u8)?;
-    }
-    if bytes.len() != text.chars().count() {
-        return Err(Unreadable::Number);
     }
     Ok(ByteRow { bytes, text })
 }

@@ -17,12 +17,13 @@ use test_support::decoding::{
     Given, Input, Others, Output, Use, compare_cuts_of, compare_input, make_call, new_decoder,
 };
 
-/// A decoder and its output, and the decoder of its codec, which makes the same calls.
+/// A decoder and its output. If it looks for no byte order mark, the decoder of its codec makes the
+/// same calls.
 #[derive(Drop)]
 pub struct Target {
     pub decoder: Decoder,
     output: Output,
-    codec: VariantDecoder,
+    codec: Option<VariantDecoder>,
 }
 
 /// An encoding of a head, with the decoder of its codec.
@@ -147,6 +148,7 @@ impl Decoding {
             return Err(Unreadable::Missing);
         };
         let reporting = choice(words.word()?, ("report", "replace"))?;
+        let is_off = handling == BomHandling::Off;
         let mut targets = Vec::new(alloc);
         for _ in 0..words.len() {
             if !words.has_more() {
@@ -157,7 +159,7 @@ impl Decoding {
                 targets.push(Target {
                     decoder: new_decoder(*encoding, handling),
                     output,
-                    codec: *codec,
+                    codec: if is_off { Some(*codec) } else { None },
                 })?;
             }
         }
@@ -235,8 +237,7 @@ impl Decoding {
         let text = words.text(alloc)?;
         let held = held_of(words)?;
         words.end()?;
-        let is_off = self.handling == BomHandling::Off;
-        if held.is_some() && !is_off {
+        if held.is_some() && self.handling != BomHandling::Off {
             return Err(Unreadable::Unknown("held bytes are those of marks `off`").into());
         }
         let given = Given {
@@ -249,9 +250,8 @@ impl Decoding {
         for target in &mut self.targets {
             let output = (target.output, given);
             make_call(alloc, &mut target.decoder, output, (want, text.as_str()))?;
-            if is_off {
-                let expected = (want, text.as_str());
-                call_beside(alloc, &mut target.codec, output, expected, held)?;
+            if let Some(codec) = &mut target.codec {
+                call_beside(alloc, codec, output, (want, text.as_str()), held)?;
             }
         }
         Ok(())
