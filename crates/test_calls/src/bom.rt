@@ -1,5 +1,6 @@
 //! Byte order marks (Encoding Standard 6) in every encoding: those that are looked for, found or
-//! not, and those that break off. conformance/byte-order-marks.txt has their rows by hand.
+//! not, and those that break off. conformance/byte-order-marks.txt and
+//! conformance/broken-marks.txt have rows by hand.
 
 use encoding_rs::run::{BomHandling, DecodeCall, DecodeReport, decode_run};
 use encoding_rs::{Encoding, UTF_8, UTF_16BE, UTF_16LE};

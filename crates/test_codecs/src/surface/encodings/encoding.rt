@@ -1,10 +1,7 @@
 //! `Encoding`: look-ups, properties, valid prefixes, and what it makes.
 
 use crate::surface::derives::{are_equal, copies, debug_text, hash_of};
-use encoding_rs::{
-    Decoder, Encoder, Encoding, ISO_2022_JP, REPLACEMENT, SHIFT_JIS, UTF_8, UTF_16BE, UTF_16LE,
-    WINDOWS_1252, X_USER_DEFINED, laws,
-};
+use encoding_rs::{Decoder, Encoder, Encoding, SHIFT_JIS, UTF_8, UTF_16BE, WINDOWS_1252, laws};
 use std::hash::{DefaultHasher, Hasher};
 use std::test::Fail;
 
@@ -44,47 +41,24 @@ fn laws_are_called_for_what_they_state() {
 fn an_encoding_is_found_by_label_or_byte_order_mark(rt: HostRuntime) {
     let found: Option<Encoding> = Encoding::for_label(b" \tSJIS\r\n");
     assert!(rt; found == Some(SHIFT_JIS));
-    assert!(rt; Encoding::for_label(b"bogus") == None);
     let found: Option<Encoding> = Encoding::for_label_no_replacement(b"latin1");
     assert!(rt; found == Some(WINDOWS_1252));
-    assert!(rt; Encoding::for_label(b"hz-gb-2312") == Some(REPLACEMENT));
-    assert!(rt; Encoding::for_label_no_replacement(b"hz-gb-2312") == None);
     let found: Option<(Encoding, usize)> = Encoding::for_bom(b"\xEF\xBB\xBFa");
     assert!(rt; found == Some((UTF_8, 3)));
-    assert!(rt; Encoding::for_bom(b"\xFE\xFF") == Some((UTF_16BE, 2)));
-    assert!(rt; Encoding::for_bom(b"\xFF\xFE") == Some((UTF_16LE, 2)));
-    assert!(rt; Encoding::for_bom(b"\xEF\xBB") == None);
 }
-
-/// An encoding, its name and output encoding, and whether it encodes everything, is
-/// ASCII-compatible, is divided by line feeds and is single-byte.
-type Properties = (Encoding, &'static str, Encoding, [bool; 4]);
-
-#[rattlefmt::skip]
-const PROPERTIES: &[Properties] = &[
-    (UTF_8, "UTF-8", UTF_8, [true, true, true, false]),
-    (UTF_16LE, "UTF-16LE", UTF_8, [true, false, false, false]),
-    (REPLACEMENT, "replacement", UTF_8, [true, false, false, false]),
-    (WINDOWS_1252, "windows-1252", WINDOWS_1252, [false, true, true, true]),
-    (X_USER_DEFINED, "x-user-defined", X_USER_DEFINED, [false, true, true, true]),
-    (SHIFT_JIS, "Shift_JIS", SHIFT_JIS, [false, true, true, false]),
-    (ISO_2022_JP, "ISO-2022-JP", ISO_2022_JP, [false, false, false, false]),
-];
 
 #[test]
 fn an_encoding_has_its_properties(rt: HostRuntime) {
-    for (encoding, want_name, want_output, want) in PROPERTIES {
-        let name: &'static str = encoding.name();
-        let output: Encoding = encoding.output_encoding();
-        assert!(rt; (name, output) == (*want_name, *want_output));
-        let properties: [bool; 4] = [
-            encoding.can_encode_everything(),
-            encoding.is_ascii_compatible(),
-            encoding.line_feeds_divide(),
-            encoding.is_single_byte(),
-        ];
-        assert!(rt; properties == *want, "{name}");
-    }
+    let name: &'static str = SHIFT_JIS.name();
+    let output: Encoding = SHIFT_JIS.output_encoding();
+    assert!(rt; (name, output) == ("Shift_JIS", SHIFT_JIS));
+    let properties: [bool; 4] = [
+        SHIFT_JIS.can_encode_everything(),
+        SHIFT_JIS.is_ascii_compatible(),
+        SHIFT_JIS.line_feeds_divide(),
+        SHIFT_JIS.is_single_byte(),
+    ];
+    assert!(rt; properties == [false, true, true, false]);
 }
 
 #[test]
