@@ -1,7 +1,5 @@
 //! Helpers of the tests of readers and writers: devices over memory that are driven by lists of
-//! steps, each call by the next one, and the texts of values and errors.
-//!
-//! It is a library, so that it is proved once. A library may not abort: a helper returns a `Fail`.
+//! steps, each call by the next one, and the texts of values and errors. A helper returns a `Fail`.
 #![tactic(auto)]
 
 use std::alloc::Global;

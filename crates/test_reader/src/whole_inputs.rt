@@ -57,22 +57,15 @@ const INPUTS: &[&[u8]] = &[
 ];
 
 /// Reads an input by each call, a few bytes of the source at a time, through short buffers.
-fn compare_ways(
-    rt: &impl Abort,
-    alloc: Global,
-    encoding: Encoding,
-    bytes: &[u8],
-) -> Result<(), Fail> {
+fn compare_ways(rt: &impl Abort, alloc: Global, input: (Encoding, &[u8])) -> Result<(), Fail> {
+    let (encoding, bytes) = input;
     let (text, by, had_errors) = encoding.decode(alloc, bytes)?;
     for (step, len, room) in WAYS {
         for call in CALLS {
             let (steps, most) = ([step], text.len().saturating_add(1));
-            let read = read_by(alloc, call, (encoding, bytes), (&steps, (len, room)), most)?;
-            assert!(rt;
-                read.text.as_slice() == text.as_bytes() && !read.failed,
-                "{bytes:?}"
-            );
-            assert!(rt; read.state == (by, had_errors), "{bytes:?}");
+            let read = read_by(alloc, call, input, (&steps, (len, room)), most)?;
+            assert!(rt; read.text.as_slice() == text.as_bytes(), "{bytes:?}");
+            assert!(rt; read.state == (by, had_errors) && !read.failed, "{bytes:?}");
         }
     }
     Ok(())
@@ -90,7 +83,7 @@ fn reads_the_text_of_the_whole_input(rt: HostRuntime) -> Result<(), Fail> {
             INPUTS
         };
         for bytes in inputs {
-            compare_ways(&rt, rt.alloc(), encoding, *bytes)?;
+            compare_ways(&rt, rt.alloc(), (encoding, *bytes))?;
         }
     }
     Ok(())
@@ -116,12 +109,10 @@ fn reads_the_text_in_front_of_a_fault(rt: HostRuntime) -> Result<(), Fail> {
             for call in CALLS {
                 let way = (steps.as_slice(), (2, 4));
                 let read = read_by(rt.alloc(), call, (*encoding, *bytes), way, 100)?;
+                let had_errors = text.contains('\u{FFFD}');
+                assert!(rt; read.text.as_slice() == text.as_bytes(), "{bytes:?}");
                 assert!(rt;
-                    read.failed && read.text.as_slice() == text.as_bytes(),
-                    "{bytes:?}"
-                );
-                assert!(rt;
-                    read.state == (*encoding, text.contains('\u{FFFD}')),
+                    read.state == (*encoding, had_errors) && read.failed,
                     "{bytes:?}"
                 );
             }
@@ -156,7 +147,7 @@ fn reports_each_malformed_sequence(rt: HostRuntime) -> Result<(), Fail> {
             let read = read_by(rt.alloc(), Call::Report, (*encoding, *bytes), way, 100)?;
             assert!(rt; read.malformed.as_slice() == *malformed, "{bytes:?}");
         }
-        compare_ways(&rt, rt.alloc(), *encoding, *bytes)?;
+        compare_ways(&rt, rt.alloc(), (*encoding, *bytes))?;
     }
     Ok(())
 }

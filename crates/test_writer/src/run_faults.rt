@@ -55,15 +55,13 @@ const FAULTS: &[(
 fn reports_faults(rt: HostRuntime) {
     for (encodings, input, steps, (reader_fails, want, calls)) in FAULTS {
         let ran = run_by(&rt, rt.alloc(), *encodings, *input, *steps);
-        assert!(rt; ran.outcome.is_err(), "{input:?}");
+        let is_read = ran.outcome == Err(RecodeFault::Read);
         assert!(rt;
-            (ran.outcome == Err(RecodeFault::Read)) == *reader_fails,
+            ran.outcome.is_err() && is_read == *reader_fails,
             "{input:?}"
         );
-        assert!(rt;
-            ran.written.as_slice() == *want && ran.calls == *calls,
-            "{input:?}"
-        );
+        assert!(rt; ran.written.as_slice() == *want, "{input:?}");
+        assert!(rt; ran.calls == *calls, "{input:?}");
     }
 }
 
@@ -99,11 +97,12 @@ const READS: usize = 4;
 fn compare_stopped(rt: &impl Abort, ran: &Ran, is_read: bool, nth: usize, row: &CutRow) {
     let (_, input, _, _, want) = row;
     let calls = if is_read { ran.calls.0 } else { ran.calls.1 };
-    assert!(rt; calls == nth && ran.outcome.is_err(), "{input:?}");
+    let reader_failed = ran.outcome == Err(RecodeFault::Read);
     assert!(rt;
-        (ran.outcome == Err(RecodeFault::Read)) == is_read,
+        ran.outcome.is_err() && reader_failed == is_read,
         "{input:?}"
     );
+    assert!(rt; calls == nth, "{input:?}");
     assert!(rt; want.starts_with(ran.written.as_slice()), "{input:?}");
 }
 
@@ -154,11 +153,11 @@ fn reports_each_fault_of_three_chunks(rt: HostRuntime) -> Result<(), Fail> {
         for write in [ALL_BYTES, BYTE, Step::Move(2)] {
             let writes = [write];
             let ran = run_by(&rt, rt.alloc(), *encodings, *input, (*cuts, &writes));
+            assert!(rt; ran.outcome == Ok(*replaced), "{input:?}");
             assert!(rt;
-                ran.outcome == Ok(*replaced) && ran.calls.0 == READS,
+                ran.calls.0 == READS && &ran.written[..] == *want,
                 "{input:?}"
             );
-            assert!(rt; ran.written.as_slice() == *want, "{input:?}");
             compare_write_faults(&rt, rt.alloc(), row, (*cuts, &writes), ran.calls.1)?;
             compare_read_faults(&rt, rt.alloc(), row, &writes)?;
         }
