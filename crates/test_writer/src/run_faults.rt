@@ -97,11 +97,8 @@ const READS: usize = 4;
 fn compare_stopped(rt: &impl Abort, ran: &Ran, is_read: bool, nth: usize, row: &CutRow) {
     let (_, input, _, _, want) = row;
     let calls = if is_read { ran.calls.0 } else { ran.calls.1 };
-    let reader_failed = ran.outcome == Err(RecodeFault::Read);
-    assert!(rt;
-        ran.outcome.is_err() && reader_failed == is_read,
-        "{input:?}"
-    );
+    let is_reader = ran.outcome == Err(RecodeFault::Read);
+    assert!(rt; ran.outcome.is_err() && is_reader == is_read, "{input:?}");
     assert!(rt; calls == nth, "{input:?}");
     assert!(rt; want.starts_with(ran.written.as_slice()), "{input:?}");
 }
@@ -154,10 +151,8 @@ fn reports_each_fault_of_three_chunks(rt: HostRuntime) -> Result<(), Fail> {
             let writes = [write];
             let ran = run_by(&rt, rt.alloc(), *encodings, *input, (*cuts, &writes));
             assert!(rt; ran.outcome == Ok(*replaced), "{input:?}");
-            assert!(rt;
-                ran.calls.0 == READS && &ran.written[..] == *want,
-                "{input:?}"
-            );
+            assert!(rt; ran.calls.0 == READS, "{input:?}");
+            assert!(rt; ran.written.as_slice() == *want, "{input:?}");
             compare_write_faults(&rt, rt.alloc(), row, (*cuts, &writes), ran.calls.1)?;
             compare_read_faults(&rt, rt.alloc(), row, &writes)?;
         }
