@@ -1,6 +1,6 @@
 //! Inputs that are read to their end, or up to a fault, by each call that reads text.
 
-use enc_reader::{DecodeReader, DecodedText, FromRead, ReadStop, Source};
+use enc_reader::{DecodeReader, DecodedText, FromRead, LineFault, ReadFault, ReadStop, Source};
 use enc_stream::Encoding;
 use std::alloc::Global;
 use std::io::{BufRead, Read};
@@ -19,14 +19,9 @@ pub(crate) enum Call {
 }
 
 /// All of them.
-pub(crate) const CALLS: [Call; 6] = [
-    Call::ReadStr,
-    Call::Report,
-    Call::Lend,
-    Call::Read,
-    Call::FillBuf,
-    Call::Line,
-];
+#[rattlefmt::skip]
+pub(crate) const CALLS: [Call; 6] =
+    [Call::ReadStr, Call::Report, Call::Lend, Call::Read, Call::FillBuf, Call::Line];
 
 /// The outcome of reads.
 #[derive(Drop)]
@@ -37,13 +32,24 @@ pub(crate) struct Gathered {
     pub(crate) malformed: Vec<(u64, u8)>,
     /// The encoding after the last read, and whether there were errors then.
     pub(crate) state: (Encoding, bool),
-    /// Whether the last read failed.
+    /// Whether the source failed in the last read.
     pub(crate) failed: bool,
     /// The number of calls of the device.
     pub(crate) calls: usize,
 }
 
 impl Gathered {
+    /// The outcome before the first read.
+    fn new(alloc: Global, encoding: Encoding) -> Gathered {
+        Gathered {
+            text: Vec::new(alloc),
+            malformed: Vec::new(alloc),
+            state: (encoding, false),
+            failed: false,
+            calls: 0,
+        }
+    }
+
     /// Adds a piece of text, and returns whether it has any.
     fn add(&mut self, piece: &[u8]) -> Result<bool, Fail> {
         self.text.extend_from_slice(piece)?;
@@ -61,9 +67,9 @@ impl Gathered {
         Ok(())
     }
 
-    /// Notes that a read failed. No other follows.
-    fn fail(&mut self) -> Result<bool, Fail> {
-        self.failed = true;
+    /// Notes that the source failed in a read. No other follows.
+    fn fail(&mut self, fault: ReadFault) -> Result<bool, Fail> {
+        self.failed = fault == ReadFault::Reader;
         Ok(false)
     }
 }
@@ -81,7 +87,7 @@ fn read_once<R: Source>(
     match call {
         Call::ReadStr => match reader.read_str(part) {
             Ok(n) => gathered.add(&part[..n]),
-            Err(_) => gathered.fail(),
+            Err(fault) => gathered.fail(fault),
         },
         Call::Report => match reader.read_str_without_replacement(part) {
             Ok(ReadStop::Text(n)) => gathered.add(&part[..n]),
@@ -96,11 +102,11 @@ fn read_once<R: Source>(
                 gathered.text.extend_from_slice(&part[..written])?;
                 gathered.add("\u{FFFD}".as_bytes())
             }
-            Err(_) => gathered.fail(),
+            Err(fault) => gathered.fail(fault),
         },
         _ => match reader.read_or_lend(part) {
             Ok(handed) => gathered.add(reader.text(part, handed)),
-            Err(_) => gathered.fail(),
+            Err(fault) => gathered.fail(fault),
         },
     }
 }
@@ -116,7 +122,7 @@ fn take_once<R: Source>(
         Call::Read => {
             let mut part = [0; 100];
             let Ok(n) = held.read(&mut part) else {
-                return gathered.fail();
+                return gathered.fail(ReadFault::Reader);
             };
             let Some(piece) = part.get(..n) else {
                 return Err("more than there is room for".into());
@@ -125,7 +131,7 @@ fn take_once<R: Source>(
         }
         Call::FillBuf => {
             let Ok(piece) = held.fill_buf() else {
-                return gathered.fail();
+                return gathered.fail(ReadFault::Reader);
             };
             let len = piece.len();
             gathered.text.extend_from_slice(piece)?;
@@ -138,79 +144,76 @@ fn take_once<R: Source>(
             gathered.add_line(line.as_bytes())?;
             match outcome {
                 Ok(n) if n == line.len() => Ok(n > 0),
-                Ok(_) => Err("another length of a line".into()),
-                Err(_) => gathered.fail(),
+                Err(LineFault::Read(fault)) => gathered.fail(fault),
+                _ => Err("another outcome of a line".into()),
             }
         }
     }
 }
 
-/// An input, and how it is read.
-#[derive(Clone, Copy)]
-pub(crate) struct Reading<'a> {
-    pub(crate) encoding: Encoding,
-    pub(crate) bytes: &'a [u8],
-    /// The steps of the device.
-    pub(crate) steps: &'a [Step],
-    /// The length of the buffer to read into, from 1 to 16384, and of the one for text, from 4 to
-    /// 8192.
-    pub(crate) lens: (usize, usize),
+/// A device's steps, the length of the buffer to read into, from 1 to 16384, and of the one for
+/// text, from 4 to 8192.
+pub(crate) type Way<'a> = (&'a [Step], (usize, usize));
+
+/// Reads by a call of a reader.
+fn read(
+    alloc: Global,
+    call: Call,
+    (encoding, bytes): (Encoding, &[u8]),
+    (steps, (len, room)): Way<'_>,
+    most: usize,
+) -> Result<Gathered, Fail> {
+    let mut gathered = Gathered::new(alloc, encoding);
+    let mut source = FromRead::new(StepReader::new(bytes, steps));
+    let (mut input, mut part) = ([0; 16384], [0; 8192]);
+    let (len, room) = (len.max(1).min(16384), room.max(4).min(8192));
+    let mut reader = DecodeReader::new(&mut source, Some(encoding), &mut input[..len]);
+    for _ in 0..most {
+        let goes_on = read_once(call, &mut reader, &mut part[..room], &mut gathered)?;
+        if !goes_on || gathered.text.len() >= most {
+            break;
+        }
+    }
+    gathered.state = (reader.encoding(), reader.had_errors());
+    gathered.calls = source.into_inner().calls;
+    Ok(gathered)
 }
 
-impl<'a> Reading<'a> {
-    /// The outcome before the first read.
-    fn none_read(self, alloc: Global) -> Gathered {
-        Gathered {
-            text: Vec::new(alloc),
-            malformed: Vec::new(alloc),
-            state: (self.encoding, false),
-            failed: false,
-            calls: 0,
+/// Reads by a call of a `DecodedText`.
+fn take(
+    alloc: Global,
+    call: Call,
+    (encoding, bytes): (Encoding, &[u8]),
+    (steps, (len, room)): Way<'_>,
+    most: usize,
+) -> Result<Gathered, Fail> {
+    let mut gathered = Gathered::new(alloc, encoding);
+    let mut source = FromRead::new(StepReader::new(bytes, steps));
+    let (mut input, mut text) = ([0; 16384], [0; 8192]);
+    let (len, room) = (len.max(1).min(16384), room.max(4).min(8192));
+    let reader = DecodeReader::new(&mut source, Some(encoding), &mut input[..len]);
+    let mut held = DecodedText::new(reader, &mut text[..room]);
+    for _ in 0..most {
+        let goes_on = take_once(alloc, call, &mut held, &mut gathered)?;
+        if !goes_on || gathered.text.len() >= most {
+            break;
         }
     }
+    gathered.state = (held.reader().encoding(), held.reader().had_errors());
+    gathered.calls = source.into_inner().calls;
+    Ok(gathered)
+}
 
-    /// Reads by a call of a reader.
-    fn read(self, alloc: Global, call: Call, most: usize) -> Result<Gathered, Fail> {
-        let mut gathered = self.none_read(alloc);
-        let mut source = FromRead::new(StepReader::new(self.bytes, self.steps));
-        let (mut input, mut part) = ([0; 16384], [0; 8192]);
-        let (len, room) = (self.lens.0.clamp(1, 16384), self.lens.1.clamp(4, 8192));
-        let mut reader = DecodeReader::new(&mut source, Some(self.encoding), &mut input[..len]);
-        for _ in 0..most {
-            let goes_on = read_once(call, &mut reader, &mut part[..room], &mut gathered)?;
-            if !goes_on || gathered.text.len() >= most {
-                break;
-            }
-        }
-        gathered.state = (reader.encoding(), reader.had_errors());
-        gathered.calls = source.into_inner().calls;
-        Ok(gathered)
-    }
-
-    /// Reads by a call of a `DecodedText`.
-    fn take(self, alloc: Global, call: Call, most: usize) -> Result<Gathered, Fail> {
-        let mut gathered = self.none_read(alloc);
-        let mut source = FromRead::new(StepReader::new(self.bytes, self.steps));
-        let (mut input, mut text) = ([0; 16384], [0; 8192]);
-        let (len, room) = (self.lens.0.clamp(1, 16384), self.lens.1.clamp(4, 8192));
-        let reader = DecodeReader::new(&mut source, Some(self.encoding), &mut input[..len]);
-        let mut held = DecodedText::new(reader, &mut text[..room]);
-        for _ in 0..most {
-            let goes_on = take_once(alloc, call, &mut held, &mut gathered)?;
-            if !goes_on || gathered.text.len() >= most {
-                break;
-            }
-        }
-        gathered.state = (held.reader().encoding(), held.reader().had_errors());
-        gathered.calls = source.into_inner().calls;
-        Ok(gathered)
-    }
-
-    /// Reads by a call until `most` bytes of text are there, or to the end or a fault.
-    pub(crate) fn by(self, alloc: Global, call: Call, most: usize) -> Result<Gathered, Fail> {
-        match call {
-            Call::ReadStr | Call::Report | Call::Lend => self.read(alloc, call, most),
-            Call::Read | Call::FillBuf | Call::Line => self.take(alloc, call, most),
-        }
+/// Reads by a call until `most` bytes of text are there, or to the end or a fault.
+pub(crate) fn read_by(
+    alloc: Global,
+    call: Call,
+    input: (Encoding, &[u8]),
+    way: Way<'_>,
+    most: usize,
+) -> Result<Gathered, Fail> {
+    match call {
+        Call::ReadStr | Call::Report | Call::Lend => read(alloc, call, input, way, most),
+        Call::Read | Call::FillBuf | Call::Line => take(alloc, call, input, way, most),
     }
 }

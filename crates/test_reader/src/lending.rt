@@ -1,6 +1,6 @@
 //! Reads that lend long stretches of text in place of copying them.
 
-use crate::gathering::{Call, Reading};
+use crate::gathering::{Call, Way, read_by};
 use enc_reader::{DecodeReader, FromRead};
 use enc_stream::Encoding;
 use enc_stream::constants::{UTF_8, WINDOWS_1252};
@@ -14,10 +14,8 @@ type Parts = (&'static [u8], &'static str, usize, &'static [u8]);
 
 /// An input, the steps by which it comes, and the pieces in which its text is read: the length of
 /// each, and whether it is lent.
-type Row = (Encoding, Parts, &'static [Step], &'static [(usize, bool)]);
-
 #[rattlefmt::skip]
-const ROWS: &[Row] = &[
+const ROWS: &[(Encoding, Parts, &[Step], &[(usize, bool)])] = &[
     // while a byte order mark may come, nothing is lent
     (WINDOWS_1252, (b"caf\xE9 ", "abcdefghij", 900, b"\x80"), &[ALL_BYTES],
         &[(4096, false), (4910, true), (3, false)]),
@@ -98,15 +96,10 @@ fn lends_long_text_where_it_was_read(rt: HostRuntime) -> Result<(), Fail> {
 /// Bytes between two long stretches of ASCII: characters of several encodings, an escape sequence
 /// that ISO-2022-JP stays within, lead bytes that the stretch follows, and a byte order mark that
 /// is none there.
+#[rattlefmt::skip]
 const BETWEEN: &[&[u8]] = &[
-    b"",
-    b"caf\xE9",
-    b"\xE6\x97\xA5\xF0\x9F\x92\xA9",
-    b"\x93\xFA\x96",
-    b"\x1B$B",
-    b"\x81\x30\x81",
-    b"\xEF\xBB\xBF",
-    b"\x3D\xD8\xA9",
+    b"", b"caf\xE9", b"\xE6\x97\xA5\xF0\x9F\x92\xA9", b"\x93\xFA\x96", b"\x1B$B", b"\x81\x30\x81",
+    b"\xEF\xBB\xBF", b"\x3D\xD8\xA9",
 ];
 
 #[test]
@@ -124,13 +117,8 @@ fn lends_the_text_of_the_whole_input(rt: HostRuntime) -> Result<(), Fail> {
             bytes.extend_from_slice(*between)?;
             bytes.extend_from_slice(&letters)?;
             let (text, by, had_errors) = encoding.decode(rt.alloc(), &bytes)?;
-            let reading = Reading {
-                encoding,
-                bytes: &bytes,
-                steps: &[ALL_BYTES],
-                lens: (5000, 64),
-            };
-            let read = reading.by(rt.alloc(), Call::Lend, 100_000)?;
+            let way: Way = (&[ALL_BYTES], (5000, 64));
+            let read = read_by(rt.alloc(), Call::Lend, (encoding, &bytes), way, 100_000)?;
             assert!(rt; read.text.as_slice() == text.as_bytes(), "{between:?}");
             assert!(rt; read.state == (by, had_errors), "{between:?}");
         }

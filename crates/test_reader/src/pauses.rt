@@ -3,7 +3,7 @@
 //!
 //! Which starts of a sequence are incomplete is by table 3-7 of the Unicode Standard.
 
-use crate::gathering::{CALLS, Call, Reading};
+use crate::gathering::{CALLS, Call, read_by};
 use enc_reader::{DecodeReader, FromRead, ReadStop};
 use enc_stream::constants::UTF_8;
 use std::alloc::Global;
@@ -64,14 +64,8 @@ fn compare_row(
         want.extend_from_slice(end.as_bytes())?;
     }
     let steps = [Step::Move(LETTERS), Step::Move(LETTERS + 4), last];
-    let reading = Reading {
-        encoding: UTF_8,
-        bytes: &bytes,
-        steps: &steps,
-        lens: (16384, 8192),
-    };
     let most = if enough { want.len() } else { 3 * LETTERS };
-    let read = reading.by(alloc, call, most)?;
+    let read = read_by(alloc, call, (UTF_8, &bytes), (&steps, (16384, 8192)), most)?;
     assert!(rt; read.text.as_slice() == want.as_slice(), "{tail:?}");
     Ok(read.calls)
 }
@@ -84,25 +78,8 @@ fn determined_text_comes_before_the_next_read(rt: HostRuntime) -> Result<(), Fai
             // a line may have more of its text to come
             let most = if let Call::Line = call { 3 } else { 2 };
             assert!(rt; calls <= most, "{:?}", row.0);
-        }
-    }
-    Ok(())
-}
-
-#[test]
-fn determined_text_comes_before_a_fault(rt: HostRuntime) -> Result<(), Fail> {
-    for row in ROWS {
-        for call in CALLS {
-            assert!(rt; compare_row(&rt, rt.alloc(), row, (FAULT, false), call)? == 3);
-        }
-    }
-    Ok(())
-}
-
-#[test]
-fn all_text_comes_before_the_end(rt: HostRuntime) -> Result<(), Fail> {
-    for row in ROWS {
-        for call in CALLS {
+            let calls = compare_row(&rt, rt.alloc(), row, (FAULT, false), call)?;
+            assert!(rt; calls == 3, "{:?}", row.0);
             compare_row(&rt, rt.alloc(), row, (BYTE, false), call)?;
         }
     }

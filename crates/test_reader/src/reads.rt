@@ -59,6 +59,9 @@ fn reports_a_fault_once(rt: HostRuntime) {
     compare_read(&rt, &mut reader, "\u{FFFD}");
     assert!(rt; reader.read_str(&mut [0; 4]) == Err(ReadFault::Reader));
     assert!(rt; reader.read_str(&mut [0; 4]) == Err(ReadFault::Failed));
+    let mut dst = [b'.'; 4];
+    assert!(rt; reader.read_str_without_replacement(&mut dst) == Err(ReadFault::Failed));
+    assert!(rt; reader.read_or_lend(&mut dst).is_err() && dst == [b'.'; 4]);
     assert!(rt; (reader.encoding(), reader.had_errors()) == (UTF_8, true));
     assert!(rt; source.failed());
     // no read is tried again
@@ -112,22 +115,6 @@ fn reports_text_and_what_follows_it(rt: HostRuntime) {
     for _ in 0..2 {
         assert!(rt; reader.read_str_without_replacement(&mut dst) == Ok(ReadStop::Text(0)));
     }
-}
-
-#[test]
-fn reports_no_sequence_that_a_fault_cuts(rt: HostRuntime) {
-    let steps = [BYTE, BYTE, BYTE, FAULT, BYTE];
-    let mut source = FromRead::new(StepReader::new(b"a\xFF\xE2\x82\xAC", &steps));
-    let mut input = [0; 8];
-    let mut reader = DecodeReader::new(&mut source, None, &mut input);
-    let mut dst = [b'.'; 4];
-    assert!(rt; reader.read_str_without_replacement(&mut dst) == Ok(ReadStop::Text(1)));
-    assert!(rt; reader.read_str_without_replacement(&mut dst) == malformed(0, 1, 1));
-    assert!(rt; reader.read_str_without_replacement(&mut dst) == Err(ReadFault::Reader));
-    assert!(rt; reader.read_str_without_replacement(&mut dst) == Err(ReadFault::Failed));
-    assert!(rt; dst.as_slice() == b"a...".as_slice());
-    assert!(rt; reader.had_errors() && source.failed());
-    assert!(rt; source.into_inner().calls == 4);
 }
 
 #[test]

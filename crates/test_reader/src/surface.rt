@@ -1,69 +1,62 @@
 //! The items of `enc_reader`, each named by its path: a path that is gone, or a signature that is
-//! another, fails the build. And the texts of its values and faults.
+//! another, fails the build (those of a `DecodedText` are in `lines`). And the texts of its values
+//! and faults.
 
-use enc_reader::{
-    DecodeReader, DecodedText, FromRead, HandedText, LineFault, ReadFault, ReadStop, Source,
-};
-use enc_stream::constants::{UTF_8, WINDOWS_1252};
+use enc_reader::{DecodeReader, FromRead, HandedText, LineFault, ReadFault, ReadStop, Source};
+use enc_stream::constants::UTF_8;
 use enc_stream::{BomHandling, Encoding};
-use std::error::Error;
 use std::io;
-use std::io::{BufRead, ErrorKind, Read};
+use std::io::ErrorKind;
 use std::test::Fail;
-use test_devices::{are_equal, copies, debug_text, text_of};
-
-/// An error is one.
-fn is_error<E: Error>(_error: &E) -> bool {
-    true
-}
+use test_devices::{copied_text, debug_text, fault_text, text_of};
 
 #[test]
 fn faults_are_compared_and_printed(rt: HostRuntime) -> Result<(), Fail> {
-    assert!(rt; are_equal(&ReadFault::Reader, &ReadFault::Reader));
-    assert!(rt; !are_equal(&ReadFault::Reader, &ReadFault::Failed));
     assert!(rt; (ReadFault::Reader as u8, ReadFault::Failed as u8) == (1, 2));
-    let text = debug_text(rt.alloc(), &ReadFault::Failed)?;
-    assert!(rt; text.as_str() == "Failed" && is_error(&ReadFault::Failed));
+    let faults = (&ReadFault::Failed, &ReadFault::Reader);
+    let text = fault_text(rt.alloc(), faults, "Failed")?;
+    assert!(rt; text.as_str() == "the reader of the text has failed before");
     let error: io::Error = io::Error::from(ReadFault::Failed);
     assert!(rt; error.kind() == ErrorKind::Other);
     let text = text_of(rt.alloc(), &error)?;
     assert!(rt; text.as_str() == "the reader of the text has failed before");
-    Ok(())
-}
-
-#[test]
-fn faults_of_a_line_become_errors(rt: HostRuntime) -> Result<(), Fail> {
-    let failed = "the reader of the text has failed before";
-    let cut = "a part of a character is taken";
     let rows = [
-        (LineFault::from(ReadFault::Failed), ErrorKind::Other, failed),
         (
-            LineFault::Read(ReadFault::Reader),
+            LineFault::from(ReadFault::Reader),
+            "Read(Reader)",
             ErrorKind::Other,
-            "the source of the text failed",
         ),
-        (LineFault::Memory, ErrorKind::OutOfMemory, "out of memory"),
-        (LineFault::MidCharacter, ErrorKind::InvalidData, cut),
+        (LineFault::Memory, "Memory", ErrorKind::OutOfMemory),
+        (
+            LineFault::MidCharacter,
+            "MidCharacter",
+            ErrorKind::InvalidData,
+        ),
     ];
-    for (fault, kind, want) in rows {
-        assert!(rt; are_equal(&fault, &fault) && is_error(&fault));
-        let text = text_of(rt.alloc(), &fault)?;
-        assert!(rt; text.as_str() == want);
-        assert!(rt; io::Error::from(fault).kind() == kind);
+    let texts = [
+        "the source of the text failed",
+        "out of memory",
+        "a part of a character is taken",
+    ];
+    for ((fault, name, kind), want) in rows.into_iter().zip(texts) {
+        let other = LineFault::Read(ReadFault::Failed);
+        let text = fault_text(rt.alloc(), (&fault, &other), name)?;
+        assert!(rt; text.as_str() == want && io::Error::from(fault).kind() == kind);
     }
     Ok(())
 }
 
+/// A stop at a malformed sequence.
+const STOP: ReadStop = ReadStop::Malformed {
+    written: 3,
+    offset: 3,
+    len: 1,
+};
+
 #[test]
 fn values_are_printed(rt: HostRuntime) -> Result<(), Fail> {
-    let (a, b) = copies(ReadStop::Malformed {
-        written: 1,
-        offset: 2,
-        len: 3,
-    })?;
-    assert!(rt; are_equal(&a, &b) && !are_equal(&a, &ReadStop::Text(1)));
-    let text = debug_text(rt.alloc(), &a)?;
-    assert!(rt; text.as_str() == "Malformed { written: 1, offset: 2, len: 3 }");
+    let text = copied_text(rt.alloc(), STOP, ReadStop::Text(3))?;
+    assert!(rt; text.as_str() == "Malformed { written: 3, offset: 3, len: 1 }");
     let mut source = FromRead::new(b"a".as_slice());
     let text = debug_text(rt.alloc(), &source)?;
     assert!(rt; text.as_str() == "FromRead { failed: false, error: None, .. }");
@@ -92,12 +85,7 @@ fn a_source_gives_bytes_and_a_reader_text(rt: HostRuntime) -> Result<(), Fail> {
     assert!(rt; (encoding, had_errors) == (UTF_8, false));
     let mut dst: [u8; 4] = [0; 4];
     let stop: Result<ReadStop, ReadFault> = reader.read_str_without_replacement(&mut dst);
-    let want = ReadStop::Malformed {
-        written: 3,
-        offset: 3,
-        len: 1,
-    };
-    assert!(rt; stop == Ok(want));
+    assert!(rt; stop == Ok(STOP));
     let answer: Result<usize, ReadFault> = reader.read_str(&mut dst);
     assert!(rt; answer == Ok(0));
     let answer: Result<HandedText, ReadFault> = reader.read_or_lend(&mut dst);
@@ -111,22 +99,5 @@ fn a_source_gives_bytes_and_a_reader_text(rt: HostRuntime) -> Result<(), Fail> {
     let error: Option<io::Error> = source.take_error();
     let rest: &[u8] = source.into_inner();
     assert!(rt; error.is_none() && rest.is_empty());
-    Ok(())
-}
-
-#[test]
-fn a_text_gives_lines_and_bytes(rt: HostRuntime) -> Result<(), Fail> {
-    let mut source = FromRead::new(b"a\nb".as_slice());
-    let mut input: [u8; 8] = [0; 8];
-    let reader = DecodeReader::new(&mut source, Some(WINDOWS_1252), &mut input);
-    let mut room: [u8; 4] = [0; 4];
-    let mut text: DecodedText<'_, FromRead<&[u8]>> = DecodedText::new(reader, &mut room);
-    let mut line = String::new(rt.alloc());
-    let answer: Result<usize, LineFault> = text.read_line(&mut line);
-    assert!(rt; answer == Ok(2) && line.as_str() == "a\n");
-    assert!(rt; text.fill_buf()? == b"b".as_slice());
-    text.consume(0);
-    assert!(rt; text.read(&mut [0; 2])? == 1);
-    assert!(rt; text.reader().encoding() == WINDOWS_1252);
     Ok(())
 }

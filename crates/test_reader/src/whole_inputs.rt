@@ -1,6 +1,6 @@
 //! Inputs of every kind in every encoding, read by each call: the text is that of `decode`.
 
-use crate::gathering::{CALLS, Call, Reading};
+use crate::gathering::{CALLS, Call, Way, read_by};
 use enc_stream::Encoding;
 use enc_stream::constants::*;
 use std::alloc::Global;
@@ -57,28 +57,15 @@ const INPUTS: &[&[u8]] = &[
 ];
 
 /// Reads an input by each call, a few bytes of the source at a time, through short buffers.
-fn compare_ways(
-    rt: &impl Abort,
-    alloc: Global,
-    encoding: Encoding,
-    bytes: &[u8],
-) -> Result<(), Fail> {
+fn compare_ways(rt: &impl Abort, alloc: Global, input: (Encoding, &[u8])) -> Result<(), Fail> {
+    let (encoding, bytes) = input;
     let (text, by, had_errors) = encoding.decode(alloc, bytes)?;
     for (step, len, room) in WAYS {
         for call in CALLS {
-            let steps = [step];
-            let reading = Reading {
-                encoding,
-                bytes,
-                steps: &steps,
-                lens: (len, room),
-            };
-            let read = reading.by(alloc, call, text.len().saturating_add(1))?;
-            assert!(rt;
-                read.text.as_slice() == text.as_bytes() && !read.failed,
-                "{bytes:?}"
-            );
-            assert!(rt; read.state == (by, had_errors), "{bytes:?}");
+            let (steps, most) = ([step], text.len().saturating_add(1));
+            let read = read_by(alloc, call, input, (&steps, (len, room)), most)?;
+            assert!(rt; read.text.as_slice() == text.as_bytes(), "{bytes:?}");
+            assert!(rt; read.state == (by, had_errors) && !read.failed, "{bytes:?}");
         }
     }
     Ok(())
@@ -88,8 +75,15 @@ fn compare_ways(
 fn reads_the_text_of_the_whole_input(rt: HostRuntime) -> Result<(), Fail> {
     for name in NAMES.split(' ') {
         let encoding = Encoding::for_label(name.as_bytes()).ok_or("no encoding")?;
-        for bytes in INPUTS {
-            compare_ways(&rt, rt.alloc(), encoding, *bytes)?;
+        // single-byte encodings differ in their characters alone
+        let is_like_another = encoding.is_single_byte() && encoding != WINDOWS_1252;
+        let inputs = if is_like_another {
+            &INPUTS[..3]
+        } else {
+            INPUTS
+        };
+        for bytes in inputs {
+            compare_ways(&rt, rt.alloc(), (encoding, *bytes))?;
         }
     }
     Ok(())
@@ -97,13 +91,14 @@ fn reads_the_text_of_the_whole_input(rt: HostRuntime) -> Result<(), Fail> {
 
 /// An input, and the parts of its text that the bytes before a fault at each of six reads
 /// determine.
-type FaultRow = (Encoding, &'static [u8], [&'static str; 6]);
-
 #[rattlefmt::skip]
-const FAULTS: &[FaultRow] = &[
+const FAULTS: &[(Encoding, &[u8], [&str; 6])] = &[
     (UTF_8, b"a\xE2\x82\xACbc", ["", "a", "a", "a", "a€", "a€b"]),
     (SHIFT_JIS, b"\x93\xFAa\x96\x7B", ["", "", "日", "日a", "日a", "日a本"]),
     (WINDOWS_1252, b"\xEF\xBBa\xFFb", ["", "", "", "ï»a", "ï»aÿ", "ï»aÿb"]),
+    // no sequence that the fault cuts
+    (UTF_8, b"a\xFF\xE2\x82\xAC",
+        ["", "a", "a\u{FFFD}", "a\u{FFFD}", "a\u{FFFD}", "a\u{FFFD}€"]),
 ];
 
 #[test]
@@ -111,19 +106,15 @@ fn reads_the_text_in_front_of_a_fault(rt: HostRuntime) -> Result<(), Fail> {
     for (encoding, bytes, texts) in FAULTS {
         for (i, text) in texts.iter().enumerate() {
             let steps = steps_but(rt.alloc(), &[BYTE], i.saturating_add(1), FAULT)?;
-            let reading = Reading {
-                encoding: *encoding,
-                bytes: *bytes,
-                steps: &steps,
-                lens: (2, 4),
-            };
             for call in CALLS {
-                let read = reading.by(rt.alloc(), call, 100)?;
+                let way = (steps.as_slice(), (2, 4));
+                let read = read_by(rt.alloc(), call, (*encoding, *bytes), way, 100)?;
+                let had_errors = text.contains('\u{FFFD}');
+                assert!(rt; read.text.as_slice() == text.as_bytes(), "{bytes:?}");
                 assert!(rt;
-                    read.failed && read.text.as_slice() == text.as_bytes(),
+                    read.state == (*encoding, had_errors) && read.failed,
                     "{bytes:?}"
                 );
-                assert!(rt; read.state == (*encoding, false), "{bytes:?}");
             }
         }
     }
@@ -132,10 +123,8 @@ fn reads_the_text_in_front_of_a_fault(rt: HostRuntime) -> Result<(), Fail> {
 
 /// An input, and the offset and length of each malformed sequence. By the handlers of the Encoding
 /// Standard, by hand.
-type Faulty = (Encoding, &'static [u8], &'static [(u64, u8)]);
-
 #[rattlefmt::skip]
-const FAULTY: &[Faulty] = &[
+const FAULTY: &[(Encoding, &[u8], &[(u64, u8)])] = &[
     (UTF_8, b"", &[]),
     (UTF_8, b"caf\xC3\xA9", &[]),
     (UTF_8, b"\xEF\xBB\xBFa\xE2\x82\xFFb", &[(4, 2), (6, 1)]),
@@ -154,16 +143,11 @@ fn reports_each_malformed_sequence(rt: HostRuntime) -> Result<(), Fail> {
     for (encoding, bytes, malformed) in FAULTY {
         for (step, len, room) in WAYS {
             let steps = [step];
-            let reading = Reading {
-                encoding: *encoding,
-                bytes: *bytes,
-                steps: &steps,
-                lens: (len, room),
-            };
-            let read = reading.by(rt.alloc(), Call::Report, 100)?;
+            let way: Way = (&steps, (len, room));
+            let read = read_by(rt.alloc(), Call::Report, (*encoding, *bytes), way, 100)?;
             assert!(rt; read.malformed.as_slice() == *malformed, "{bytes:?}");
         }
-        compare_ways(&rt, rt.alloc(), *encoding, *bytes)?;
+        compare_ways(&rt, rt.alloc(), (*encoding, *bytes))?;
     }
     Ok(())
 }

@@ -11,16 +11,8 @@ use test_devices::{ALL_BYTES, BYTE, FAULT, NOTHING, Step, StepWriter, steps_but}
 
 /// A script, the steps of its writes and of its flushes, the room of the buffer, and the numbers of
 /// writes and flushes.
-type Row = (
-    Script,
-    &'static [Step],
-    &'static [Step],
-    usize,
-    (usize, usize),
-);
-
 #[rattlefmt::skip]
-const ROWS: &[Row] = &[
+const ROWS: &[(Script, &[Step], &[Step], usize, (usize, usize))] = &[
     // the flag after a fault is that of the text taken, and the encoding stays
     ((SHIFT_JIS, &[(Text, "éa日éb", Fails), (Flag, "", Had(true)), (Finish, "", HasFailed),
         (Flag, "", Had(true))], b""), &[FAULT], &[], 14, (1, 0)),

@@ -8,13 +8,7 @@
 #[cfg(test)]
 mod faults;
 #[cfg(test)]
-mod labels;
-#[cfg(test)]
 mod long_texts;
-#[cfg(test)]
-mod marks;
-#[cfg(test)]
-mod recoding;
 #[cfg(test)]
 mod run_faults;
 #[cfg(test)]

@@ -34,7 +34,7 @@ fn a_text_is_pushed_at_once_from_4096_bytes_on(rt: HostRuntime) -> Result<(), Fa
             let mut writer = EncodeWriter::new(&mut sink, to, &mut buffer);
             assert!(rt; writer.write_str(str::from_utf8(&bytes[..len])?) == Ok(()));
             let device = sink.into_inner();
-            assert!(rt; (device.calls, device.taken.len()) == (calls, calls * len));
+            assert!(rt; (device.calls, device.taken.len()) == (calls, calls.saturating_mul(len)));
         }
     }
     Ok(())

@@ -1,6 +1,6 @@
 //! Runs of `recode_engine::run` over devices that fail, at each of their calls.
 
-use crate::recoding::{Ran, run_by};
+use crate::runs::{Ran, run_by};
 use enc_stream::Encoding;
 use enc_stream::constants::*;
 use recode_engine::{FromRead, FromWrite, RecodeFault, Sink, Source, run};
@@ -11,16 +11,10 @@ use test_devices::{ALL_BYTES, BYTE, FAULT, NOTHING, Step, StepReader, StepWriter
 
 /// Two encodings, an input, the steps of the reader and of the writer, whether the reader is the
 /// one that fails, the bytes written, and the numbers of calls of both.
-type FaultRow = (
-    (Encoding, Encoding),
-    &'static [u8],
-    (&'static [Step], &'static [Step]),
-    (bool, &'static [u8], (usize, usize)),
-);
-
-/// Runs in which a device fails.
 #[rattlefmt::skip]
-const FAULTS: &[FaultRow] = &[
+const FAULTS: &[(
+    (Encoding, Encoding), &[u8], (&[Step], &[Step]), (bool, &[u8], (usize, usize)),
+)] = &[
     // a writer that takes a byte a call and fails, or takes none
     ((WINDOWS_1252, UTF_8), b"a\xE9", (&[BYTE], &[BYTE, BYTE, FAULT]), (false, b"a\xC3", (2, 3))),
     ((WINDOWS_1252, UTF_8), b"a\xE9", (&[BYTE], &[NOTHING]), (false, b"", (1, 1))),
@@ -40,6 +34,10 @@ const FAULTS: &[FaultRow] = &[
     ((UTF_8, UTF_8), b"a\xE2\x82", (&[BYTE, BYTE, BYTE, FAULT], &[BYTE]), (true, b"a", (4, 1))),
     ((UTF_8, SHIFT_JIS), b"a\xE2\x82", (&[BYTE, BYTE, BYTE, FAULT], &[BYTE]),
         (true, b"a", (4, 1))),
+    // text that is determined is written before the fault, after a malformed sequence too
+    ((UTF_8, UTF_8), b"a\xFF\xE2", (&[ALL_BYTES, FAULT], &[]), (true, b"a\xEF\xBF\xBD", (2, 1))),
+    ((UTF_8, UTF_8), b"\xE2\x82\xAC\xE2", (&[ALL_BYTES, FAULT], &[]),
+        (true, b"\xE2\x82\xAC", (2, 1))),
     // U+FFFD in part, and a reference in part
     ((UTF_8, UTF_8), b"a\xFFb", (&[], &[BYTE, BYTE, FAULT]), (false, b"a\xEF", (1, 3))),
     ((UTF_8, UTF_8), b"a\xFFb", (&[], &[BYTE, BYTE, NOTHING]), (false, b"a\xEF", (1, 3))),
@@ -57,41 +55,14 @@ const FAULTS: &[FaultRow] = &[
 fn reports_faults(rt: HostRuntime) {
     for (encodings, input, steps, (reader_fails, want, calls)) in FAULTS {
         let ran = run_by(&rt, rt.alloc(), *encodings, *input, *steps);
-        assert!(rt; ran.outcome.is_err(), "{input:?}");
+        let is_read = ran.outcome == Err(RecodeFault::Read);
         assert!(rt;
-            (ran.outcome == Err(RecodeFault::Read)) == *reader_fails,
+            ran.outcome.is_err() && is_read == *reader_fails,
             "{input:?}"
         );
-        assert!(rt;
-            ran.written.as_slice() == *want && ran.calls == *calls,
-            "{input:?}"
-        );
+        assert!(rt; ran.written.as_slice() == *want, "{input:?}");
+        assert!(rt; ran.calls == *calls, "{input:?}");
     }
-}
-
-/// The last bytes of a chunk of UTF-8, and the text that they determine.
-const DETERMINED: &[(&[u8], &str)] = &[
-    (b"\xC3A", "\u{FFFD}A"),
-    (b"\xF0\x80", "\u{FFFD}\u{FFFD}"),
-    (b"\xF1\x80\xC3", "\u{FFFD}"),
-    (b"\xE2\x82\xAC\xE2", "€"),
-    (b"\xF0\x9F\x92", ""),
-];
-
-#[test]
-fn determined_text_is_written_before_a_fault(rt: HostRuntime) -> Result<(), Fail> {
-    for (tail, text) in DETERMINED {
-        let mut bytes = Vec::new(rt.alloc());
-        bytes.resize(9000, b'x')?;
-        let mut want = bytes.clone()?;
-        bytes.extend_from_slice(*tail)?;
-        want.extend_from_slice(text.as_bytes())?;
-        let reads = [Step::Move(4500), Step::Move(4504), FAULT];
-        let ran = run_by(&rt, rt.alloc(), (UTF_8, UTF_8), &bytes, (&reads, &[]));
-        assert!(rt; ran.outcome == Err(RecodeFault::Read));
-        assert!(rt; ran.written.as_slice() == want.as_slice(), "{tail:?}");
-    }
-    Ok(())
 }
 
 /// The encodings to decode from and to write, an input, the steps by which it comes in three chunks
@@ -126,11 +97,9 @@ const READS: usize = 4;
 fn compare_stopped(rt: &impl Abort, ran: &Ran, is_read: bool, nth: usize, row: &CutRow) {
     let (_, input, _, _, want) = row;
     let calls = if is_read { ran.calls.0 } else { ran.calls.1 };
-    assert!(rt; calls == nth && ran.outcome.is_err(), "{input:?}");
-    assert!(rt;
-        (ran.outcome == Err(RecodeFault::Read)) == is_read,
-        "{input:?}"
-    );
+    let is_reader = ran.outcome == Err(RecodeFault::Read);
+    assert!(rt; ran.outcome.is_err() && is_reader == is_read, "{input:?}");
+    assert!(rt; calls == nth, "{input:?}");
     assert!(rt; want.starts_with(ran.written.as_slice()), "{input:?}");
 }
 
@@ -181,10 +150,8 @@ fn reports_each_fault_of_three_chunks(rt: HostRuntime) -> Result<(), Fail> {
         for write in [ALL_BYTES, BYTE, Step::Move(2)] {
             let writes = [write];
             let ran = run_by(&rt, rt.alloc(), *encodings, *input, (*cuts, &writes));
-            assert!(rt;
-                ran.outcome == Ok(*replaced) && ran.calls.0 == READS,
-                "{input:?}"
-            );
+            assert!(rt; ran.outcome == Ok(*replaced), "{input:?}");
+            assert!(rt; ran.calls.0 == READS, "{input:?}");
             assert!(rt; ran.written.as_slice() == *want, "{input:?}");
             compare_write_faults(&rt, rt.alloc(), row, (*cuts, &writes), ran.calls.1)?;
             compare_read_faults(&rt, rt.alloc(), row, &writes)?;

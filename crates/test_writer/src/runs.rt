@@ -1,13 +1,54 @@
-//! Runs of `recode_engine::run`, whole and in single bytes: texts of each codec, byte order marks,
-//! what is malformed or unmappable, and long inputs.
+//! Runs of `recode_engine`, whole and in single bytes: texts of each codec, byte order marks, what
+//! is malformed or unmappable, and long inputs.
 
-use crate::recoding::run_by;
 use enc_stream::Encoding;
 use enc_stream::constants::*;
+use recode_engine::{BomHandling, FromRead, FromWrite, RecodeFault, Sink, Source, run, run_part};
 use std::alloc::Global;
 use std::process::Abort;
 use std::test::Fail;
-use test_devices::{ALL_BYTES, BYTE, NAMES, Step};
+use test_devices::{ALL_BYTES, BYTE, NAMES, Step, StepReader, StepWriter};
+
+/// The result of a run over devices.
+#[derive(Drop)]
+pub(crate) struct Ran {
+    pub(crate) outcome: Result<bool, RecodeFault>,
+    pub(crate) written: Vec<u8>,
+    /// The numbers of calls of the reader and of the writer.
+    pub(crate) calls: (usize, usize),
+}
+
+/// Runs from a reader to a writer, each driven by its steps. Exactly the side that the outcome
+/// names has failed, and the writer is neither flushed nor asked to write nothing.
+pub(crate) fn run_by(
+    rt: &impl Abort,
+    alloc: Global,
+    (from, to): (Encoding, Encoding),
+    input: &[u8],
+    (reads, writes): (&[Step], &[Step]),
+) -> Ran {
+    let mut source = FromRead::new(StepReader::new(input, reads));
+    let mut sink = FromWrite::new(StepWriter::new(alloc, writes));
+    let outcome = run(&mut source, &mut sink, from, to);
+    assert!(rt;
+        source.failed() == (outcome == Err(RecodeFault::Read)),
+        "{input:?}"
+    );
+    assert!(rt;
+        sink.failed() == (outcome == Err(RecodeFault::Write)),
+        "{input:?}"
+    );
+    let (reader, writer) = (source.into_inner(), sink.into_inner());
+    assert!(rt; (writer.empty_calls, writer.flushes) == (0, 0), "{input:?}");
+    Ran {
+        outcome,
+        written: writer.taken,
+        calls: (reader.calls, writer.calls),
+    }
+}
+
+/// The steps of devices.
+const WAYS: [&[Step]; 2] = [&[], &[BYTE]];
 
 /// Recodes an input, from the encoding that one label names to that of another.
 fn compare(
@@ -19,8 +60,7 @@ fn compare(
 ) -> Result<(), Fail> {
     let first = Encoding::for_label(from.as_bytes()).ok_or("unknown label")?;
     let second = Encoding::for_label(to.as_bytes()).ok_or("unknown label")?;
-    let ways: [&[Step]; 2] = [&[], &[BYTE]];
-    for steps in ways {
+    for steps in WAYS {
         let ran = run_by(rt, alloc, (first, second), input, (steps, steps));
         assert!(rt; ran.outcome == Ok(is_replaced), "{from} to {to}: {input:?}");
         assert!(rt; ran.written.as_slice() == want, "{from} to {to}: {input:?}");
@@ -125,16 +165,8 @@ const UNMAPPABLE: &[(&str, &str, &[u8])] = &[
 
 /// Two labels, an input of the first encoding, its bytes in the second, and whether something is
 /// replaced.
-type Row = (
-    &'static str,
-    &'static str,
-    &'static [u8],
-    &'static [u8],
-    bool,
-);
-
 #[rattlefmt::skip]
-const OTHERS: &[Row] = &[
+const OTHERS: &[(&str, &str, &[u8], &[u8], bool)] = &[
     ("windows-1252", "shift_jis", b"\xE9", b"&#233;", true),
     ("windows-1252", "windows-1252", b"\x80\xE9", b"\x80\xE9", false),
     ("latin1", "utf-16", b"\xE9", b"\xC3\xA9", false),
@@ -197,15 +229,13 @@ fn recodes_many_chunks(rt: HostRuntime) -> Result<(), Fail> {
         (WINDOWS_1252, SHIFT_JIS, 0xE9, b"&#233;"),
     ];
     for (from, to, byte, want) in rows {
-        let bytes = vec![in rt.alloc(); byte; 200_000]?;
+        let bytes = vec![in rt.alloc(); byte; 150_000]?;
+        let mut all = Vec::new(rt.alloc());
+        for _ in 0..150_000 {
+            all.extend_from_slice(want)?;
+        }
         let ran = run_by(&rt, rt.alloc(), (from, to), &bytes, (&[], &[]));
-        assert!(rt; ran.outcome == Ok(true) && ran.written.len() / want.len() == 200_000);
-        assert!(rt;
-            ran.written
-                .as_slice()
-                .chunks(want.len())
-                .all(|piece| piece == want)
-        );
+        assert!(rt; ran.outcome == Ok(true) && ran.written.as_slice() == all.as_slice());
     }
     Ok(())
 }
@@ -220,10 +250,8 @@ fn reads_as_often_as_there_are_bytes(rt: HostRuntime) {
 
 /// An encoding to write, what stands before and after a stretch of ASCII in UTF-8 and in that
 /// encoding, and whether something is replaced.
-type LongRow = (Encoding, [&'static [u8]; 2], [&'static [u8]; 2], bool);
-
 #[rattlefmt::skip]
-const LONG_ROWS: &[LongRow] = &[
+const LONG_ROWS: &[(Encoding, [&[u8]; 2], [&[u8]; 2], bool)] = &[
     (WINDOWS_1252, [b"", b""], [b"", b""], false),
     (WINDOWS_1252, [b"a", b"\xC3\xA9"], [b"a", b"\xE9"], false),
     (WINDOWS_1252, [b"\xC3\xA9", b"\xC3\xA9b"], [b"\xE9", b"\xE9b"], false),
@@ -263,4 +291,50 @@ fn writes_long_ascii_as_it_is(rt: HostRuntime) -> Result<(), Fail> {
         }
     }
     Ok(())
+}
+
+/// The encodings to decode from and to write, an input, and for `Sniff`, `Remove` and `Off` the
+/// bytes written and whether something is replaced.
+#[rattlefmt::skip]
+const MARKS: &[((Encoding, Encoding), &[u8], [(&[u8], bool); 3])] = &[
+    // the mark of the encoding itself
+    ((UTF_8, UTF_8), b"\xEF\xBB\xBFa",
+        [(b"a", false), (b"a", false), (b"\xEF\xBB\xBFa", false)]),
+    ((UTF_8, SHIFT_JIS), b"\xEF\xBB\xBFa\xFF",
+        [(b"a&#65533;", true), (b"a&#65533;", true), (b"&#65279;a&#65533;", true)]),
+    ((UTF_16LE, UTF_8), b"\xFF\xFEa\0",
+        [(b"a", false), (b"a", false), (b"\xEF\xBB\xBFa", false)]),
+    // the mark of another encoding
+    ((WINDOWS_1252, UTF_8), b"\xEF\xBB\xBFa",
+        [(b"a", false), (b"\xC3\xAF\xC2\xBB\xC2\xBFa", false),
+            (b"\xC3\xAF\xC2\xBB\xC2\xBFa", false)]),
+    ((WINDOWS_1252, WINDOWS_1252), b"\xFE\xFF\0a",
+        [(b"a", false), (b"\xFE\xFF\0a", false), (b"\xFE\xFF\0a", false)]),
+    // a mark that is broken off
+    ((UTF_8, UTF_8), b"\xEF\xBB",
+        [(b"\xEF\xBF\xBD", true), (b"\xEF\xBF\xBD", true), (b"\xEF\xBF\xBD", true)]),
+    // no mark, and one that comes later
+    ((UTF_8, UTF_8), b"a\xEF\xBB\xBF",
+        [(b"a\xEF\xBB\xBF", false), (b"a\xEF\xBB\xBF", false), (b"a\xEF\xBB\xBF", false)]),
+    ((UTF_8, UTF_8), b"", [(b"", false), (b"", false), (b"", false)]),
+];
+
+const HANDLINGS: [BomHandling; 3] = [BomHandling::Sniff, BomHandling::Remove, BomHandling::Off];
+
+#[test]
+fn looks_for_the_marks_of_each_handling(rt: HostRuntime) {
+    for ((from, to), input, wanted) in MARKS {
+        for (handling, (want, is_replaced)) in HANDLINGS.iter().zip(*wanted) {
+            for steps in WAYS {
+                let mut source = FromRead::new(StepReader::new(*input, steps));
+                let mut written = Vec::new(rt.alloc());
+                let mut sink = FromWrite::new(&mut written);
+                let outcome = run_part(&mut source, &mut sink, *from, *to, *handling);
+                assert!(rt;
+                    outcome == Ok(is_replaced) && written.as_slice() == want,
+                    "{input:?}"
+                );
+            }
+        }
+    }
 }

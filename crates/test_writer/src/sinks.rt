@@ -5,7 +5,8 @@ ghost use Rattle.std.specs.Prelude.{None, false};
 
 use enc_stream::constants::ISO_2022_JP;
 use enc_writer::{EncodeWriter, FromWrite, Sink};
-use std::io::ErrorKind;
+use std::io;
+use std::io::{ErrorKind, Write};
 use std::test::Fail;
 use test_devices::{
     ALL_BYTES, BYTE, FAULT, INTERRUPTED, KINDS, MESSAGE, NOTHING, Step, StepWriter, message_of,
@@ -55,28 +56,19 @@ fn a_write_fails_at_once_and_its_error_is_kept_whole(rt: HostRuntime) -> Result<
         assert!(rt; text.as_str() == MESSAGE);
         assert!(rt; sink.failed() && sink.error().is_none());
         assert!(rt; sink.into_inner().calls == 1);
-    }
-    Ok(())
-}
-
-#[test]
-fn a_flush_fails_at_once_but_for_interruptions(rt: HostRuntime) {
-    for kind in KINDS {
-        let steps = [Step::Fail(kind), ALL_BYTES];
-        let device = StepWriter::with_flushes(rt.alloc(), &[], &steps);
-        let mut sink = FromWrite::new(device);
+        let mut sink = FromWrite::new(StepWriter::with_flushes(rt.alloc(), &[], &steps));
         assert!(rt; sink.flush() == Err(()));
         assert!(rt; sink.take_error().map(|e| e.kind()) == Some(kind));
         assert!(rt; sink.failed() && sink.error().is_none());
         assert!(rt; sink.into_inner().flushes == 1);
     }
+    Ok(())
 }
 
 #[test]
 fn interrupted_calls_are_made_again(rt: HostRuntime) -> Result<(), Fail> {
     let steps = steps_but(rt.alloc(), &[INTERRUPTED], 1001, ALL_BYTES)?;
-    let device = StepWriter::with_flushes(rt.alloc(), &steps, &steps);
-    let mut sink = FromWrite::new(device);
+    let mut sink = FromWrite::new(StepWriter::with_flushes(rt.alloc(), &steps, &steps));
     assert!(rt; sink.push(b"ab") == Ok(2));
     assert!(rt; sink.flush() == Ok(()));
     assert!(rt; !sink.failed() && sink.error().is_none());
@@ -86,31 +78,41 @@ fn interrupted_calls_are_made_again(rt: HostRuntime) -> Result<(), Fail> {
     Ok(())
 }
 
-#[test]
-fn calls_that_are_always_interrupted_fail(rt: HostRuntime) -> Result<(), Fail> {
-    for (is_flush, want) in [
-        (false, "every write was interrupted"),
-        (true, "every flush was interrupted"),
-    ] {
-        let device = StepWriter::with_flushes(rt.alloc(), &[INTERRUPTED], &[INTERRUPTED]);
-        let mut sink = FromWrite::new(device);
-        if is_flush {
-            assert!(rt; sink.flush() == Err(()));
-        } else {
-            assert!(rt; sink.push(b"a") == Err(()));
-        }
-        assert!(rt; sink.error().map(|e| e.kind()) == Some(ErrorKind::TimedOut));
-        let text = message_of(rt.alloc(), sink.take_error())?;
-        assert!(rt; text.as_str() == want);
-        let device = sink.into_inner();
-        let calls = if is_flush {
-            device.flushes
-        } else {
-            device.calls
-        };
-        assert!(rt; calls == 1 << 20);
+/// A writer whose every call is interrupted.
+#[derive(Drop)]
+struct Interrupted {
+    calls: u32,
+}
+
+impl Write for Interrupted {
+    fn write(&mut self, _buf: &[u8]) -> io::Result<usize> {
+        self.calls = self.calls.wrapping_add(1);
+        Err(io::Error::from(ErrorKind::Interrupted))
     }
+
+    fn flush(&mut self) -> io::Result<()> {
+        self.calls = self.calls.wrapping_add(1);
+        Err(io::Error::from(ErrorKind::Interrupted))
+    }
+}
+
+#[test]
+fn a_write_that_is_always_interrupted_fails(rt: HostRuntime) -> Result<(), Fail> {
+    let mut sink = FromWrite::new(Interrupted { calls: 0 });
+    assert!(rt; sink.push(b"a") == Err(()));
+    assert!(rt; sink.error().map(|e| e.kind()) == Some(ErrorKind::TimedOut));
+    let text = message_of(rt.alloc(), sink.take_error())?;
+    assert!(rt; text.as_str() == "every write was interrupted");
+    assert!(rt; sink.into_inner().calls == 1 << 20);
     Ok(())
+}
+
+#[test]
+fn a_flush_that_is_always_interrupted_fails(rt: HostRuntime) {
+    let mut sink = FromWrite::new(Interrupted { calls: 0 });
+    assert!(rt; sink.flush() == Err(()));
+    assert!(rt; sink.error().map(|e| e.kind()) == Some(ErrorKind::TimedOut));
+    assert!(rt; sink.into_inner().calls == 1 << 20);
 }
 
 /// A sink with the methods that have no default.

@@ -50,32 +50,45 @@ pub(crate) type Script = (
     &'static [u8],
 );
 
-/// The answer for an outcome.
-fn answer_of<T>(outcome: Result<T, WriteFault>, of_value: impl FnOnce(T) -> Answer) -> Answer {
+/// The answer of a call that fails.
+fn fault(fault: WriteFault) -> Answer {
+    match fault {
+        WriteFault::Writer => Answer::Fails,
+        WriteFault::Failed => Answer::HasFailed,
+    }
+}
+
+/// The answer of a call that returns no value.
+fn done(outcome: Result<(), WriteFault>) -> Answer {
     match outcome {
-        Ok(value) => of_value(value),
-        Err(WriteFault::Writer) => Answer::Fails,
-        Err(WriteFault::Failed) => Answer::HasFailed,
+        Ok(()) => Answer::Done,
+        Err(why) => fault(why),
+    }
+}
+
+/// The answer of a call that ends a text.
+fn had(outcome: Result<bool, WriteFault>) -> Answer {
+    match outcome {
+        Ok(had) => Answer::Had(had),
+        Err(why) => fault(why),
     }
 }
 
 /// Makes a call.
 fn make_call<S: Sink>(writer: &mut EncodeWriter<'_, S>, act: Act, text: &str) -> Answer {
     match act {
-        Act::Text => answer_of(writer.write_str(text), |()| Answer::Done),
-        Act::Mappable => answer_of(
-            writer.write_str_without_replacement(text),
-            |stop| match stop {
-                None => Answer::Done,
-                Some(stop) => Answer::Stops(stop.character, stop.taken),
-            },
-        ),
-        Act::Unit(unit) => answer_of(writer.write_utf16(&[unit]), |()| Answer::Done),
-        Act::Units(a, b) => answer_of(writer.write_utf16(&[a, b]), |()| Answer::Done),
-        Act::Push => answer_of(writer.push_held(), |()| Answer::Done),
-        Act::Flush => answer_of(writer.flush(), |()| Answer::Done),
-        Act::End => answer_of(writer.end_text(), Answer::Had),
-        Act::Finish => answer_of(writer.finish(), Answer::Had),
+        Act::Text => done(writer.write_str(text)),
+        Act::Mappable => match writer.write_str_without_replacement(text) {
+            Ok(None) => Answer::Done,
+            Ok(Some(stop)) => Answer::Stops(stop.character, stop.taken),
+            Err(why) => fault(why),
+        },
+        Act::Unit(unit) => done(writer.write_utf16(&[unit])),
+        Act::Units(a, b) => done(writer.write_utf16(&[a, b])),
+        Act::Push => done(writer.push_held()),
+        Act::Flush => done(writer.flush()),
+        Act::End => had(writer.end_text()),
+        Act::Finish => had(writer.finish()),
         Act::Flag => Answer::Had(writer.had_unmappables()),
         Act::Error => match writer.error() {
             None => Answer::Done,
@@ -94,7 +107,7 @@ pub(crate) fn play(
 ) -> (usize, usize) {
     let mut sink = FromWrite::new(device);
     let mut buffer = [0; 64];
-    let room = room.clamp(14, 64);
+    let room = room.max(14).min(64);
     let mut writer = EncodeWriter::new(&mut sink, encoding, &mut buffer[..room]);
     let mut has_failed = false;
     for (act, text, want) in acts {
