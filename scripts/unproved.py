@@ -1,4 +1,4 @@
-"""Programs and tests as `rt try` builds them, with no proof. For scripts/test, scripts/refused-growths and witnesses.py.
+"""Programs and tests as `rt try` builds them, with no proof. For test, refused-growths and witnesses.py.
 
 `rt try` removes what it has built and run. A kit of links keeps it: a folder with links to all of the kit, but with a
 linker that copies each program to a file. It has no `rattle` either: `rt try` asks it for a hint on names, which takes

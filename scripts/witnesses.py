@@ -7,9 +7,9 @@ number says which counts:
 
 The crate `switch` of the copy holds that number. Beside each test that an edit names stand functions that set the
 number and run the test: one for each edit, which must fail, and one that sets none, the control, which must pass. Each
-test runs in a process of its own. A program, and crates/conformance for a file of rows, is run for each number, which it
-has from the variable SWITCH. It fails if it prints something else than its file `stdout`, or names a row, or is stopped
-at a fault or after a minute of processor time.
+test runs in a process of its own. A program, and crates/conformance for a file of rows, is run for each number, which
+it has from the variable SWITCH. It fails if it prints something else than its file `stdout`, or names a row, or is
+stopped at a fault or after a minute of processor time.
 
 Not all changes are of bodies. One of a head, a constant or a program is built and run by itself. Ghost lines and
 definitions do not run, so of an edit that changes them too only the rest is made. An edit whose wrong body can't stand
@@ -129,7 +129,8 @@ class Copy:
         rt = kit_of_links(f"{self.room}/kits/{crate}", self.program(crate), self.runs_long or crate == RUNS_ROWS)
         how = {"stdin": subprocess.DEVNULL, "stdout": subprocess.PIPE, "stderr": subprocess.STDOUT, "errors": "replace"}
         env = {**os.environ, "RT_ALLOW_C": SWITCH, "TMPDIR": self.room}
-        return subprocess.run([rt, "try", *words], cwd=f"{self.room}/crates/{crate}", env=env, check=False, **how).stdout
+        ran = subprocess.run([rt, "try", *words], cwd=f"{self.room}/crates/{crate}", env=env, check=False, **how)
+        return ran.stdout
 
     def program(self, crate):
         """Where the program of a crate is kept."""
@@ -144,7 +145,7 @@ class Copy:
         return self.run(crate, "--steps", "1")
 
     def words_of(self, crate, number):
-        """What runs the program of a crate, which may use a minute of a processor, and has the body of a number count."""
+        """What runs the program of a crate, for a minute of a processor at most, and has the body of a number count."""
         return ["env", f"{SWITCH.upper()}={number}", "prlimit", f"--cpu={SECONDS}", self.program(crate)]
 
     def passes(self, witness, number=0):
@@ -174,8 +175,8 @@ class Copy:
 
 
 class Switched(Copy):
-    """A copy in which numbers say which bodies count. Tests that set them stand beside those that are named, and programs
-    are given them."""
+    """A copy in which numbers say which bodies count. Tests that set them stand beside those that are named, and
+    programs are given them."""
 
     runs_long = True
 
@@ -237,7 +238,7 @@ def first_error(said):
 
 
 def run_singly(edit, witness):
-    """Whether a test or a program passes in a copy with an edit alone, or with none, or what is said if it didn't run."""
+    """Whether a witness passes in a copy with an edit alone, or with none, or what is said if it didn't run."""
     with copied(LEFT) as room:
         copy = Copy(room)
         for file, text in apply(edit.crate, [it for it in edit.pairs if not is_ghost(it)]).items() if edit else ():
