@@ -3,7 +3,8 @@
 `rt try` removes what it has built and run. A kit of links keeps it: a folder with links to all of the kit, but with a
 linker that copies each program to a file. It has no `rattle` either: `rt try` asks it for a hint on names, which takes
 as much processor time as the build. What runs for long, as tests and rows, is optimised: rows run fourteen times as
-fast, and their build takes a third longer. The checks of `rt try` stand in the code that is compiled, so they stay.
+fast, and their build takes a third longer. The checks of `rt try` stand in the code that is compiled, so they stay, but
+it does not say any more at which one a run has ended.
 """
 
 import os
