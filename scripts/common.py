@@ -67,7 +67,7 @@ def crates():
 
 
 def parser():
-    """What reads the words of a script: it answers --help by the text that heads the script, and refuses other words."""
+    """What reads the words of a script. It answers --help by the text that heads the script, and refuses other words."""
     said = sys.modules["__main__"].__doc__
     return argparse.ArgumentParser(NAME, description=said, formatter_class=argparse.RawDescriptionHelpFormatter)
 

@@ -39,8 +39,8 @@ class Edit:
     """A change of a crate: a wrong one or, in the folder equal, one that means the same.
 
     `call` is the public call that it is for, `shown` the test, the program or the file of rows that shows it to be
-    wrong, `reason` why none does, and `same` the one that shows it to mean the same. Each is empty where the file has no
-    such line.
+    wrong, `reason` why none does, and `same` the one that shows it to mean the same. Each is empty where the file has
+    no such line.
     """
 
     def __init__(self, crate, path):

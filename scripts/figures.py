@@ -46,9 +46,14 @@ def of_gate():
     ])
 
 
+def is_of_tests(path):
+    """Whether a file is of a crate that tests alone need."""
+    return path.startswith(("crates/test_", "crates/conformance/"))
+
+
 def lines_in(folder, test):
-    """The lines of a folder of the test crates, or of the others: all, and those of files that scripts write."""
-    files = [it for it in paths(f"crates/*/{folder}/**/*.*") if it.startswith("crates/test_") == test]
+    """The lines of a folder of the crates of tests, or of the others: all, and those of files that scripts write."""
+    files = [it for it in paths(f"crates/*/{folder}/**/*.*") if is_of_tests(it) == test]
     return sum(map(lines_of, files)), sum(map(lines_of, filter(is_written, files)))
 
 
@@ -61,7 +66,7 @@ def of_verify():
     less = f"without clause `run` {lines - call[0]} and {types - call[1]}; for UTF-8 alone {core[0]} and {core[1]}"
     of_encoding = closure.sizes_under(closure.ENCODE_RUN, "encode_run")
     edits, tests = sum(len(edits_of(it)) for it in crates()), sum(tests_of(it) for it in crates())
-    by_hand = [it for it in paths("crates/*/src/**/*.rt") if not is_written(it) and not it.startswith("crates/test_")]
+    by_hand = [it for it in paths("crates/*/src/**/*.rt") if not is_written(it) and not is_of_tests(it)]
     executable, proofs = sum(map(executable_lines, by_hand)), lines_in("proofs", False)[0]
     in_folders = {name: (*lines_in(folder, False), said) for name, (folder, said) in FOLDERS.items()}
     return list_of([

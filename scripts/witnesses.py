@@ -7,9 +7,9 @@ number says which counts:
 
 The crate `switch` of the copy holds that number. Beside each test that an edit names stand functions that set the
 number and run the test: one for each edit, which must fail, and one that sets none, the control, which must pass. Each
-test runs in a process of its own. A program, and crates/conformance for a file of rows, is run for each number, which it
-has from the variable SWITCH. It fails if it prints something else than its file `stdout`, or names a row, or is stopped
-at a fault or after a minute.
+test runs in a process of its own. A program, and crates/conformance for a file of rows, is run for each number, which
+it has from the variable SWITCH. It fails if it prints something else than its file `stdout`, or names a row, or is
+stopped at a fault or after a minute of processor time.
 
 Not all changes are of bodies. One of a head, a constant or a program is built and run by itself. Ghost lines and
 definitions do not run, so of an edit that changes them too only the rest is made. An edit whose wrong body can't stand
@@ -112,6 +112,9 @@ def program_of(witness):
 class Copy:
     """A copy of the sources of the crates, in a room."""
 
+    # (whether there are many runs of each program)
+    runs_long = False
+
     def __init__(self, room):
         self.room = room
 
@@ -123,10 +126,11 @@ class Copy:
 
     def run(self, crate, *words):
         """What `rt try` says of a crate. Its program is kept."""
-        rt = kit_of_links(f"{self.room}/kits/{crate}", self.program(crate))
+        rt = kit_of_links(f"{self.room}/kits/{crate}", self.program(crate), self.runs_long or crate == RUNS_ROWS)
         how = {"stdin": subprocess.DEVNULL, "stdout": subprocess.PIPE, "stderr": subprocess.STDOUT, "errors": "replace"}
         env = {**os.environ, "RT_ALLOW_C": SWITCH, "TMPDIR": self.room}
-        return subprocess.run([rt, "try", *words], cwd=f"{self.room}/crates/{crate}", env=env, check=False, **how).stdout
+        ran = subprocess.run([rt, "try", *words], cwd=f"{self.room}/crates/{crate}", env=env, check=False, **how)
+        return ran.stdout
 
     def program(self, crate):
         """Where the program of a crate is kept."""
@@ -140,33 +144,41 @@ class Copy:
         """What is said of the program of a crate."""
         return self.run(crate, "--steps", "1")
 
+    def words_of(self, crate, number):
+        """What runs the program of a crate, for a minute of a processor at most, and has the body of a number count."""
+        return ["env", f"{SWITCH.upper()}={number}", "prlimit", f"--cpu={SECONDS}", self.program(crate)]
+
     def passes(self, witness, number=0):
         """Whether the program of a witness ends as it must if the body of a number counts, or what it says if that is
         neither. It is there."""
-        crate = program_of(witness)
-        at, is_of_rows = f"crates/{crate}", is_rows(witness)
-        words = [witness] if is_of_rows else read(f"{at}/args").splitlines() if is_there(f"{at}/args") else []
-        given = read_bytes(f"{at}/stdin") if is_there(f"{at}/stdin") and not is_of_rows else b""
-        where = f"{TOP}/{at}/data" if is_there(f"{at}/data") and not is_of_rows else TOP
-        env = {**os.environ, SWITCH.upper(): str(number)}
-        try:
-            ran = subprocess.run([self.program(crate), *words], cwd=where, input=given, capture_output=True, check=False,
-                                 env=env, timeout=SECONDS)
-        except subprocess.TimeoutExpired:
-            return False
-        if not is_of_rows:
-            status = int(read(f"{at}/status")) if is_there(f"{at}/status") else 0
-            return (ran.stdout, ran.returncode) == (read_bytes(f"{at}/stdout"), status)
-        written = ran.stdout.decode(errors="replace")
-        if not ran.returncode or ran.returncode < 0 or b"AddressSanitizer" in ran.stderr:
-            return not ran.returncode
-        is_named = re.search(rf"^{re.escape(witness)}:\d+: ", written, re.M)
-        return False if is_named else f"status {ran.returncode}, and no row: {written.strip()[-200:]}"
+        if is_rows(witness):
+            return self.has_rows_that_hold(witness, number)
+        at = f"crates/{witness}"
+        words = read(f"{at}/args").splitlines() if is_there(f"{at}/args") else []
+        given = read_bytes(f"{at}/stdin") if is_there(f"{at}/stdin") else b""
+        where = f"{TOP}/{at}/data" if is_there(f"{at}/data") else TOP
+        ran = subprocess.run(
+            [*self.words_of(witness, number), *words], cwd=where, input=given, capture_output=True, check=False)
+        status = int(read(f"{at}/status")) if is_there(f"{at}/status") else 0
+        return (ran.stdout, ran.returncode) == (read_bytes(f"{at}/stdout"), status)
+
+    def has_rows_that_hold(self, path, number):
+        """The same of a file of rows. The first row that is named ends the run, and so does a fault."""
+        how = {"stdin": subprocess.DEVNULL, "stdout": subprocess.PIPE, "stderr": subprocess.STDOUT, "errors": "replace"}
+        with subprocess.Popen([*self.words_of(RUNS_ROWS, number), path], cwd=TOP, **how) as ran:
+            line = ""
+            for line in ran.stdout:
+                if re.match(rf"{re.escape(path)}:\d+: ", line) or "AddressSanitizer" in line:
+                    ran.kill()
+                    return False
+        return f"status {ran.returncode}, and no row: {line.strip()}" if ran.returncode > 0 else not ran.returncode
 
 
 class Switched(Copy):
-    """A copy in which numbers say which bodies count. Tests that set them stand beside those that are named, and programs
-    are given them."""
+    """A copy in which numbers say which bodies count. Tests that set them stand beside those that are named, and
+    programs are given them."""
+
+    runs_long = True
 
     def __init__(self, room, numbered, others):
         super().__init__(room)
@@ -226,7 +238,7 @@ def first_error(said):
 
 
 def run_singly(edit, witness):
-    """Whether a test or a program passes in a copy with an edit alone, or with none, or what is said if it didn't run."""
+    """Whether a witness passes in a copy with an edit alone, or with none, or what is said if it didn't run."""
     with copied(LEFT) as room:
         copy = Copy(room)
         for file, text in apply(edit.crate, [it for it in edit.pairs if not is_ghost(it)]).items() if edit else ():
