@@ -1,4 +1,4 @@
-"""Short calls, for scripts/bench: bench_calls beside its twin over the crate, bench/peer/src/bin/calls.rs.
+"""Short calls, for scripts/bench: `bench calls` beside its twin over the crate, bench/peer/src/bin/calls.rs.
 
 A text is cut into pieces of 16, 64 and 256 bytes, each for a new decoder or encoder or for a one-shot call, and into
 chunks of 1 and 4 KiB for one decoder or encoder, with room for 1 or 4 Ki units in a call. A piece ends with a
@@ -60,7 +60,7 @@ class Cell:
     def run(self, program, rounds):
         """The processor time of a run and the sum that it prints."""
         before = resource.getrusage(resource.RUSAGE_CHILDREN)
-        command = [program, *self.arguments, str(rounds)]
+        command = [*program, *self.arguments, str(rounds)]
         done = subprocess.run(command, input=self.data, stdout=subprocess.PIPE, check=True)
         after = resource.getrusage(resource.RUSAGE_CHILDREN)
         return after.ru_utime - before.ru_utime + after.ru_stime - before.ru_stime, done.stdout
@@ -78,11 +78,11 @@ class Cell:
             taken, _ = self.run(program, self.rounds)
             self.best[name] = min(taken, self.best.get(name, taken))
 
-    def ratio(self, name="bench_calls"):
+    def ratio(self, name="bench calls"):
         """The rate by the crate's."""
         return self.best["encoding_rs"] / self.best[name]
 
-    def nanoseconds(self, name="bench_calls"):
+    def nanoseconds(self, name="bench calls"):
         """The time of a call."""
         return self.best[name] * 1e9 / (self.rounds * (len(self.data) // int(self.arguments[2])))
 

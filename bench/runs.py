@@ -42,8 +42,8 @@ def commands(corpus, programs):
     if corpus.way in ("to-units", "from-units"):
         how, ends = "decode" if corpus.is_decoded else "encode", [corpus.label, "--utf16"]
         crate = [programs["encoding_rs"], *(ends if corpus.is_decoded else reversed(ends))]
-        return {"recode": [programs["units"], how, corpus.label], "encoding_rs": crate, **beside}
-    whole = [name for name in programs if name not in ("units", "simdutf")]
+        return {"recode": [programs["bench"], "utf16", how, corpus.label], "encoding_rs": crate, **beside}
+    whole = [name for name in programs if name not in ("bench", "simdutf")]
     made = {**{name: [programs[name], *corpus.ends(corpus.label)] for name in whole}, **beside}
     if corpus.languages:
         for tool, label in (("iconv", corpus.iconv), ("uconv", corpus.uconv)):

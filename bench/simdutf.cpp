@@ -1,6 +1,6 @@
 // The program over simdutf that scripts/bench times: `simdutf IMPLEMENTATION WAY`. WAY is `validate`,
 // which writes UTF-8 as it is once it is known to be well-formed, as `recode utf-8 utf-8` does;
-// `to-utf16`, from UTF-8 to UTF-16LE, as `bench_utf16 decode utf-8` does; or `from-utf16`, back. It
+// `to-utf16`, from UTF-8 to UTF-16LE, as `bench utf16 decode utf-8` does; or `from-utf16`, back. It
 // reads 64 KiB at a time, as these do, and writes the output of each call. A character that breaks
 // off at the end of a read is kept for the next. The status is 0; 1 where the input is malformed,
 // since simdutf replaces nothing; 2 where the processor lacks the implementation, or an argument

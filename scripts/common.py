@@ -1,5 +1,6 @@
 """What scripts share: the files of the repository, its crates, commands, and copies of crates in which they run."""
 
+import argparse
 import contextlib
 import functools
 import glob
@@ -63,6 +64,18 @@ def differing(texts):
 def crates():
     """The crates, lowest first, each with those that it may name."""
     return {name: words.split() for name, words in re.findall(r"^(\w+) *:(.*)$", read("crates.txt"), re.M)}
+
+
+def parser():
+    """What reads the words of a script: it answers --help by the text that heads the script, and refuses other words."""
+    said = sys.modules["__main__"].__doc__
+    return argparse.ArgumentParser(NAME, description=said, formatter_class=argparse.RawDescriptionHelpFormatter)
+
+
+def lanes(gib):
+    """How many processes of that many GiB can run side by side: one for each processor, as far as memory goes."""
+    free = int(re.search(r"^MemAvailable: +(\d+)", read("/proc/meminfo"), re.M)[1]) >> 20
+    return max(1, min(len(os.sched_getaffinity(0)), free // gib))
 
 
 def give_up(text, status=2):

@@ -38,8 +38,9 @@ class Place(NamedTuple):
 class Edit:
     """A change of a crate: a wrong one or, in the folder equal, one that means the same.
 
-    `call` is the public call that it is for, `shown` the test or the program that shows it to be wrong, `reason` why
-    none does, and `same` the test that shows it to mean the same. Each is empty where the file has no such line.
+    `call` is the public call that it is for, `shown` the test, the program or the file of rows that shows it to be
+    wrong, `reason` why none does, and `same` the one that shows it to mean the same. Each is empty where the file has no
+    such line.
     """
 
     def __init__(self, crate, path):
@@ -135,16 +136,25 @@ def is_program(name):
     return all(is_there(f"crates/{name}/{it}") for it in ("src/main.rt", "stdout"))
 
 
+def is_rows(name):
+    """Whether a path is that of a file of rows, which the program crates/conformance runs."""
+    return bool(re.fullmatch(r"conformance/[\w-]+\.txt", name)) and is_there(name)
+
+
+def is_witness(name):
+    return bool(file_of_test(name)) or is_program(name) or is_rows(name)
+
+
 def fault_of(edit):
     """What is wrong with an edit before it runs, with the lines that name its witness too, or nothing."""
     if edit.fault:
         return f"BAD EDIT: {edit.fault}"
     if "/equal/" in edit.path:
-        return "" if edit.same and file_of_test(edit.same) else f"there is no test {edit.same or 'that it names'}"
+        return "" if is_witness(edit.same) else f"there is no test and no file {edit.same or 'that it names'}"
     if bool(edit.shown) == bool(edit.reason):
         return f"it has {'both' if edit.shown else 'neither'} of '{LINES['shown'].strip()}' and '{LINES['reason'].strip()}'"
-    is_there_one = not edit.shown or file_of_test(edit.shown) or is_program(edit.shown)
-    return "" if is_there_one else f"there is no test and no program {edit.shown}"
+    is_shown = not edit.shown or is_witness(edit.shown)
+    return "" if is_shown else f"there is no test, no program and no file of rows {edit.shown}"
 
 
 def fits(group, edit, most):

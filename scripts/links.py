@@ -11,7 +11,7 @@ ROOTS = ("crates/", "docs/", "scripts/", "data/", "bench/", "completions/", ".ci
 BELOW = re.compile(r"\b((?:enc|recode|example|test)\w*/(?:src|specs|proofs|must-fail|edits|equal)/[\w./-]*\w)")
 # Code that is shown, and the sources that have it: tests, examples and their proofs.
 CODE = re.compile(r"^```(?:rust|antt)\n(.*?)^```$", re.M | re.S)
-EXAMPLES = ("crates/test_calls/src/doc_examples.rt", "crates/example_*/src/*.rt", "crates/example_*/proofs/**/*.antt")
+EXAMPLES = ("crates/test_*/src/doc_examples.rt", "crates/example_*/src/*.rt", "crates/example_*/proofs/**/*.antt")
 # What stands for any name.
 ANY = re.compile(r"NAME|Name|WHAT|\bname(?![a-z])")
 

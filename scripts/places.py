@@ -60,7 +60,7 @@ def lacking_of(decoder):
     if not crate:
         return ["no file of its name in src/ of a family's crate"]
     wanted = [f"crates/{crate}/src/{module}.rt", f"crates/{crate}/specs/{RULE_OF.get(name, name)}.antt"]
-    wanted.append(f"crates/test_codecs/src/codecs/{module}.rt")
+    wanted.append(f"conformance/decode-{module.replace('_', '-')}.txt")
     wanted += [f"crates/test_support/src/samples/{constant_of(it).lower()}.rt" for it in codecs]
     missing = [it for it in wanted if not is_there(it)] + without_edit(crate, f"src/{module}.rt")
     return missing + (lacking_of_encoder(encoder, module) if encoder != "-" else []) + unsaid({

@@ -7,7 +7,9 @@ number says which counts:
 
 The crate `switch` of the copy holds that number. Beside each test that an edit names stand functions that set the
 number and run the test: one for each edit, which must fail, and one that sets none, the control, which must pass. Each
-test runs in a process of its own.
+test runs in a process of its own. A program, and crates/conformance for a file of rows, is run for each number, which it
+has from the variable SWITCH. It fails if it prints something else than its file `stdout`, or names a row, or is stopped
+at a fault or after a minute.
 
 Not all changes are of bodies. One of a head, a constant or a program is built and run by itself. Ghost lines and
 definitions do not run, so of an edit that changes them too only the rest is made. An edit whose wrong body can't stand
@@ -19,13 +21,12 @@ import re
 import subprocess
 from concurrent.futures import ThreadPoolExecutor
 
-from common import copied, is_there, paths, read, read_bytes, write
-from edit_list import apply, edits_of, ends_of, equal_of, fault_of, file_of_test, is_program
+from common import TOP, copied, is_there, lanes, paths, read, read_bytes, write
+from edit_list import apply, edits_of, ends_of, equal_of, fault_of, file_of_test, is_program, is_rows
+from unproved import SECONDS, kit_of_links
 
-# Runs side by side. One takes 2 GB.
-LANES = max(1, min(3, os.cpu_count() - 1))
-# The seconds that a test may take.
-SECONDS = 60
+# Runs side by side. One takes 2 GB, and that of a large crate of tests 4.
+LANES = min(3, lanes(4))
 # What a copy lacks of a crate.
 LEFT = ("out", "proofs", "edits", "must-fail", "equal", "args", "status", "data")
 SWITCH = "switch"
@@ -48,10 +49,23 @@ pub fn set(number: u64) {
 }
 """
 SWITCH_C = """#include <stdint.h>
+#include <stdlib.h>
+
 static uint64_t number;
-uint64_t switch_number(void) { return number; }
-void switch_set(uint64_t it) { number = it; }
+static int is_set;
+
+void switch_set(uint64_t it) { number = it; is_set = 1; }
+
+uint64_t switch_number(void) {
+    if (!is_set) {
+        const char *said = getenv("SWITCH");
+        switch_set(said ? strtoull(said, 0, 10) : 0);
+    }
+    return number;
+}
 """
+# The program that runs rows.
+RUNS_ROWS = "conformance"
 # The tests of a copy that set a number.
 PREFIX = "counts_for_edit_"
 
@@ -59,9 +73,8 @@ RAN = re.compile(rf"^test (?:\S+::)?{PREFIX}(\d+)(?:_(\d+))? \.\.\. (\w+)", re.M
 ERROR = re.compile(r"^(\S+\.rt):(\d+):\d+: error", re.M)
 TESTS = re.compile(
     r"^(?:(?:///|#\[)[^\n]*\n)*#\[test\]\nfn (?P<name>\w+)(?P<head>\([^\n]*\n)(?P<body>.*?)^\}\n", re.M | re.S)
-# The last line of a build that made nothing, and of a program that ended as it should.
+# The last line of a build that made nothing.
 NO_BUILD = re.compile(r"^run=none ", re.M)
-ENDED = re.compile(r"^run=ended status=0 ", re.M)
 BEGINS, ENDS = "// the body of edit", "// the end of edit"
 
 
@@ -91,6 +104,11 @@ def place_of_test(test):
     return file_of_test(test), test.split("::")[-1]
 
 
+def program_of(witness):
+    """The crate of the program that a witness is, or that runs the rows of a witness; nothing for a test."""
+    return RUNS_ROWS if is_rows(witness) else witness if is_program(witness) else ""
+
+
 class Copy:
     """A copy of the sources of the crates, in a room."""
 
@@ -104,29 +122,64 @@ class Copy:
             write(file, TESTS.sub(lambda it: by((path, it["name"]), it), read(file)))
 
     def run(self, crate, *words):
-        """What `rt try` says of a crate, and what the program prints."""
-        where = f"{self.room}/crates/{crate}"
-        given = read_bytes(f"{where}/stdin") if is_there(f"{where}/stdin") else b""
-        env = {**os.environ, "RT_ALLOW_C": SWITCH}
-        ran = subprocess.run(["rt", "try", *words], cwd=where, input=given, capture_output=True, env=env)
-        return (ran.stdout + ran.stderr).decode(errors="replace"), ran.stdout
+        """What `rt try` says of a crate. Its program is kept."""
+        rt = kit_of_links(f"{self.room}/kits/{crate}", self.program(crate))
+        how = {"stdin": subprocess.DEVNULL, "stdout": subprocess.PIPE, "stderr": subprocess.STDOUT, "errors": "replace"}
+        env = {**os.environ, "RT_ALLOW_C": SWITCH, "TMPDIR": self.room}
+        return subprocess.run([rt, "try", *words], cwd=f"{self.room}/crates/{crate}", env=env, check=False, **how).stdout
+
+    def program(self, crate):
+        """Where the program of a crate is kept."""
+        return f"{self.room}/{crate}-program"
 
     def run_tests(self, crate, name):
         """What the tests of a crate say whose names have this."""
-        return self.run(crate, "--test", "--seconds", str(SECONDS), "--", name)[0]
+        return self.run(crate, "--test", "--seconds", str(SECONDS), "--", name)
+
+    def build(self, crate):
+        """What is said of the program of a crate."""
+        return self.run(crate, "--steps", "1")
+
+    def passes(self, witness, number=0):
+        """Whether the program of a witness ends as it must if the body of a number counts, or what it says if that is
+        neither. It is there."""
+        crate = program_of(witness)
+        at, is_of_rows = f"crates/{crate}", is_rows(witness)
+        words = [witness] if is_of_rows else read(f"{at}/args").splitlines() if is_there(f"{at}/args") else []
+        given = read_bytes(f"{at}/stdin") if is_there(f"{at}/stdin") and not is_of_rows else b""
+        where = f"{TOP}/{at}/data" if is_there(f"{at}/data") and not is_of_rows else TOP
+        env = {**os.environ, SWITCH.upper(): str(number)}
+        try:
+            ran = subprocess.run([self.program(crate), *words], cwd=where, input=given, capture_output=True, check=False,
+                                 env=env, timeout=SECONDS)
+        except subprocess.TimeoutExpired:
+            return False
+        if not is_of_rows:
+            status = int(read(f"{at}/status")) if is_there(f"{at}/status") else 0
+            return (ran.stdout, ran.returncode) == (read_bytes(f"{at}/stdout"), status)
+        written = ran.stdout.decode(errors="replace")
+        if not ran.returncode or ran.returncode < 0 or b"AddressSanitizer" in ran.stderr:
+            return not ran.returncode
+        is_named = re.search(rf"^{re.escape(witness)}:\d+: ", written, re.M)
+        return False if is_named else f"status {ran.returncode}, and no row: {written.strip()[-200:]}"
 
 
 class Switched(Copy):
-    """A copy in which numbers say which bodies count, and tests that set them stand beside those that are named."""
+    """A copy in which numbers say which bodies count. Tests that set them stand beside those that are named, and programs
+    are given them."""
 
     def __init__(self, room, numbered, others):
         super().__init__(room)
-        # the tests that edits name, each with the numbers of these, and other tests, which get a control alone
-        self.tests = {it: [] for it in others}
-        for number, (_, test) in numbered.items():
-            self.tests.setdefault(test, []).append(number)
+        # what edits name, each with the numbers of these, and what other edits name, which gets a control alone
+        witnesses = {it: [] for it in others}
+        for number, (_, witness) in numbered.items():
+            witnesses.setdefault(witness, []).append(number)
+        self.tests = {it: numbers for it, numbers in witnesses.items() if not program_of(it)}
         self.places = [place_of_test(it) for it in self.tests]
         self.crates = sorted({test.split("::")[0] for test in self.tests})
+        # the runs of programs, and the programs
+        self.runs = [(it, at) for it, numbers in witnesses.items() if program_of(it) for at in (0, *numbers)]
+        self.programs = sorted({program_of(it) for it, _ in self.runs})
         write(f"{room}/crates/{SWITCH}/src/lib.rt", SWITCH_SOURCE)
         write(f"{room}/crates/{SWITCH}/c/switch.c", SWITCH_C)
         lines = re.sub(r"^(\w+) *:", rf"\1: {SWITCH}", read(f"{room}/crates.txt"), flags=re.M)
@@ -178,10 +231,9 @@ def run_singly(edit, witness):
         copy = Copy(room)
         for file, text in apply(edit.crate, [it for it in edit.pairs if not is_ghost(it)]).items() if edit else ():
             write(f"{room}/crates/{edit.crate}/{file}", text)
-        if is_program(witness):
-            said, printed = copy.run(witness)
-            passes = printed == read_bytes(f"crates/{witness}/stdout") and bool(ENDED.search(said))
-            return first_error(said) if NO_BUILD.search(said) else passes
+        if crate := program_of(witness):
+            said = copy.build(crate)
+            return copy.passes(witness) if os.path.exists(copy.program(crate)) else first_error(said)
         crate, name = witness.split("::", 1)
         place = place_of_test(witness)
         copy.replace_tests(crate, lambda at, it: it[0] if at == place else "")
@@ -196,25 +248,30 @@ class Runs:
 
     def __init__(self, edits):
         self.ended, self.controls = {}, {}
-        of_tests = [it for it in edits if not is_program(it[1]) and bodies_of(it[0])]
-        apart = [it for it in edits if it not in of_tests]
-        others = dict.fromkeys(it for _, it in apart if not is_program(it))
-        self.run_apart(apart + self.run_together(dict(enumerate(of_tests, 1)), others))
+        together = [it for it in edits if bodies_of(it[0])]
+        apart = [it for it in edits if it not in together]
+        others = dict.fromkeys(it for _, it in apart)
+        self.run_apart(apart + self.run_together(dict(enumerate(together, 1)), others))
 
     def run_together(self, numbered, others):
-        """Runs numbered edits in one copy, with the controls of other tests too. Returns those that can't stand there."""
+        """Runs numbered edits in one copy, with other controls too. Returns those that can't stand there."""
         if not numbered:
             return []
         with copied(LEFT) as room, ThreadPoolExecutor(LANES) as pool:
             copy = Switched(room, numbered, others)
-            said = list(pool.map(lambda it: copy.run_tests(it, PREFIX), copy.crates))
-            bad, tests = set().union(*map(copy.edits_at, copy.crates, said)), list(copy.tests)
+            built = [*((it, copy.run_tests, PREFIX) for it in copy.crates), *((it, copy.build) for it in copy.programs)]
+            said = list(pool.map(lambda it: it[1](it[0], *it[2:]), built))
+            bad, tests = set().union(*map(copy.edits_at, [it[0] for it in built], said)), list(copy.tests)
+            runs = [it for it in copy.runs if os.path.exists(copy.program(program_of(it[0])))] if not bad else []
+            ended = dict(zip(runs, pool.map(lambda it: copy.passes(*it), runs)))
         if bad:
             left = {number: it for number, it in numbered.items() if number not in bad}
             return [numbered[it] for it in bad] + self.run_together(left, others)
         ran = [it for text in said for it in RAN.findall(text)]
         passed = {int(number): how == "ok" for number, of, how in ran if not of}
+        passed |= {number: how for (_, number), how in ended.items() if number}
         self.controls = {tests[int(of)]: how == "ok" for _, of, how in ran if of}
+        self.controls |= {witness: how is True for (witness, number), how in ended.items() if not number}
         lost = "; ".join(first_error(it) for it in said if NO_BUILD.search(it)) or "its test did not run"
         self.ended = {edit: passed.get(number, lost) for number, (edit, _) in numbered.items()}
         return []

@@ -1,5 +1,5 @@
 // Wrong answers, for scripts/web-platform-tests --self-test: what each changes, the test files or sweeps that must see
-// it, and the change of an answer of web_platform_calls (`answer`) or of the bytes that recode writes (`output`).
+// it, and the change of an answer of conformance (`answer`) or of the bytes that recode writes (`output`).
 'use strict';
 const hex = (text) => Buffer.from(text).toString('hex').toUpperCase();
 const isAbout = (question, kind, label) => `${question} `.startsWith(`${kind} ${hex(label)} `);

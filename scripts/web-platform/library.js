@@ -1,7 +1,7 @@
-// Questions to web_platform_calls: a line to its standard input, and the line that it answers.
+// Questions to `conformance web-platform`: a line to its standard input, and the line that it answers.
 //
 // Both ends are file descriptors that scripts/web-platform-tests has opened, so a question is answered before the call
-// returns. What stands in a line is in crates/web_platform_calls/src/main.rt.
+// returns. What stands in a line is in crates/conformance/src/web_platform.rt.
 'use strict';
 const fs = require('fs');
 
@@ -17,7 +17,7 @@ exports.open = function (input, output) {
     let line = '';
     while (!line.endsWith('\n')) {
       const length = fs.readSync(output, buffer);
-      if (length === 0) throw new Error('web_platform_calls has ended');
+      if (length === 0) throw new Error('conformance has ended');
       line += buffer.latin1Slice(0, length);
     }
     return line.slice(0, -1);

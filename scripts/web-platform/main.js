@@ -1,8 +1,8 @@
 // Runs a copy of the suite for scripts/web-platform-tests: main.js run|self-test COPY SUITE RECODE INPUT OUTPUT PATTERN
 //
 // COPY is the release of Debian whose copy it is, SUITE its folder, RECODE the program recode, and INPUT and OUTPUT the
-// file descriptors of web_platform_calls. Test files and sweeps whose names have PATTERN run. For each file there is a
-// line, and one for each subtest that has failed, with its message and its cause. The last line is
+// file descriptors of `conformance web-platform`. Test files and sweeps whose names have PATTERN run. For each file there
+// is a line, and one for each subtest that has failed, with its message and its cause. The last line is
 // `COPY: N passed, M failed, K of them explained`, or `COPY: N answers altered, M caught`.
 'use strict';
 const { spawnSync } = require('child_process');

@@ -1,7 +1,7 @@
 //! The programs that scripts/bench times, over the Rust crate encoding_rs: `peer FROM TO` recodes
 //! standard input as `recode FROM TO` does, `peer --utf16 TO` encodes code units of UTF-16LE as
-//! `bench_utf16 encode TO` does, and `peer FROM --utf16` decodes to UTF-16LE as
-//! `bench_utf16 decode FROM` does. The buffers are the same too: it reads 64 KiB at a time, decodes
+//! `bench utf16 encode TO` does, and `peer FROM --utf16` decodes to UTF-16LE as
+//! `bench utf16 decode FROM` does. The buffers are the same too: it reads 64 KiB at a time, decodes
 //! into 64 KiB or 65,536 code units, encodes into 64 KiB, and writes the output of each call. The
 //! status is 0, 1 where something was replaced, and 2 where a label is unknown.
 use encoding_rs::{CoderResult, Decoder, Encoder, Encoding, UTF_8};

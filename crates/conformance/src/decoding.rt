@@ -1,6 +1,12 @@
 //! The rows of decoders.
 
+use crate::among::{compare_among, read_among};
+use crate::bytes::{byte_row, compare_bytes};
 use crate::fault::RowFault;
+use crate::held::{call_beside, held_of};
+use crate::queries::{latin1, length, lengths};
+use crate::repeat::{compare_long, long_input};
+use crate::whole::whole;
 use crate::words::{Unreadable, Words, choice, number_of, pair_of};
 use enc_codec::{NewDecoder, VariantDecoder};
 use enc_names::EncodingId;
@@ -11,17 +17,18 @@ use test_support::decoding::{
     Given, Input, Others, Output, Use, compare_cuts_of, compare_input, make_call, new_decoder,
 };
 
-/// A decoder and its output.
+/// A decoder and its output, and the decoder of its codec, which makes the same calls.
 #[derive(Drop)]
-struct Target {
-    decoder: Decoder,
+pub struct Target {
+    pub decoder: Decoder,
     output: Output,
+    codec: VariantDecoder,
 }
 
 /// An encoding of a head, with the decoder of its codec.
 #[derive(Clone, Copy)]
-struct Subject {
-    encoding: Encoding,
+pub struct Subject {
+    pub encoding: Encoding,
     codec: VariantDecoder,
 }
 
@@ -59,7 +66,7 @@ fn output_of(word: &str) -> Result<Output, Unreadable> {
 }
 
 /// The encoding that a label names, with the decoder of its codec.
-fn subject_of(label: &str) -> Result<Subject, Unreadable> {
+pub(crate) fn subject_of(label: &str) -> Result<Subject, Unreadable> {
     match (
         Encoding::for_label(label.as_bytes()),
         EncodingId::for_label(label.as_bytes()),
@@ -146,10 +153,11 @@ impl Decoding {
                 break;
             }
             let output = output_of(words.word()?)?;
-            for Subject { encoding, .. } in &subjects {
+            for Subject { encoding, codec } in &subjects {
                 targets.push(Target {
                     decoder: new_decoder(*encoding, handling),
                     output,
+                    codec: *codec,
                 })?;
             }
         }
@@ -171,8 +179,18 @@ impl Decoding {
     ) -> Result<(), RowFault> {
         match name {
             "text" => self.text(alloc, words),
+            "whole" => whole(alloc, (&self.subjects, self.handling), words),
+            _ if self.targets.is_empty() => {
+                Err(Unreadable::Unknown("the head names no output").into())
+            }
             "call" => self.call(alloc, words),
             "used" => self.used(words),
+            "lengths" => lengths(&self.targets, words),
+            "length" => length(&self.targets, words),
+            "latin1" => latin1(alloc, &self.targets, words),
+            "among" => self.among(alloc, words),
+            "repeat" => self.repeat(alloc, words),
+            "bytes" => self.bytes(alloc, words),
             _ => Err(Unreadable::Unknown("no row of a decoder has this name").into()),
         }
     }
@@ -205,7 +223,8 @@ impl Decoding {
         Ok(())
     }
 
-    /// Makes the call `BYTES more|last ROOM RESULT READ WRITTEN replaced|- TEXT` with each decoder.
+    /// Makes the call `BYTES more|last ROOM RESULT READ WRITTEN replaced|- TEXT [held=N]` with each
+    /// decoder, and with those of codecs if no byte order mark is looked for.
     fn call(&mut self, alloc: Global, words: &mut Words<'_>) -> Result<(), RowFault> {
         let src = words.bytes(alloc)?;
         let last = choice(words.word()?, ("last", "more"))?;
@@ -214,7 +233,12 @@ impl Decoding {
         let (read, written) = (words.number()?, words.number()?);
         let replaced = choice(words.word()?, ("replaced", "-"))?;
         let text = words.text(alloc)?;
+        let held = held_of(words)?;
         words.end()?;
+        let is_off = self.handling == BomHandling::Off;
+        if held.is_some() && !is_off {
+            return Err(Unreadable::Unknown("held bytes are those of marks `off`").into());
+        }
         let given = Given {
             src: &src,
             last,
@@ -225,6 +249,37 @@ impl Decoding {
         for target in &mut self.targets {
             let output = (target.output, given);
             make_call(alloc, &mut target.decoder, output, (want, text.as_str()))?;
+            if is_off {
+                let expected = (want, text.as_str());
+                call_beside(alloc, &mut target.codec, output, expected, held)?;
+            }
+        }
+        Ok(())
+    }
+
+    /// Compares `LETTER BYTES TEXT [0+LEN]` at each place.
+    fn among(&mut self, alloc: Global, words: &mut Words<'_>) -> Result<(), RowFault> {
+        let row = read_among(alloc, words)?;
+        for Subject { encoding, .. } in &self.subjects {
+            compare_among(alloc, *encoding, &row)?;
+        }
+        Ok(())
+    }
+
+    /// Decodes `N BYTES TEXT [BYTES TEXT]`.
+    fn repeat(&mut self, alloc: Global, words: &mut Words<'_>) -> Result<(), RowFault> {
+        let input = long_input(alloc, words)?;
+        for Subject { encoding, .. } in &self.subjects {
+            compare_long(alloc, *encoding, &input)?;
+        }
+        Ok(())
+    }
+
+    /// Decodes the bytes of `FIRST TEXT` one by one.
+    fn bytes(&mut self, alloc: Global, words: &mut Words<'_>) -> Result<(), RowFault> {
+        let row = byte_row(alloc, words)?;
+        for Subject { encoding, .. } in &self.subjects {
+            compare_bytes(alloc, *encoding, &row)?;
         }
         Ok(())
     }

@@ -3,7 +3,7 @@
 use crate::words::Unreadable;
 use encoding_rs::OneShotError;
 use encoding_rs::run::RunError;
-use std::alloc::AllocError;
+use std::alloc::{AllocError, AllocFailed};
 use std::test::Fail;
 
 /// Why a row is named.
@@ -29,6 +29,12 @@ impl From<Unreadable> for RowFault {
 
 impl From<AllocError> for RowFault {
     fn from(_error: AllocError) -> RowFault {
+        RowFault::Unreadable(Unreadable::Memory)
+    }
+}
+
+impl<T: Drop> From<AllocFailed<T>> for RowFault {
+    fn from(_failed: AllocFailed<T>) -> RowFault {
         RowFault::Unreadable(Unreadable::Memory)
     }
 }

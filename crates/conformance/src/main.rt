@@ -4,19 +4,40 @@
 //! It writes a line for each row that does not hold or that can't be read, with its file and its
 //! line, and one for each file with the number of its rows. Why a row does not hold is written to
 //! standard error. The exit status is 0 if all rows hold, and otherwise 1.
+//!
+//! After a word of `calls`, `web-platform`, `growths` and `rows` the files that follow it, or
+//! standard input if none does, are for what the word names: the modules of these names, and rows.
 #![tactic(auto)]
 
+mod among;
+mod bytes;
+mod calls;
 mod decoding;
+mod encoding;
 mod fault;
+mod growths;
+mod held;
+mod hexadecimal;
+mod mode;
+mod names;
+mod one_shot;
+mod queries;
+mod repeat;
+mod sums;
+mod web_platform;
+mod whole;
 mod words;
 
 use decoding::Decoding;
+use encoding::Encoders;
 use fault::RowFault;
+use mode::{Mode, answer_questions, make_calls, refuse_growths};
 use std::alloc::Global;
+use std::env;
+use std::fs::File;
 use std::io::{self, Read};
 use std::process::{ExitCode, Termination};
 use std::test::Fail;
-use std::{env, fs};
 use words::{Unreadable, Words};
 
 /// What the rows after a head are of.
@@ -25,6 +46,7 @@ enum Section {
     /// No head was read before, or one that can't be read.
     None,
     Decoder(Decoding),
+    Encoder(Encoders),
 }
 
 /// Runs a row.
@@ -36,9 +58,18 @@ fn run(alloc: Global, line: &str, section: &mut Section) -> Result<(), RowFault>
         *section = Section::Decoder(Decoding::new(alloc, &mut words)?);
         return Ok(());
     }
+    if name == "encoder" {
+        *section = Section::None;
+        *section = Section::Encoder(Encoders::new(alloc, &mut words)?);
+        return Ok(());
+    }
+    if matches!(name, "encoding" | "label" | "mark" | "valid") {
+        return names::run(alloc, name, &mut words);
+    }
     match section {
         Section::None => Err(Unreadable::NoHead.into()),
         Section::Decoder(decoding) => decoding.run(alloc, name, &mut words),
+        Section::Encoder(encoders) => encoders.run(alloc, name, &mut words),
     }
 }
 
@@ -81,20 +112,38 @@ fn run_text(rt: &HostRuntime, path: &str, text: &str) -> io::Result<bool> {
     Ok(named == 0)
 }
 
-/// Runs the rows of each file that is named, or those of standard input.
+/// Runs a file or standard input. Returns whether all holds.
+fn run_input<R: Read>(rt: &HostRuntime, mode: Mode, path: &str, input: &mut R) -> io::Result<bool> {
+    match mode {
+        Mode::Rows => {
+            let mut text = String::new(rt.alloc());
+            input.read_to_string(&mut text)?;
+            return run_text(rt, path, text.as_str());
+        }
+        Mode::Calls => make_calls(rt, input)?,
+        Mode::WebPlatform => answer_questions(rt, input)?,
+        Mode::Growths => return Ok(refuse_growths(rt, input)),
+    }
+    Ok(true)
+}
+
+/// Runs each file that is named, and standard input if none is after the last word of a mode.
 fn run_files(rt: &HostRuntime) -> io::Result<bool> {
-    let (mut holds, mut is_named) = (true, false);
-    for path in env::args(rt)?.skip(1) {
+    let (mut mode, mut holds, mut is_named) = (Mode::Rows, true, false);
+    for word in env::args(rt)?.skip(1) {
+        if let Some(named) = Mode::named(word.as_str()) {
+            mode = named;
+            is_named = false;
+            continue;
+        }
         is_named = true;
-        let text = fs::read_to_string(rt, path.as_str())?;
-        holds &= run_text(rt, path.as_str(), text.as_str())?;
+        let mut file = File::open(rt, word.as_str())?;
+        holds &= run_input(rt, mode, word.as_str(), &mut file)?;
     }
-    if is_named {
-        return Ok(holds);
+    if !is_named {
+        holds &= run_input(rt, mode, "-", &mut rt.stdin())?;
     }
-    let mut text = String::new(rt.alloc());
-    rt.stdin().read_to_string(&mut text)?;
-    run_text(rt, "-", text.as_str())
+    Ok(holds)
 }
 
 fn main(rt: HostRuntime) -> ExitCode {

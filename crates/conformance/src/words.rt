@@ -213,6 +213,16 @@ pub(crate) fn hexadecimal(digits: &str) -> Result<u32, Unreadable> {
     Ok(number)
 }
 
+/// The number that sixteen hexadecimal digits stand for.
+pub(crate) fn long_hexadecimal(digits: &str) -> Result<u64, Unreadable> {
+    match digits.split_at_checked(8) {
+        Some((high, low)) if low.len() == 8 => {
+            Ok(((hexadecimal(high)? as u64) << 32) | hexadecimal(low)? as u64)
+        }
+        _ => Err(Unreadable::Number),
+    }
+}
+
 /// Appends what stands after a backslash: `xNN` or `u{N}`, and other characters.
 fn push_escaped(piece: &str, bytes: &mut Vec<u8>) -> Result<(), Unreadable> {
     if let [b'x', high, low, rest @ ..] = piece.as_bytes() {

@@ -2,9 +2,6 @@
 //!
 //! Those that the program prints of data/diary.txt are where Python's codec gb18030 stops.
 
-#[cfg(test)]
-mod tests;
-
 use enc_reader::{DecodeReader, FromRead, ReadStop};
 use encoding_rs::Encoding;
 use std::alloc::Global;

@@ -4,9 +4,6 @@
 ghost use Rattle.std.specs.Prelude.{◌≤◌};
 ghost use Rattle.examples.specs.Scanner.{bytes_left};
 
-#[cfg(test)]
-mod tests;
-
 use crate::scanner::{Run, Scanner};
 use enc_reader::{DecodeReader, FromRead};
 use encoding_rs::{Encoding, WINDOWS_1252};

@@ -2,7 +2,8 @@
 //!
 //! `examples detection FILE=LABEL ..` finds the encodings of files. The others read standard input:
 //! `examples NAME LABEL`, where `mail-part` and `meta-prescan` take no label. `examples all` runs
-//! each over the files of `data`, from which it has to be started.
+//! each over the files of `data`, from which it has to be started. A file of [`PARTED`] has many
+//! inputs: each has the byte 1E and a line before it, and a line feed after it.
 #![tactic(auto)]
 
 mod detection;
@@ -14,7 +15,7 @@ mod mail_part;
 mod meta_prescan;
 mod scanner;
 
-use std::io::{Error, Read};
+use std::io::{BufRead, Error, Read, Write};
 use std::{env, fs, io};
 
 /// The files whose encodings are found, with their labels.
@@ -40,6 +41,17 @@ const INPUTS: &[(&str, &str, &str)] = &[
     ("legacy-writer", "iso-2022-jp", "letter.txt"),
 ];
 
+/// The examples that run over each part of a file, whose file `stdout` says what each gives. Places
+/// of malformed sequences are those of Python's codecs, and in ISO-2022-JP and UTF-16 by hand from
+/// the Encoding Standard; charsets those that Python's `email` finds, except that it neither drops
+/// a comment nor reads a backslash before a letter (RFC 2045, 5322); encodings of heads those of
+/// the HTML Standard's steps by hand.
+const PARTED: &[(&str, &str)] = &[
+    ("faults", "faults.txt"),
+    ("mail-part", "mails.txt"),
+    ("meta-prescan", "heads.txt"),
+];
+
 /// Runs an example over an input.
 fn run<R: Read>(rt: &HostRuntime, name: &str, label: &str, input: &mut R) -> io::Result<()> {
     let mut out = rt.stdout();
@@ -54,6 +66,20 @@ fn run<R: Read>(rt: &HostRuntime, name: &str, label: &str, input: &mut R) -> io:
     }
 }
 
+/// Runs an example over each part of a file. The line before a part says what it is, or is its
+/// label. It is written too.
+fn run_parts(rt: &HostRuntime, name: &str, bytes: &[u8]) -> io::Result<()> {
+    for part in bytes.split(|byte| *byte == 0x1E).skip(1) {
+        let mut input = part;
+        let mut line = String::new(rt.alloc());
+        let _len = input.read_line(&mut line)?;
+        rt.stdout().write_all(line.as_bytes())?;
+        let mut input = input.strip_suffix(b"\n").unwrap_or(input);
+        run(rt, name, line.trim_ascii_end(), &mut input)?;
+    }
+    Ok(())
+}
+
 /// Runs each example over its files.
 fn run_all(rt: &HostRuntime) -> io::Result<()> {
     for (file, label) in FILES {
@@ -62,6 +88,9 @@ fn run_all(rt: &HostRuntime) -> io::Result<()> {
     for (name, label, file) in INPUTS {
         let bytes = fs::read(rt, file)?;
         run(rt, name, label, &mut bytes.as_slice())?;
+    }
+    for (name, file) in PARTED {
+        run_parts(rt, name, &fs::read(rt, file)?)?;
     }
     Ok(())
 }

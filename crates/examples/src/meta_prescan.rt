@@ -7,8 +7,6 @@
 
 mod elements;
 mod markup;
-#[cfg(test)]
-mod tests;
 
 use crate::meta_prescan::markup::find_meta;
 use crate::scanner::{Case, Run, Scanner};

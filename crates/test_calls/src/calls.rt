@@ -1,10 +1,10 @@
-//! The calls of `encoding_rs` by themselves, each once. Expected values are by hand from the
-//! Encoding Standard.
+//! Calls that the documents show, runs of decoders, and a set of encodings. Expected values are by
+//! hand from the Encoding Standard.
 
 use encoding_rs::run::{BomHandling, DecodeCall, RunError, decode_run};
 use encoding_rs::*;
+use std::collections::HashSet;
 use std::test::Fail;
-use test_support::encodings::SECOND_CONSTANTS;
 
 #[test]
 fn names_its_encoding(rt: HostRuntime) -> Result<(), Fail> {
@@ -17,21 +17,6 @@ fn names_its_encoding(rt: HostRuntime) -> Result<(), Fail> {
     Ok(())
 }
 
-// A character in two chunks. crates/example_chunks has the loop that the README shows.
-#[test]
-fn decodes_in_chunks(rt: HostRuntime) {
-    let mut text = [0; 8];
-    let mut decoder = SHIFT_JIS.new_decoder();
-    // half of a character: its first byte is read, and nothing is written
-    let outcome = decoder.decode_to_utf8(b"\x93", &mut text, false);
-    assert!(rt; outcome == (CoderResult::InputEmpty, 1, 0, false));
-    // the rest, with `last`: all is read, three bytes are written, and nothing was malformed
-    assert!(rt; !decoder.is_finished());
-    let outcome = decoder.decode_to_utf8(b"\xFA", &mut text, true);
-    assert!(rt; outcome == (CoderResult::InputEmpty, 1, 3, false));
-    assert!(rt; &text[..3] == "日".as_bytes());
-}
-
 // The README shows the first call.
 #[test]
 fn recodes_at_once(rt: HostRuntime) -> Result<(), Fail> {
@@ -41,56 +26,6 @@ fn recodes_at_once(rt: HostRuntime) -> Result<(), Fail> {
     assert!(rt; &bytes[..] == b"abc\x80\xE4&#26085;".as_slice());
     assert!(rt; (encoding, had_unmappables) == (WINDOWS_1257, true));
     Ok(())
-}
-
-// A character and its escape sequences in two calls.
-#[test]
-fn encodes_in_chunks(rt: HostRuntime) {
-    let mut bytes = [0; 8];
-    let mut encoder = ISO_2022_JP.new_encoder();
-    // an escape sequence and two bytes for one character; the escape sequence at the end is still
-    // to come
-    let outcome = encoder.encode_from_utf8_without_replacement("あ", &mut bytes, false);
-    assert!(rt; outcome == (EncoderResult::InputEmpty, 3, 5));
-    assert!(rt; &bytes[..5] == b"\x1B$B$\"".as_slice());
-    let outcome = encoder.encode_from_utf8_without_replacement("", &mut bytes, true);
-    assert!(rt; outcome == (EncoderResult::InputEmpty, 0, 3));
-    assert!(rt; &bytes[..3] == b"\x1B(B".as_slice());
-}
-
-#[test]
-fn looks_for_marks(rt: HostRuntime) {
-    let bytes = b"\xFE\xFF\x00a";
-    let mut buffer = [0; 8];
-    let mut decoder = UTF_8.new_decoder();
-    assert!(rt; decoder.encoding() == UTF_8);
-    assert!(rt; !decoder.is_finished());
-    let outcome = decoder.decode_to_utf8(bytes, &mut buffer, true);
-    assert!(rt; outcome == (CoderResult::InputEmpty, 4, 1, false));
-    assert!(rt; buffer[0] == b'a');
-    assert!(rt; decoder.encoding() == UTF_16BE);
-    assert!(rt; decoder.is_finished());
-    let mut decoder = UTF_16BE.new_decoder_with_bom_removal();
-    assert!(rt; !decoder.is_finished());
-    let outcome = decoder.decode_to_utf8_without_replacement(bytes, &mut buffer, true);
-    assert!(rt; outcome == (DecoderResult::InputEmpty, 4, 1));
-    let mut decoder = UTF_16LE.new_decoder_with_bom_removal();
-    assert!(rt; !decoder.is_finished());
-    let outcome = decoder.decode_to_utf8_without_replacement(bytes, &mut buffer, true);
-    assert!(rt; outcome == (DecoderResult::InputEmpty, 4, 6));
-    assert!(rt; decoder.encoding() == UTF_16LE);
-}
-
-#[test]
-fn second_constants_are_equal(rt: HostRuntime) {
-    for (encoding, second) in SECOND_CONSTANTS {
-        assert!(rt; *encoding == *second);
-    }
-    for i in 0..SECOND_CONSTANTS.len() {
-        for j in 0..SECOND_CONSTANTS.len() {
-            assert!(rt; (SECOND_CONSTANTS[i].0 == SECOND_CONSTANTS[j].0) == (i == j));
-        }
-    }
 }
 
 #[test]
@@ -141,5 +76,39 @@ fn a_run_makes_its_calls(rt: HostRuntime) -> Result<(), Fail> {
     assert!(rt; report.text.as_bytes() == b"a".as_slice());
     assert!(rt; report.read == 3);
     assert!(rt; format!(in rt.alloc(); "{:?}", RunError::Memory)?.as_str() == "Memory");
+    Ok(())
+}
+
+/// A call without replacement that gets a byte, and has room for any character.
+const ONE_BYTE: DecodeCall = DecodeCall {
+    utf16: false,
+    replace: false,
+    offer: 1,
+    room: 4,
+};
+
+#[test]
+fn a_run_of_single_bytes_ends_within_its_calls(rt: HostRuntime) -> Result<(), Fail> {
+    let bytes = b"\x810\x81\xFF";
+    let report = decode_run(rt.alloc(), GB18030, BomHandling::Off, bytes, &[ONE_BYTE; 9])?;
+    assert!(rt; report.text.as_str() == "\u{FFFD}0\u{FFFD}");
+    assert!(rt; report.faults.as_slice() == [(0, 1), (2, 2)].as_slice());
+    assert!(rt; (report.read, report.calls) == (4, 6));
+    assert!(rt; report.finished && report.had_errors);
+    Ok(())
+}
+
+#[test]
+fn a_set_holds_what_was_put_in(rt: HostRuntime) -> Result<(), Fail> {
+    let mut set = HashSet::new(rt.alloc());
+    set.insert(UTF_8)?;
+    set.insert(ISO_2022_JP)?;
+    assert!(rt; set.contains(&UTF_8));
+    assert!(rt; set.contains(&ISO_2022_JP));
+    assert!(rt; !set.contains(&WINDOWS_1252));
+    assert!(rt; set.remove(&ISO_2022_JP));
+    assert!(rt; set.contains(&UTF_8));
+    assert!(rt; !set.contains(&ISO_2022_JP));
+    assert!(rt; set.len() == 1);
     Ok(())
 }

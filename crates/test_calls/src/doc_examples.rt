@@ -3,7 +3,6 @@
 //! Expected values are by Python's codecs, by the tables of the Encoding Standard or by hand from
 //! its text.
 
-use enc_reader::{DecodeReader, FromRead};
 use encoding_rs::*;
 use std::borrow::{CowSlice, CowStr};
 use std::test::Fail;
@@ -224,17 +223,4 @@ fn returns_valid_prefixes(rt: HostRuntime) {
     assert!(rt; Encoding::utf8_valid_up_to(b"caf\xC3\xA9\xFF") == 5);
     assert!(rt; Encoding::ascii_valid_up_to(b"caf\xC3\xA9\xFF") == 3);
     assert!(rt; Encoding::iso_2022_jp_ascii_valid_up_to(b"ab\x1B$B") == 2);
-}
-
-// Reading
-
-#[test]
-fn reads_text(rt: HostRuntime) {
-    let mut source = FromRead::new(b"\x93caf\xE9\x94".as_slice());
-    let mut buffer = [0; 64];
-    let mut reader = DecodeReader::new(&mut source, Some(WINDOWS_1252), &mut buffer);
-    let mut text = [0; 64];
-    assert!(rt; reader.read_str(&mut text) == Ok(11));
-    assert!(rt; &text[..11] == "“café”".as_bytes());
-    assert!(rt; reader.read_str(&mut text) == Ok(0));
 }

@@ -1,16 +1,13 @@
-//! One-shot calls: rows of the Encoding Standard's "decode", "UTF-8 decode", "UTF-8 decode without
-//! BOM" and "UTF-8 decode without BOM or fail" (6) by hand, and long inputs compared with runs and
-//! single bytes. All rows of the other modules go through one-shot calls too
-//! (`test_support::decoding`).
+//! One-shot calls: their memory, long inputs compared with runs and single bytes, and texts for
+//! debugging. conformance/one-shot.txt has the rows of whole inputs. All rows `text` go through
+//! one-shot calls too (`test_support::decoding`).
 
 use encoding_rs::run::BomHandling;
 use encoding_rs::*;
 use std::alloc::{AllocError, Global};
 use std::process::Abort;
 use std::test::Fail;
-use test_support::decoding::{
-    compare_single_bytes, compare_strict, compare_with_run, decode_at_once,
-};
+use test_support::decoding::{compare_single_bytes, compare_with_run, decode_at_once};
 use test_support::encodings::table;
 
 const OFF: BomHandling = BomHandling::Off;
@@ -19,137 +16,10 @@ const SNIFF: BomHandling = BomHandling::Sniff;
 
 const REMOVE: BomHandling = BomHandling::Remove;
 
-/// An encoding, the byte order marks looked for, and the bytes; their text, the encoding that is
-/// returned, and whether a sequence is malformed.
-type WholeRow = (
-    Encoding,
-    BomHandling,
-    &'static [u8],
-    &'static str,
-    Encoding,
-    bool,
-);
-
-/// UTF-8 after its byte order mark.
-const MARKED: &[u8] = b"\xEF\xBB\xBF\xE2\x82\xAC\xC3\xA4";
-
-/// The same with a malformed byte.
-const FAULTY: &[u8] = b"\xEF\xBB\xBF\xE2\x82\xAC\x80\xC3\xA4";
-
-const WHOLE_ROWS: &[WholeRow] = &[
-    (
-        SHIFT_JIS,
-        SNIFF,
-        b"\x83\x6E\x83\x8D\x81\x5B\x81\x45\x83\x8F\x81\x5B\x83\x8B\x83\x68",
-        "\u{30CF}\u{30ED}\u{30FC}\u{30FB}\u{30EF}\u{30FC}\u{30EB}\u{30C9}",
-        SHIFT_JIS,
-        false,
-    ),
-    (WINDOWS_1257, SNIFF, b"", "", WINDOWS_1257, false),
-    (REPLACEMENT, SNIFF, b"AB", "\u{FFFD}", REPLACEMENT, true),
-    (REPLACEMENT, SNIFF, b"", "", REPLACEMENT, false),
-    (UTF_8, OFF, b"\xE2\x82\xAC", "\u{20AC}", UTF_8, false),
-    (UTF_8, OFF, b"\xE2\x82", "\u{FFFD}", UTF_8, true),
-    // the first length has room for two of them
-    (
-        UTF_8,
-        OFF,
-        b"\xFF\xFF\xFF\xFF\xFF\xFF\xFF\xFF",
-        "\u{FFFD}\u{FFFD}\u{FFFD}\u{FFFD}\u{FFFD}\u{FFFD}\u{FFFD}\u{FFFD}",
-        UTF_8,
-        true,
-    ),
-    // a byte order mark sets the encoding, or is dropped, or is text
-    (WINDOWS_1257, SNIFF, MARKED, "\u{20AC}\u{E4}", UTF_8, false),
-    (UTF_8, SNIFF, MARKED, "\u{20AC}\u{E4}", UTF_8, false),
-    (
-        WINDOWS_1257,
-        SNIFF,
-        FAULTY,
-        "\u{20AC}\u{FFFD}\u{E4}",
-        UTF_8,
-        true,
-    ),
-    (UTF_8, SNIFF, FAULTY, "\u{20AC}\u{FFFD}\u{E4}", UTF_8, true),
-    (WINDOWS_1257, SNIFF, b"\xFF\xFEa\x00", "a", UTF_16LE, false),
-    (UTF_8, REMOVE, MARKED, "\u{20AC}\u{E4}", UTF_8, false),
-    (
-        WINDOWS_1257,
-        REMOVE,
-        MARKED,
-        "\u{13C}\u{BB}\u{E6}\u{101}\u{201A}\u{AC}\u{106}\u{A4}",
-        WINDOWS_1257,
-        false,
-    ),
-    (UTF_8, OFF, MARKED, "\u{FEFF}\u{20AC}\u{E4}", UTF_8, false),
-    (
-        UTF_8,
-        OFF,
-        FAULTY,
-        "\u{FEFF}\u{20AC}\u{FFFD}\u{E4}",
-        UTF_8,
-        true,
-    ),
-    // incomplete sequences at the end
-    (ISO_2022_JP, OFF, b"a\x1B$B", "a", ISO_2022_JP, false),
-    (ISO_2022_JP, OFF, b"a\x1B$", "a\u{FFFD}$", ISO_2022_JP, true),
-];
-
-/// Compares a one-shot call, and that without replacement if no byte order mark is looked for.
-fn compare_whole(rt: &impl Abort, alloc: Global, row: &WholeRow) -> Result<(), Fail> {
-    let (encoding, handling, bytes, want, used, is_malformed) = *row;
-    let (text, by, had_errors) = decode_at_once(alloc, (encoding, handling), bytes)?;
-    assert!(rt;
-        text.as_bytes() == want.as_bytes() && (by, had_errors) == (used, is_malformed),
-        "{encoding:?} {bytes:?}"
-    );
-    match handling {
-        BomHandling::Off => {
-            let answer = (want.as_bytes(), is_malformed);
-            compare_strict(alloc, (encoding, bytes), answer)
-        }
-        BomHandling::Sniff | BomHandling::Remove => Ok(()),
-    }
-}
-
-#[test]
-fn whole_inputs_have_these_texts(rt: HostRuntime) -> Result<(), Fail> {
-    for row in WHOLE_ROWS {
-        compare_whole(&rt, rt.alloc(), row)?;
-    }
-    Ok(())
-}
-
-/// Bytes of windows-1257 without a byte order mark, their text, and whether a sequence is
-/// malformed.
-const UNMARKED: &[(&[u8], &str, bool)] = &[
-    (b"abc", "abc", false),
-    (b"abc\x80\xE4", "abc\u{20AC}\u{E4}", false),
-    (b"abc\x80\xA1\xE4", "abc\u{20AC}\u{FFFD}\u{E4}", true),
-];
-
-#[test]
-fn without_a_mark_all_calls_are_alike(rt: HostRuntime) -> Result<(), Fail> {
-    for (bytes, text, is_malformed) in UNMARKED {
-        for handling in [SNIFF, REMOVE, OFF] {
-            let row = (
-                WINDOWS_1257,
-                handling,
-                *bytes,
-                *text,
-                WINDOWS_1257,
-                *is_malformed,
-            );
-            compare_whole(&rt, rt.alloc(), &row)?;
-        }
-    }
-    Ok(())
-}
-
 #[test]
 fn empty_inputs_take_no_memory(rt: HostRuntime) -> Result<(), Fail> {
     let alloc = rt.alloc();
-    for (encoding, _, _) in table() {
+    for encoding in table() {
         let (text, _, _) = encoding.decode(alloc, b"")?;
         assert!(rt; text.capacity() == 0);
         let (text, _) = encoding.decode_with_bom_removal(alloc, b"")?;
@@ -211,7 +81,10 @@ fn reasons_have_different_texts(rt: HostRuntime) -> Result<(), Fail> {
 }
 
 /// The length of the long input, in bytes.
-const LONG: usize = 100_000;
+const LONG: usize = 6_000;
+
+/// The number of bytes of it that are decoded one by one.
+const SINGLE: usize = 1_000;
 
 /// Bytes of all encodings: words, characters in one encoding or another, escape sequences, and
 /// incomplete sequences.
@@ -230,7 +103,7 @@ const PIECES: &[&[u8]] = &[
 ];
 
 /// The number of times that the first piece stands between two others.
-const STRETCH: usize = 16;
+const STRETCH: usize = 6;
 
 /// Returns the long input, the same each time: pieces, single bytes, and stretches of ASCII, in the
 /// order of a linear congruential generator.
@@ -261,10 +134,10 @@ fn long_bytes(alloc: Global) -> Result<Vec<u8>, AllocError> {
 
 #[test]
 fn two_encodings_have_two_names_for_debugging(rt: HostRuntime) -> Result<(), Fail> {
-    for (i, (one, _, _)) in table().iter().enumerate() {
+    for (i, one) in table().iter().enumerate() {
         let text = format!(in rt.alloc(); "{one:?}")?;
         assert!(rt; !text.is_empty());
-        for (j, (other, _, _)) in table().iter().enumerate() {
+        for (j, other) in table().iter().enumerate() {
             let other = format!(in rt.alloc(); "{other:?}")?;
             assert!(rt; (text == other) == (i == j), "{other}");
         }
@@ -293,22 +166,22 @@ fn decoders_and_encoders_have_debug_texts(rt: HostRuntime) -> Result<(), Fail> {
     Ok(())
 }
 
-/// Decodes the long input at once, in each mode, and compares that with a run, and with single
-/// bytes.
+/// Decodes the long input at once, in each mode, and compares that with a run; and its first bytes
+/// with single bytes.
 fn compare_long(alloc: Global, encoding: Encoding, bytes: &[u8]) -> Result<(), Fail> {
     for handling in [SNIFF, REMOVE, OFF] {
-        let mode = (encoding, handling);
-        let (text, _) = compare_with_run(alloc, mode, bytes)?;
-        compare_single_bytes(mode, bytes, text.as_bytes())?;
+        let _ = compare_with_run(alloc, (encoding, handling), bytes)?;
     }
-    Ok(())
+    let (first, _) = bytes.split_at(SINGLE.min(bytes.len()));
+    let (text, _) = encoding.decode_without_bom_handling(alloc, first)?;
+    compare_single_bytes((encoding, OFF), first, text.as_bytes())
 }
 
 #[test]
 fn long_inputs_of_every_encoding(rt: HostRuntime) -> Result<(), Fail> {
     let bytes = long_bytes(rt.alloc())?;
     assert!(rt; bytes.len() == LONG);
-    for (encoding, _, _) in table() {
+    for encoding in table() {
         compare_long(rt.alloc(), *encoding, &bytes)?;
     }
     Ok(())

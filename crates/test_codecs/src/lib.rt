@@ -1,21 +1,17 @@
-//! Tests of each decoder and encoder, with every split of its input and every small output buffer;
-//! of index look-ups, and of outputs; and of each public item, by its path (`surface`).
+//! Tests of each encoder, of index look-ups, of outputs, and of the second decoder of UTF-8; and of
+//! each public item, by its path (`surface`).
 //!
-//! Each codec has a module in `codecs` with a table of rows. One call runs the rows through the
-//! `Encoding` and through the codec's `RawDecoder`. `encoders` has texts and their bytes, with
-//! references and without, from both forms of input. Expected values come from outside, as each
+//! `encoders` has runs and lists, which rows can't say. Expected values come from outside, as each
 //! table says: from examples of the Encoding Standard, from Unicode's tables, and from other
-//! converters.
+//! converters. Decoders and encoders have rows in conformance/.
 #![tactic(auto)]
 
-#[cfg(test)]
-mod codecs;
-#[cfg(test)]
-mod decoders;
 #[cfg(test)]
 mod encoders;
 #[cfg(test)]
 mod indexes;
+#[cfg(test)]
+mod plain;
 #[cfg(test)]
 mod surface;
 #[cfg(test)]

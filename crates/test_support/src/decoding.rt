@@ -8,7 +8,6 @@ mod one_shot;
 mod outputs;
 mod raw;
 pub mod raw_calls;
-mod reads;
 mod rows;
 mod runs;
 mod small_offers;
@@ -21,7 +20,6 @@ pub use cuts::{Others, compare_all, compare_cuts_of, compare_input, compare_offe
 pub use mixed::compare_mixed;
 pub use one_shot::{Mode, compare_single_bytes, compare_strict, compare_with_run, decode_at_once};
 pub use outputs::{ALL_OUTPUTS, Answer, Given, Output, call_into};
-pub use reads::compare_read;
 pub use rows::{Cut, Input, MOST_ROOM, Row, input_of};
 pub use runs::{Run, Use, run_chunks, run_cut, run_whole};
 pub use small_offers::compare_small_offers;

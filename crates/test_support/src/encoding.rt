@@ -3,6 +3,8 @@
 
 pub mod call_rows;
 pub mod calls;
+pub mod long_texts;
+mod mixed;
 mod predictions;
 pub mod runs;
 mod single_characters;

@@ -1,5 +1,5 @@
 //! Helpers of the test crates: the table of all encodings, the samples of all codecs, the forms of
-//! rows, devices driven by steps, and runs of rows over decoders and encoders.
+//! rows, and runs of rows over decoders and encoders.
 //!
 //! It is a library so that its functions are proved once, and stay proved while rows change. A
 //! library may not abort: a helper returns a `Fail` that names the case if a row does not hold, and
@@ -8,11 +8,6 @@
 
 pub mod cases;
 pub mod decoding;
-pub mod devices;
 pub mod encoding;
 pub mod encodings;
-pub mod growths;
-pub mod lent_growths;
-pub mod reading;
-pub mod recoding;
 pub mod samples;

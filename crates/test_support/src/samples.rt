@@ -23,8 +23,8 @@ pub mod utf_8;
 pub mod x_user_defined;
 
 pub use sample::{
-    Among, BarredRow, Decoded, DecoderLengths, DecoderLengthsRow, DecoderLimitsRow, EncoderLengths,
-    EncoderLengthsRow, Limit, Pointer, Sample,
+    Among, BarredRow, Decoded, DecoderLengths, DecoderLengthsRow, EncoderLengths,
+    EncoderLengthsRow, Pointer, Sample,
 };
 
 /// The samples, in the order of `Codec`. Single-byte encodings have several. Not a constant: the

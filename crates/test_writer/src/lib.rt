@@ -1,14 +1,29 @@
-//! Worked examples of `enc_writer`: texts in several writes and their bytes, sinks that fail and
-//! are flushed, and the errors that a sink keeps.
+//! Tests of `enc_writer` and of `recode_engine`: texts in several writes and their bytes, sinks
+//! that fail and are flushed, and runs from a source to a sink.
+//!
+//! Bytes of mappable characters are of Python's codecs; other expected values come from the
+//! Encoding Standard, by hand.
 #![tactic(auto)]
 
 #[cfg(test)]
-mod errors;
-#[cfg(test)]
 mod faults;
 #[cfg(test)]
-mod flushes;
+mod labels;
+#[cfg(test)]
+mod long_texts;
+#[cfg(test)]
+mod marks;
+#[cfg(test)]
+mod recoding;
+#[cfg(test)]
+mod run_faults;
+#[cfg(test)]
+mod runs;
 #[cfg(test)]
 mod sinks;
 #[cfg(test)]
+mod surface;
+#[cfg(test)]
 mod texts;
+#[cfg(test)]
+mod writing;

@@ -1,5 +1,5 @@
-//! The twin of `bench_calls` over the Rust crate encoding_rs, for scripts/bench: the same arguments,
-//! the same pieces of standard input, the same calls and the same sum.
+//! The twin of `bench calls` over the Rust crate encoding_rs, for scripts/bench: the same arguments
+//! after `calls`, the same pieces of standard input, the same calls and the same sum.
 use encoding_rs::{CoderResult, Decoder, Encoder, Encoding};
 use std::io::{self, Read};
 use std::process::ExitCode;

@@ -129,6 +129,9 @@ pub enum Others {
     All,
 }
 
+/// The rooms below this go through every cut, and the others through few.
+const CUT_ROOMS: usize = 5;
+
 /// Runs an input into one output with each room below `rooms`, with and without replacement.
 fn compare_output(
     alloc: Global,
@@ -139,6 +142,7 @@ fn compare_output(
     for reporting in [false, true] {
         let way = Use { reporting, ..way };
         for room in 0..rooms {
+            let wide = wide && room < CUT_ROOMS;
             compare_each_cut(alloc, (way, wide), input, room)?;
         }
     }

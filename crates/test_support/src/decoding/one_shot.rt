@@ -2,7 +2,6 @@
 
 use crate::cases::{Case, expect, expect_bytes};
 use crate::decoding::calls::new_decoder;
-use crate::decoding::reads::compare_read;
 use crate::decoding::rows::{Input, split};
 use crate::decoding::runs::Use;
 use encoding_rs::run::{BomHandling, DecodeCall, decode_run};
@@ -89,7 +88,6 @@ pub(crate) fn compare_at_once(alloc: Global, way: Use, input: &Input<'_>) -> Res
         input: input.bytes,
         room: 0,
     };
-    compare_read(alloc, way.encoding, input.bytes)?;
     let mode = (way.encoding, way.handling);
     let (text, had_errors) = compare_with_run(alloc, mode, input.bytes)?;
     expect_bytes(text.as_bytes(), input.text, "another text at once", &case)?;

@@ -5,16 +5,16 @@ use crate::cases::{Case, expect, expect_bytes};
 use crate::decoding::outputs::Output;
 use crate::decoding::rows::Cut;
 use crate::decoding::runs::{Use, run_cut, run_whole};
-use encoding_rs::Encoding;
 use encoding_rs::run::{BomHandling, DecodeCall, decode_run};
+use encoding_rs::{Encoding, UTF_8, UTF_16BE, UTF_16LE};
 use std::alloc::{AllocError, Global};
 use std::test::Fail;
 
-/// The first bytes of a byte order mark that breaks off after each of them; and nothing.
-const FRONTS: [&[u8]; 5] = [b"", b"\xEF", b"\xEF\xBB", b"\xFE", b"\xFF"];
+/// The first bytes of a byte order mark that breaks off after each of them.
+const FRONTS: [&[u8]; 4] = [b"\xEF", b"\xEF\xBB", b"\xFE", b"\xFF"];
 
-/// No room here is greater.
-const GREATEST_ROOM: usize = 7;
+/// The rooms of runs: too small for U+FFFD or for a character, and enough for two.
+const ROOMS: [usize; 6] = [0, 1, 2, 3, 4, 7];
 
 /// Returns `count` calls of the kind of a use, with a byte each.
 fn single_byte_calls(
@@ -65,7 +65,7 @@ fn compare_end(
 }
 
 /// Compares single bytes with the input at once, in the rooms of length queries, in which the
-/// decoder is never full. A run in each room from 0 to 7 writes a prefix of the text.
+/// decoder is never full. A run in each room of [`ROOMS`] writes a prefix of the text.
 fn compare_single_offers(alloc: Global, way: Use, bytes: &[u8]) -> Result<(), Fail> {
     let case = Case {
         name: way.encoding.name(),
@@ -81,7 +81,7 @@ fn compare_single_offers(alloc: Global, way: Use, bytes: &[u8]) -> Result<(), Fa
     let single = run_cut(alloc, queries, bytes, Cut::Everywhere, 0)?;
     expect(single.is_finished, "single bytes are not finished", &case)?;
     expect_bytes(&single.text, &whole.text, "single bytes differ", &case)?;
-    for room in 0..GREATEST_ROOM + 1 {
+    for room in ROOMS {
         compare_end(alloc, (way, room), bytes, &whole.text)?;
     }
     Ok(())
@@ -106,18 +106,22 @@ pub fn compare_small_offers(
     Ok(())
 }
 
-/// The same after byte order marks that break off, by decoders that look for all, for that of their
-/// encoding, and for none.
+/// The same after byte order marks that break off, by decoders that look for them, and after none.
+/// Only three encodings have a byte order mark of their own.
 pub(crate) fn compare_after_broken_marks(
     alloc: Global,
     encoding: Encoding,
     bytes: &[u8],
 ) -> Result<(), Fail> {
+    let has_own = [UTF_8, UTF_16BE, UTF_16LE].contains(&encoding);
+    compare_small_offers(alloc, (encoding, BomHandling::Off), bytes)?;
+    compare_small_offers(alloc, (encoding, BomHandling::Sniff), bytes)?;
     for front in FRONTS {
         let mut all = front.to_vec(alloc)?;
         all.extend_from_slice(bytes)?;
-        for handling in [BomHandling::Off, BomHandling::Sniff, BomHandling::Remove] {
-            compare_small_offers(alloc, (encoding, handling), &all)?;
+        compare_small_offers(alloc, (encoding, BomHandling::Sniff), &all)?;
+        if has_own {
+            compare_small_offers(alloc, (encoding, BomHandling::Remove), &all)?;
         }
     }
     Ok(())

@@ -6,8 +6,11 @@ use encoding_rs::{CoderResult, Encoder, EncoderResult};
 use std::alloc::{AllocError, Global};
 use std::test::Fail;
 
-/// The greatest room of a call, in bytes.
+/// Room enough for any call of a short text, in bytes.
 pub const MOST_ROOM: usize = 64;
+
+/// The greatest room of a call that takes no memory. Any character has room in it.
+pub const SMALL_ROOM: usize = 32;
 
 /// Each byte of an output buffer before a call.
 const UNTOUCHED: u8 = 0xA5;
@@ -48,7 +51,7 @@ impl Answer {
     }
 }
 
-/// Input of a call into a slice.
+/// The input of a call into a slice.
 #[derive(Clone, Copy)]
 pub enum Input<'a> {
     /// UTF-8.
@@ -126,25 +129,43 @@ fn encode(
     }
 }
 
-/// Makes a call into a slice, and appends the bytes that it writes. The rest of its buffer stays.
-pub fn call_to_slice(
+/// Makes a call into the front of a buffer, and appends the bytes that it writes. The rest of its
+/// room stays.
+fn call_to_front(
     encoder: &mut Encoder,
     replaces: bool,
     (input, last): (Input<'_>, bool),
-    room: usize,
+    (buffer, room): (&mut [u8], usize),
     bytes: &mut Vec<u8>,
 ) -> Result<Answer, Fail> {
-    let mut buffer = [UNTOUCHED; MOST_ROOM];
     let Some(dst) = buffer.get_mut(..room) else {
         return Err(Fail::new("a call has more room than its buffer"));
     };
     let (answer, written) = encode(encoder, replaces, (input, last), dst);
-    let (front, rest) = buffer.split_at(written.min(MOST_ROOM));
+    let (front, rest) = dst.split_at(written.min(room));
     if written > room || rest.iter().any(|byte| *byte != UNTOUCHED) {
         return Err(Fail::new("a call writes outside of its room"));
     }
     bytes.extend_from_slice(front)?;
     Ok(answer)
+}
+
+/// Makes a call into a slice, and appends the bytes that it writes. The rest of its room stays.
+pub fn call_to_slice(
+    alloc: Global,
+    (encoder, replaces): (&mut Encoder, bool),
+    (input, last): (Input<'_>, bool),
+    room: usize,
+    bytes: &mut Vec<u8>,
+) -> Result<Answer, Fail> {
+    if room <= SMALL_ROOM {
+        let mut buffer = [UNTOUCHED; SMALL_ROOM];
+        let front = (buffer.as_mut_slice(), room);
+        return call_to_front(encoder, replaces, (input, last), front, bytes);
+    }
+    let mut buffer = vec![in alloc; UNTOUCHED; room]?;
+    let front = (buffer.as_mut_slice(), room);
+    call_to_front(encoder, replaces, (input, last), front, bytes)
 }
 
 /// Makes a call into a `Vec`, and appends the bytes that it writes. Contents and capacity of the
@@ -188,18 +209,13 @@ pub fn make_call(
     let Offer { text, last, room } = *offer;
     match way.source {
         Source::Utf8 => {
-            call_to_slice(
-                encoder,
-                way.replaces,
-                (Input::Utf8(text), last),
-                room,
-                bytes,
-            )
+            let input = (Input::Utf8(text), last);
+            call_to_slice(alloc, (encoder, way.replaces), input, room, bytes)
         }
         Source::Utf16 => {
             let units = units_of(alloc, text)?;
             let input = (Input::Utf16(&units), last);
-            let answer = call_to_slice(encoder, way.replaces, input, room, bytes)?;
+            let answer = call_to_slice(alloc, (encoder, way.replaces), input, room, bytes)?;
             in_bytes(text, answer)
         }
         Source::Utf8ToVec => call_to_vec(alloc, encoder, way.replaces, offer, bytes),

@@ -1,6 +1,6 @@
-//! The outcome of a call with replacement, predicted by calls without it, a character at a time.
+//! The outcome of a call, predicted by calls without replacement, a character at a time.
 
-use crate::encoding::calls::{Answer, MOST_ROOM, Offer, make_call};
+use crate::encoding::calls::{Answer, Offer, SMALL_ROOM, make_call};
 use crate::encoding::ways::{Source, Way};
 use encoding_rs::{Encoder, EncoderResult};
 use std::alloc::{AllocError, Global};
@@ -40,7 +40,7 @@ fn report_to(
     limit: usize,
     bytes: &mut Vec<u8>,
 ) -> Result<EncoderResult, Fail> {
-    let room = limit.saturating_sub(bytes.len()).min(MOST_ROOM);
+    let room = limit.saturating_sub(bytes.len()).min(SMALL_ROOM);
     let answer = make_call(
         alloc,
         encoder,
@@ -82,4 +82,27 @@ pub fn predict(
     }
     let stop = report_to(alloc, encoder, ("", offer.last), limit, bytes)?;
     Ok(Answer::new(stop, read, replaced))
+}
+
+/// Predicts the answer of a call without replacement, and appends its bytes.
+pub fn predict_report(
+    alloc: Global,
+    encoder: &mut Encoder,
+    offer: &Offer<'_>,
+    bytes: &mut Vec<u8>,
+) -> Result<Answer, Fail> {
+    let (mut read, mut local) = (0_usize, [0; 4]);
+    for character in offer.text.chars() {
+        let own = character.encode_utf8(&mut local);
+        let stop = report_to(alloc, encoder, (own, false), offer.room, bytes)?;
+        if stop == EncoderResult::OutputFull {
+            return Ok(Answer::new(stop, read, false));
+        }
+        read = read.saturating_add(character.len_utf8());
+        if stop != EncoderResult::InputEmpty {
+            return Ok(Answer::new(stop, read, false));
+        }
+    }
+    let stop = report_to(alloc, encoder, ("", offer.last), offer.room, bytes)?;
+    Ok(Answer::new(stop, read, false))
 }

@@ -1,12 +1,13 @@
 //! Runs of an encoder over a text, in each way.
 
 use crate::cases::{Case, expect, expect_bytes};
-use crate::encoding::calls::{Answer, MOST_ROOM, Offer, compare_answer, make_call, rest_of};
+use crate::encoding::calls::{Answer, Offer, compare_answer, make_call, rest_of};
+use crate::encoding::mixed::compare_mixed;
 use crate::encoding::predictions::{predict, push_reference};
 use crate::encoding::single_characters::compare_single_characters;
-use crate::encoding::ways::{ALL_WAYS, Asked, SLICE_WAYS, Way, encoder_of, kept_back};
+use crate::encoding::ways::{ALL_WAYS, Asked, Way, encoder_of, kept_back};
 use crate::encoding::whole_texts::compare_with_run;
-use encoding_rs::{Encoder, EncoderResult, Encoding};
+use encoding_rs::{Encoder, EncoderResult};
 use std::alloc::Global;
 use std::test::Fail;
 
@@ -14,8 +15,8 @@ use std::test::Fail;
 /// character.
 pub type EncoderRow = (&'static str, &'static [u8]);
 
-/// A text and its bytes.
-type Encoded<'a> = (&'a str, &'a [u8]);
+/// A text, and its bytes, as in such a row.
+pub type Encoded<'a> = (&'a str, &'a [u8]);
 
 /// More calls than any text here takes.
 const MOST_CALLS: usize = 256;
@@ -23,25 +24,18 @@ const MOST_CALLS: usize = 256;
 /// The rooms of runs are less than this. In small rooms a run may be stuck.
 const ROOMS: usize = 25;
 
-/// The rooms of long texts are less than this. Calls with 32 bytes of room and more write many
-/// characters at once.
-const LONG_ROOMS: usize = 41;
-
-/// Room for any character and its reference, and for no more than one character at a time.
-const STEP_ROOM: usize = 16;
-
 /// The result of one encoder's calls.
 #[derive(Drop)]
 struct Run {
     encoder: Encoder,
     /// Predicts calls with replacement, by calls without it.
     model: Encoder,
+    /// Whether it does.
+    is_predicted: bool,
     asked: Asked,
     way: Way,
     room: usize,
     bytes: Vec<u8>,
-    /// Whether the bytes have a reference.
-    replaced: bool,
     /// Whether the last call could neither read nor write.
     is_stuck: bool,
 }
@@ -56,15 +50,20 @@ pub fn case_of((encoding, _): Asked, text: &str, room: usize) -> Case<'_> {
 }
 
 /// Starts a run.
-fn start(alloc: Global, asked: Asked, way: Way, room: usize) -> Result<Run, Fail> {
+fn start(
+    alloc: Global,
+    (asked, way): (Asked, Way),
+    room: usize,
+    is_predicted: bool,
+) -> Result<Run, Fail> {
     Ok(Run {
         encoder: encoder_of(asked)?,
         model: encoder_of(asked)?,
+        is_predicted,
         asked,
         way,
         room,
         bytes: Vec::new(alloc),
-        replaced: false,
         is_stuck: false,
     })
 }
@@ -93,12 +92,11 @@ fn compare_predicted(
 fn call(alloc: Global, run: &mut Run, offer: &Offer<'_>) -> Result<Answer, Fail> {
     let mut bytes = Vec::new(alloc);
     let answer = make_call(alloc, &mut run.encoder, run.way, offer, &mut bytes)?;
-    if run.way.replaces {
+    if run.way.replaces && run.is_predicted {
         compare_predicted(alloc, run, offer, (answer, &bytes))?;
     }
     let is_full = answer.stop == EncoderResult::OutputFull;
     run.is_stuck = is_full && bytes.is_empty() && answer.read == 0;
-    run.replaced |= answer.replaced;
     run.bytes.extend_from_slice(&bytes)?;
     Ok(answer)
 }
@@ -129,7 +127,6 @@ fn offer(alloc: Global, run: &mut Run, text: &str, last: bool) -> Result<(), Fai
             }
             EncoderResult::OutputFull => (),
             EncoderResult::Unmappable(character) => {
-                run.replaced = true;
                 push_reference(alloc, &mut run.bytes, character)?;
             }
         }
@@ -157,20 +154,36 @@ fn compare(run: &Run, row: Encoded<'_>) -> Result<(), Fail> {
     expect_bytes(bytes, front, way.name(), &case)
 }
 
-/// Runs a row in two parts.
-fn compare_parts(
+/// Passes a row's text in two parts, and compares what comes of it.
+fn compare_run(alloc: Global, run: &mut Run, row: Encoded<'_>, place: usize) -> Result<(), Fail> {
+    let Some((front, rest)) = row.0.split_at_checked(place) else {
+        return Err(Fail::new("a character is cut"));
+    };
+    offer(alloc, run, front, false)?;
+    offer(alloc, run, rest, true)?;
+    compare(run, row)
+}
+
+/// Runs a row in two parts. The calls are not predicted.
+pub fn compare_parts(
     alloc: Global,
     (asked, way): (Asked, Way),
     row: Encoded<'_>,
     (place, room): (usize, usize),
 ) -> Result<(), Fail> {
-    let Some((front, rest)) = row.0.split_at_checked(place) else {
-        return Err(Fail::new("a character is cut"));
-    };
-    let mut run = start(alloc, asked, way, room)?;
-    offer(alloc, &mut run, front, false)?;
-    offer(alloc, &mut run, rest, true)?;
-    compare(&run, row)
+    let mut run = start(alloc, (asked, way), room, false)?;
+    compare_run(alloc, &mut run, row, place)
+}
+
+/// Runs a row in two parts, and predicts calls with replacement.
+fn compare_predicted_parts(
+    alloc: Global,
+    (asked, way): (Asked, Way),
+    row: Encoded<'_>,
+    (place, room): (usize, usize),
+) -> Result<(), Fail> {
+    let mut run = start(alloc, (asked, way), room, true)?;
+    compare_run(alloc, &mut run, row, place)
 }
 
 /// Runs a text a character at a time.
@@ -180,7 +193,7 @@ fn run_characters(
     text: &str,
     room: usize,
 ) -> Result<Run, Fail> {
-    let mut run = start(alloc, asked, way, room)?;
+    let mut run = start(alloc, (asked, way), room, true)?;
     let mut local = [0; 4];
     for character in text.chars() {
         let own = character.encode_utf8(&mut local);
@@ -190,70 +203,35 @@ fn run_characters(
     Ok(run)
 }
 
-/// Runs a row in two parts and a character at a time, in each room and way; and by single
-/// characters in the rooms that length queries return.
-pub fn compare_cuts(alloc: Global, asked: Asked, row: &EncoderRow) -> Result<(), Fail> {
+/// Runs a row in two parts and a character at a time, in each room and way; by single characters in
+/// the rooms that length queries return; and by calls that change from one to the next.
+pub fn compare_cuts(alloc: Global, asked: Asked, row: Encoded<'_>) -> Result<(), Fail> {
     compare_single_characters(alloc, asked, row)?;
+    compare_mixed(alloc, asked, row)?;
     for way in ALL_WAYS {
         for room in 0..ROOMS {
             for (place, _) in row.0.char_indices() {
-                compare_parts(alloc, (asked, way), *row, (place, room))?;
+                compare_predicted_parts(alloc, (asked, way), row, (place, room))?;
             }
             let run = run_characters(alloc, (asked, way), row.0, room)?;
-            compare(&run, *row)?;
+            compare(&run, row)?;
         }
     }
     Ok(())
 }
 
-/// Runs a long text in two parts, cut between any two characters, in each room from 0 to 40 and
-/// each way into a slice. The bytes have to be those of single characters, each in a call of its
-/// own.
-pub fn compare_long(alloc: Global, encoding: Encoding, text: &str) -> Result<(), Fail> {
-    let asked = (encoding, &[] as &'static [char]);
-    for way in SLICE_WAYS {
-        let steps = run_characters(alloc, (asked, way), text, STEP_ROOM)?;
-        for room in 0..LONG_ROOMS {
-            for (place, _) in text.char_indices() {
-                compare_parts(alloc, (asked, way), (text, &steps.bytes), (place, room))?;
-            }
-        }
-    }
-    Ok(())
-}
-
-/// Runs the rows in every cut and way, and through one-shot calls.
-pub fn compare_encoded(alloc: Global, encoding: Encoding, rows: &[EncoderRow]) -> Result<(), Fail> {
-    for row in rows {
+/// The same, and by one-shot calls if no character is barred.
+pub fn compare_encoded(alloc: Global, asked: Asked, row: Encoded<'_>) -> Result<(), Fail> {
+    let (encoding, barred) = asked;
+    let encoder = encoder_of(asked)?;
+    let case = case_of(asked, row.0, row.0.len());
+    let is_output = encoder.encoding() == encoding.output_encoding();
+    expect(is_output, "an encoder has another encoding", &case)?;
+    let is_pending = encoder.has_pending_state();
+    expect(!is_pending, "a state is pending at the start", &case)?;
+    if barred.is_empty() {
         let bytes = compare_with_run(alloc, encoding, row.0)?;
-        let case = case_of((encoding, &[]), row.0, row.0.len());
         expect_bytes(&bytes, row.1, "a one-shot call", &case)?;
-        compare_cuts(alloc, (encoding, &[]), row)?;
     }
-    Ok(())
-}
-
-/// Runs a text in one call.
-fn run_whole(alloc: Global, encoding: Encoding, way: Way, text: &str) -> Result<Run, Fail> {
-    let mut run = start(alloc, (encoding, &[]), way, MOST_ROOM)?;
-    offer(alloc, &mut run, text, true)?;
-    Ok(run)
-}
-
-/// Compares each way with the others and with a one-shot call. The text has an unmappable
-/// character, unless its encoding can encode everything.
-pub fn compare_ways(alloc: Global, encoding: Encoding, text: &str) -> Result<(), Fail> {
-    let case = case_of((encoding, &[]), text, MOST_ROOM);
-    let whole = compare_with_run(alloc, encoding, text)?;
-    let has_references = !encoding.can_encode_everything();
-    for way in ALL_WAYS {
-        let run = run_whole(alloc, encoding, way, text)?;
-        expect_bytes(&run.bytes, &whole, way.name(), &case)?;
-        expect(
-            run.replaced == has_references,
-            "references are reported otherwise",
-            &case,
-        )?;
-    }
-    Ok(())
+    compare_cuts(alloc, asked, row)
 }

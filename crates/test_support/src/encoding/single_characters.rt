@@ -5,7 +5,7 @@
 use crate::cases::{expect, expect_bytes};
 use crate::encoding::calls::{MOST_ROOM, Offer, make_call, rest_of};
 use crate::encoding::predictions::push_reference;
-use crate::encoding::runs::{EncoderRow, case_of};
+use crate::encoding::runs::{Encoded, case_of};
 use crate::encoding::ways::{ALL_WAYS, Asked, Source, Way, encoder_of};
 use encoding_rs::run::{EncodeCall, EncodeReport, encode_run_barring};
 use encoding_rs::{Encoder, EncoderResult, Encoding};
@@ -59,7 +59,7 @@ fn offer_in_queried_room(
 fn compare_queried_rooms(
     alloc: Global,
     (asked, way): (Asked, Way),
-    row: &EncoderRow,
+    row: Encoded<'_>,
 ) -> Result<(), Fail> {
     let mut encoder = encoder_of(asked)?;
     let mut bytes = Vec::new(alloc);
@@ -98,7 +98,7 @@ fn run_by_characters(
 fn compare_end(
     alloc: Global,
     (asked, way): (Asked, Way),
-    row: &EncoderRow,
+    row: Encoded<'_>,
     room: usize,
 ) -> Result<(), Fail> {
     let case = case_of(asked, row.0, room);
@@ -117,7 +117,7 @@ fn compare_end(
 pub fn compare_single_characters(
     alloc: Global,
     asked: Asked,
-    row: &EncoderRow,
+    row: Encoded<'_>,
 ) -> Result<(), Fail> {
     for way in ALL_WAYS {
         compare_queried_rooms(alloc, (asked, way), row)?;

@@ -55,7 +55,6 @@ pub fn sample() -> Sample {
         others: &[],
         words: WORDS,
         decoder_lengths: DECODER_LENGTHS,
-        decoder_limits: &[],
         text: ("一", b"\xA4\x40"),
         mappable: MAPPABLE,
         unmappable: UNMAPPABLE,

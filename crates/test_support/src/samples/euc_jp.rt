@@ -53,7 +53,6 @@ pub fn sample() -> Sample {
         others: &[],
         words: WORDS,
         decoder_lengths: DECODER_LENGTHS,
-        decoder_limits: &[],
         text: ("一", b"\xB0\xEC"),
         mappable: MAPPABLE,
         unmappable: UNMAPPABLE,

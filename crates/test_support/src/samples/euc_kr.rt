@@ -53,7 +53,6 @@ pub fn sample() -> Sample {
         others: &[],
         words: WORDS,
         decoder_lengths: DECODER_LENGTHS,
-        decoder_limits: &[],
         text: ("가", b"\xB0\xA1"),
         mappable: MAPPABLE,
         unmappable: UNMAPPABLE,

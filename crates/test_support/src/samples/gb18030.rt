@@ -3,7 +3,7 @@
 
 use crate::encoding::runs::EncoderRow;
 use crate::samples::sample::{
-    BarredRow, Decoded, DecoderLengthsRow, DecoderLimitsRow, EncoderLengthsRow, Pointer, Sample,
+    BarredRow, Decoded, DecoderLengthsRow, EncoderLengthsRow, Pointer, Sample,
 };
 use crate::samples::shared;
 use enc_index::{Codec, List};
@@ -37,16 +37,6 @@ const DECODER_LENGTHS: &[DecoderLengthsRow] = &[
     (b"", 4, (Some(12), Some(12), Some(4))),
     (b"\x81\x30\x81", 1, (Some(12), Some(12), Some(4))),
 ];
-
-/// The greatest lengths of the decoder.
-const DECODER_LIMITS: &[DecoderLimitsRow] = &[(
-    b"\x81\x30\x81",
-    (
-        (6_148_914_691_236_517_202, MAX),
-        (6_148_914_691_236_517_202, MAX),
-        (MAX - 3, MAX),
-    ),
-)];
 
 /// Texts of mappable characters.
 const MAPPABLE: &[EncoderRow] = &[
@@ -132,7 +122,6 @@ pub fn sample() -> Sample {
         others: &[],
         words: WORDS,
         decoder_lengths: DECODER_LENGTHS,
-        decoder_limits: DECODER_LIMITS,
         text: ("€", b"\xA2\xE3"),
         mappable: MAPPABLE,
         unmappable: UNMAPPABLE,

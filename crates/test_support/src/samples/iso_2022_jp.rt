@@ -136,7 +136,6 @@ pub fn sample() -> Sample {
         others: OTHERS,
         words: WORDS,
         decoder_lengths: DECODER_LENGTHS,
-        decoder_limits: &[],
         text: ("¥", b"\x1B(J\x5C\x1B(B"),
         mappable: MAPPABLE,
         unmappable: UNMAPPABLE,

@@ -1,13 +1,10 @@
 //! The replacement encoding (Encoding Standard 14.1), which is written as UTF-8; by hand from the
 //! standard.
 
-use crate::samples::sample::{DecoderLengthsRow, DecoderLimitsRow, Sample};
+use crate::samples::sample::{DecoderLengthsRow, Sample};
 use crate::samples::shared;
 use enc_index::Codec;
 use encoding_rs::REPLACEMENT;
-
-/// The greatest number.
-const MAX: usize = usize::MAX;
 
 /// Malformed sequences.
 const MALFORMED: &[&[u8]] = &[b"\x41", b"\xE9"];
@@ -18,9 +15,6 @@ const DECODER_LENGTHS: &[DecoderLengthsRow] = &[
     (b"", 9, (Some(3), Some(3), Some(1))),
     (b"\x41", 9, (Some(3), Some(3), Some(1))),
 ];
-
-/// The greatest lengths of the decoder.
-const DECODER_LIMITS: &[DecoderLimitsRow] = &[(b"", ((MAX, 3), (MAX, 3), (MAX, 1)))];
 
 /// The sample.
 pub fn sample() -> Sample {
@@ -33,7 +27,6 @@ pub fn sample() -> Sample {
         others: &[],
         words: &[],
         decoder_lengths: DECODER_LENGTHS,
-        decoder_limits: DECODER_LIMITS,
         text: ("€", b"\xE2\x82\xAC"),
         mappable: shared::utf_8_texts(),
         unmappable: &[],

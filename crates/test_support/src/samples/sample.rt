@@ -16,12 +16,6 @@ pub type DecoderLengths = (Option<usize>, Option<usize>, Option<usize>);
 /// The bytes that a decoder has read; then a number of bytes, and the lengths for these.
 pub type DecoderLengthsRow = (&'static [u8], usize, DecoderLengths);
 
-/// The greatest number of bytes that has a length, and this length.
-pub type Limit = (usize, usize);
-
-/// The bytes that a decoder has read, and the limit for each of the calls of `DecoderLengths`.
-pub type DecoderLimitsRow = (&'static [u8], (Limit, Limit, Limit));
-
 /// Barred characters, and a text in which they have references.
 pub type BarredRow = (&'static [char], EncoderRow);
 
@@ -54,8 +48,6 @@ pub struct Sample {
     pub words: &'static [Decoded],
     /// Length queries of the decoder.
     pub decoder_lengths: &'static [DecoderLengthsRow],
-    /// The greatest lengths that its queries return.
-    pub decoder_limits: &'static [DecoderLimitsRow],
     /// A text of at most eight bytes, and these. It has no unmappable character.
     pub text: EncoderRow,
     /// Texts without unmappable characters.

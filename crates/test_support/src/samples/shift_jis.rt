@@ -2,15 +2,10 @@
 //! U+203E and U+2212 those of the standard.
 
 use crate::encoding::runs::EncoderRow;
-use crate::samples::sample::{
-    BarredRow, Decoded, DecoderLengthsRow, DecoderLimitsRow, Pointer, Sample,
-};
+use crate::samples::sample::{BarredRow, Decoded, DecoderLengthsRow, Pointer, Sample};
 use crate::samples::shared;
 use enc_index::{Codec, List};
 use encoding_rs::SHIFT_JIS;
-
-/// The greatest number.
-const MAX: usize = usize::MAX;
 
 /// Characters, each with its bytes.
 const CHARACTERS: &[Decoded] = &[(b"\x83\x6E", "ハ"), (b"\x80", "\u{80}")];
@@ -26,16 +21,6 @@ const WORDS: &[Decoded] = &[
 
 /// Lengths of the decoder.
 const DECODER_LENGTHS: &[DecoderLengthsRow] = &[(b"\x83", 2, (Some(9), Some(9), Some(3)))];
-
-/// The greatest lengths of the decoder.
-const DECODER_LIMITS: &[DecoderLimitsRow] = &[(
-    b"",
-    (
-        (6_148_914_691_236_517_205, MAX),
-        (6_148_914_691_236_517_205, MAX),
-        (MAX, MAX),
-    ),
-)];
 
 /// Texts of mappable characters.
 const MAPPABLE: &[EncoderRow] = &[
@@ -75,7 +60,6 @@ pub fn sample() -> Sample {
         others: &[],
         words: WORDS,
         decoder_lengths: DECODER_LENGTHS,
-        decoder_limits: DECODER_LIMITS,
         text: ("一", b"\x88\xEA"),
         mappable: MAPPABLE,
         unmappable: UNMAPPABLE,

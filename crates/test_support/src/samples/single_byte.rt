@@ -4,7 +4,7 @@
 
 use crate::encoding::runs::EncoderRow;
 use crate::samples::sample::{
-    BarredRow, Decoded, DecoderLengthsRow, DecoderLimitsRow, EncoderLengthsRow, Pointer, Sample,
+    BarredRow, Decoded, DecoderLengthsRow, EncoderLengthsRow, Pointer, Sample,
 };
 use enc_index::{Codec, List, SingleByteIndex};
 use encoding_rs::{WINDOWS_1251, WINDOWS_1252, WINDOWS_1257};
@@ -30,16 +30,6 @@ const WINDOWS_1252_DECODER_LENGTHS: &[DecoderLengthsRow] = &[
     (b"", 5, (Some(15), Some(15), Some(5))),
     (b"\xE9", 5, (Some(15), Some(15), Some(5))),
 ];
-
-/// The greatest lengths of the decoder of windows-1252.
-const WINDOWS_1252_DECODER_LIMITS: &[DecoderLimitsRow] = &[(
-    b"",
-    (
-        (6_148_914_691_236_517_205, MAX),
-        (6_148_914_691_236_517_205, MAX),
-        (MAX, MAX),
-    ),
-)];
 
 /// Texts with characters that windows-1252 does not have.
 const WINDOWS_1252_UNMAPPABLE: &[EncoderRow] = &[
@@ -86,7 +76,6 @@ pub fn windows_1252() -> Sample {
         others: &[],
         words: WINDOWS_1252_WORDS,
         decoder_lengths: WINDOWS_1252_DECODER_LENGTHS,
-        decoder_limits: WINDOWS_1252_DECODER_LIMITS,
         text: ("€", b"\x80"),
         mappable: &[],
         unmappable: WINDOWS_1252_UNMAPPABLE,
@@ -127,7 +116,6 @@ pub fn windows_1251() -> Sample {
         others: &[],
         words: WINDOWS_1251_WORDS,
         decoder_lengths: &[],
-        decoder_limits: &[],
         text: ("€", b"\x88"),
         mappable: WINDOWS_1251_MAPPABLE,
         unmappable: WINDOWS_1251_UNMAPPABLE,
@@ -161,7 +149,6 @@ pub fn windows_1257() -> Sample {
         others: &[],
         words: &[],
         decoder_lengths: &[],
-        decoder_limits: &[],
         text: ("ä", b"\xE4"),
         mappable: WINDOWS_1257_MAPPABLE,
         unmappable: WINDOWS_1257_UNMAPPABLE,

@@ -1,13 +1,10 @@
 //! UTF-16BE (Encoding Standard 14.3), which is written as UTF-8. The bytes are those of Python's
 //! codec utf-16-be.
 
-use crate::samples::sample::{Among, Decoded, DecoderLengthsRow, DecoderLimitsRow, Sample};
+use crate::samples::sample::{Among, Decoded, DecoderLengthsRow, Sample};
 use crate::samples::shared;
 use enc_index::Codec;
 use encoding_rs::UTF_16BE;
-
-/// The greatest number.
-const MAX: usize = usize::MAX;
 
 /// Characters, each with its bytes.
 const CHARACTERS: &[Decoded] = &[
@@ -38,16 +35,6 @@ const DECODER_LENGTHS: &[DecoderLengthsRow] = &[
     (b"\xD8\x3D\xDC", 1, (Some(7), Some(7), Some(3))),
 ];
 
-/// The greatest lengths of the decoder.
-const DECODER_LIMITS: &[DecoderLimitsRow] = &[(
-    b"\xD8",
-    (
-        (12_297_829_382_473_034_407, MAX - 2),
-        (12_297_829_382_473_034_407, MAX - 2),
-        (MAX - 2, 9_223_372_036_854_775_808),
-    ),
-)];
-
 /// The sample.
 pub fn sample() -> Sample {
     Sample {
@@ -59,7 +46,6 @@ pub fn sample() -> Sample {
         others: OTHERS,
         words: WORDS,
         decoder_lengths: DECODER_LENGTHS,
-        decoder_limits: DECODER_LIMITS,
         text: ("€", b"\xE2\x82\xAC"),
         mappable: shared::utf_8_texts(),
         unmappable: &[],

@@ -1,15 +1,10 @@
 //! UTF-16LE (Encoding Standard 14.4), which is written as UTF-8. The bytes are those of Python's
 //! codec utf-16-le.
 
-use crate::samples::sample::{
-    Among, BarredRow, Decoded, DecoderLengthsRow, DecoderLimitsRow, Sample,
-};
+use crate::samples::sample::{Among, BarredRow, Decoded, DecoderLengthsRow, Sample};
 use crate::samples::shared;
 use enc_index::Codec;
 use encoding_rs::UTF_16LE;
-
-/// The greatest number.
-const MAX: usize = usize::MAX;
 
 /// Characters, each with its bytes.
 const CHARACTERS: &[Decoded] = &[
@@ -41,16 +36,6 @@ const DECODER_LENGTHS: &[DecoderLengthsRow] = &[
     (b"\x3D\xD8\xA9", 1, (Some(7), Some(7), Some(3))),
 ];
 
-/// The greatest lengths of the decoder.
-const DECODER_LIMITS: &[DecoderLimitsRow] = &[(
-    b"",
-    (
-        (12_297_829_382_473_034_408, MAX - 2),
-        (12_297_829_382_473_034_408, MAX - 2),
-        (MAX - 1, 9_223_372_036_854_775_808),
-    ),
-)];
-
 /// Texts with barred characters.
 const BARRED: &[BarredRow] = &[(&['é', '💩'], ("é€💩", b"&#233;\xE2\x82\xAC&#128169;"))];
 
@@ -65,7 +50,6 @@ pub fn sample() -> Sample {
         others: OTHERS,
         words: WORDS,
         decoder_lengths: DECODER_LENGTHS,
-        decoder_limits: DECODER_LIMITS,
         text: ("€", b"\xE2\x82\xAC"),
         mappable: shared::utf_8_texts(),
         unmappable: &[],

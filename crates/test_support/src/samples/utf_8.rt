@@ -1,6 +1,6 @@
 //! UTF-8 (Encoding Standard 8.1). The bytes are those of Node's TextEncoder.
 
-use crate::samples::sample::{BarredRow, Decoded, DecoderLengthsRow, DecoderLimitsRow, Sample};
+use crate::samples::sample::{BarredRow, Decoded, DecoderLengthsRow, Sample};
 use crate::samples::shared;
 use enc_index::Codec;
 use encoding_rs::UTF_8;
@@ -37,26 +37,6 @@ const DECODER_LENGTHS: &[DecoderLengthsRow] = &[
     (b"\xE2", MAX, (None, None, None)),
 ];
 
-/// The greatest lengths of the decoder.
-const DECODER_LIMITS: &[DecoderLimitsRow] = &[
-    (
-        b"",
-        (
-            (6_148_914_691_236_517_204, MAX),
-            (MAX - 3, MAX),
-            (MAX - 1, MAX),
-        ),
-    ),
-    (
-        b"\xE2",
-        (
-            (6_148_914_691_236_517_203, MAX),
-            (MAX - 4, MAX),
-            (MAX - 2, MAX),
-        ),
-    ),
-];
-
 /// Texts with barred characters.
 const BARRED: &[BarredRow] = &[(&['💩'], ("a💩", b"a&#128169;"))];
 
@@ -71,7 +51,6 @@ pub fn sample() -> Sample {
         others: &[],
         words: WORDS,
         decoder_lengths: DECODER_LENGTHS,
-        decoder_limits: DECODER_LIMITS,
         text: ("€", b"\xE2\x82\xAC"),
         mappable: shared::utf_8_texts(),
         unmappable: &[],

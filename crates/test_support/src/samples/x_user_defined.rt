@@ -1,14 +1,9 @@
 //! x-user-defined (Encoding Standard 14.5), by hand from the standard.
 
 use crate::encoding::runs::EncoderRow;
-use crate::samples::sample::{
-    Decoded, DecoderLengthsRow, DecoderLimitsRow, EncoderLengthsRow, Sample,
-};
+use crate::samples::sample::{Decoded, DecoderLengthsRow, EncoderLengthsRow, Sample};
 use enc_index::Codec;
 use encoding_rs::X_USER_DEFINED;
-
-/// The greatest number.
-const MAX: usize = usize::MAX;
 
 /// Characters, each with its bytes.
 const CHARACTERS: &[Decoded] = &[(b"\xE9", "\u{F7E9}"), (b"\x80", "\u{F780}")];
@@ -18,16 +13,6 @@ const WORDS: &[Decoded] = &[(b"a\x80\xFF", "a\u{F780}\u{F7FF}")];
 
 /// Lengths of the decoder.
 const DECODER_LENGTHS: &[DecoderLengthsRow] = &[(b"", 5, (Some(15), Some(15), Some(5)))];
-
-/// The greatest lengths of the decoder.
-const DECODER_LIMITS: &[DecoderLimitsRow] = &[(
-    b"",
-    (
-        (6_148_914_691_236_517_205, MAX),
-        (6_148_914_691_236_517_205, MAX),
-        (MAX, MAX),
-    ),
-)];
 
 /// Texts with unmappable characters.
 const UNMAPPABLE: &[EncoderRow] = &[
@@ -63,7 +48,6 @@ pub fn sample() -> Sample {
         others: &[],
         words: WORDS,
         decoder_lengths: DECODER_LENGTHS,
-        decoder_limits: DECODER_LIMITS,
         text: ("\u{F780}", b"\x80"),
         mappable: &[],
         unmappable: UNMAPPABLE,

@@ -1,5 +1,5 @@
-//! Writes the sums of each encoding in a row as crates/test_codecs/src/encoders/sums.rt has it.
-//! scripts/compare-crate builds and runs it.
+//! Writes a line `NAME REPORT REPLACE` for each encoding: the sums of a row `sum` of conformance/README.md, over what the
+//! Rust crate encodes single characters to. scripts/compare-crate builds and runs it.
 use encoding_rs::Encoding;
 use peer::sums::sums_of;
 
@@ -12,16 +12,12 @@ const NAMES: [&str; 40] = [
     "x-user-defined",
 ];
 
-/// A sum as the tests write it.
-fn grouped(sum: u64) -> String {
-    let digits = format!("{sum:016X}");
-    format!("0x{}_{}_{}_{}", &digits[..4], &digits[4..8], &digits[8..12], &digits[12..])
 }
 
 fn main() {
     for name in NAMES {
         let encoding = Encoding::for_label(name.as_bytes()).expect("a name is a label");
         let (reported, replaced) = sums_of(encoding);
-        println!("({}, {}, {})", name.replace('-', "_").to_uppercase(), grouped(reported), grouped(replaced));
+        println!("{name} {reported:016X} {replaced:016X}");
     }
 }

@@ -1,4 +1,4 @@
-//! The crate's answers to lines, in the form of crates/compare_calls.
+//! The crate's answers to lines, in the form of crates/conformance.
 use encoding_rs::{CoderResult, Decoder, DecoderResult, Encoder, EncoderResult, Encoding};
 use std::borrow::Cow;
 use std::panic::{catch_unwind, AssertUnwindSafe};

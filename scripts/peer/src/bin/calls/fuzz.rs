@@ -1,4 +1,4 @@
-//! A call that a fuzzer makes, of the crate and of crates/compare_calls. Where they differ it aborts.
+//! A call that a fuzzer makes, of the crate and of crates/conformance. Where they differ it aborts.
 use crate::answers::{answer, bytes_of, hex};
 use encoding_rs::Encoding;
 use peer::inputs::{in_encoding, TEXT};
@@ -91,7 +91,7 @@ pub fn compare(ours: &str) -> io::Result<()> {
     io::stdin().read_to_end(&mut input)?;
     let Some(line) = line_of(&input) else { return Ok(()) };
     let theirs = answer(&line);
-    let mut child = Command::new(ours).stdin(Stdio::piped()).stdout(Stdio::piped()).spawn()?;
+    let mut child = Command::new(ours).arg("calls").stdin(Stdio::piped()).stdout(Stdio::piped()).spawn()?;
     if let Some(mut stdin) = child.stdin.take() {
         writeln!(stdin, "{line}")?;
     }

@@ -1,7 +1,7 @@
-//! calls lines SEED COUNT: writes random and hostile lines of single calls, in the form of crates/compare_calls.
+//! calls lines SEED COUNT: writes random and hostile lines of single calls, in the form of crates/conformance.
 //! calls lending SEED COUNT: writes such lines of one-shot calls that lend.
 //! calls answers: writes the answers of the Rust crate encoding_rs to the lines of standard input.
-//! calls fuzz OURS: makes the call of standard input by the crate and by OURS, a build of crates/compare_calls.
+//! calls fuzz OURS: makes the call of standard input by the crate and by OURS, a build of crates/conformance.
 //! calls seeds FOLDER, calls kept PATH..: write inputs of a fuzzer to begin with, and lines of those that it has kept.
 mod answers;
 mod fuzz;

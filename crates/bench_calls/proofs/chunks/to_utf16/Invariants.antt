@@ -1,9 +1,0 @@
-use Rattle.std.proofs.Common.{◌≡◌, ◌≤◌, ◌+◌, false, length}
-use Rattle.encoding_rs.specs.Decoding.{has_finished}
-use Rattle.bench_calls.proofs.chunks.to_utf16.Given as goal
-
-abbrev pub invariant-calls : goal.invariant-calls
-invariant-calls l = (has_finished l.decoder ≡ false) × (2 ≤ length l.dst)
-
-abbrev pub decreases-calls : goal.decreases-calls
-decreases-calls l = length l.decoder.pending + length l.unread
