@@ -12,8 +12,6 @@ const NAMES: [&str; 40] = [
     "x-user-defined",
 ];
 
-}
-
 fn main() {
     for name in NAMES {
         let encoding = Encoding::for_label(name.as_bytes()).expect("a name is a label");

@@ -125,13 +125,6 @@ struct Input<'a> {
     room: usize,
 }
 
-/// The answer of a one-shot call: its text or none, the encoding that was used, whether a sequence was malformed.
-struct Whole<'a> {
-    text: Option<Cow<'a, str>>,
-    used: &'static Encoding,
-    is_malformed: bool,
-}
-
 #[derive(Default)]
 struct Run {
     text: String,
@@ -474,41 +467,35 @@ impl Decoders {
     }
 
     /// The one-shot call of the head.
-    fn at_once<'a>(&self, encoding: &'static Encoding, src: &'a [u8]) -> Whole<'a> {
-        if self.reports {
-            let text = encoding.decode_without_bom_handling_and_without_replacement(src);
-            let is_malformed = text.is_none();
-            return Whole { text, used: encoding, is_malformed };
-        }
-        let (text, used, is_malformed) = match self.marks.as_str() {
-            "sniff" => encoding.decode(src),
-            "remove" => {
-                let (text, is_malformed) = encoding.decode_with_bom_removal(src);
-                (text, encoding, is_malformed)
-            }
-            _ => {
-                let (text, is_malformed) = encoding.decode_without_bom_handling(src);
-                (text, encoding, is_malformed)
-            }
+    fn at_once<'a>(&self, encoding: &'static Encoding, src: &'a [u8]) -> (Cow<'a, str>, &'static Encoding, bool) {
+        let (text, is_malformed) = match self.marks.as_str() {
+            "sniff" => return encoding.decode(src),
+            "remove" => encoding.decode_with_bom_removal(src),
+            _ => encoding.decode_without_bom_handling(src),
         };
-        Whole { text: Some(text), used, is_malformed }
+        (text, encoding, is_malformed)
+    }
+
+    /// Whether the call without replacement returns a text, or none if a sequence is malformed.
+    fn is_strict(&self, encoding: &'static Encoding, src: &[u8], text: &str, is_malformed: bool) -> bool {
+        let strict = encoding.decode_without_bom_handling_and_without_replacement(src);
+        self.marks != "off" || strict.map_or(is_malformed, |it| !is_malformed && it == text)
     }
 
     fn whole(&self, words: &mut Words) -> Result<(), String> {
         let (src, text, used) = (bytes_of(words.next()), text_of(words.next()), words.next());
-        let (is_malformed, lends) = (words.next() == "yes", words.next());
+        let (flag, lends) = (words.next() == "yes", words.next());
         for encoding in &self.subjects {
-            let given = self.at_once(encoding, &src);
-            let lent = if matches!(given.text, Some(Cow::Borrowed(_))) { "lent" } else { "owned" };
-            let has_text = given.text.as_deref().map_or(is_malformed, |it| it == text);
-            let is_same = has_text && (given.used.name(), given.is_malformed) == (used, is_malformed);
-            if !is_same || (lends != "none" && lends != lent) {
+            let (made, by, is_malformed) = self.at_once(encoding, &src);
+            let lent = if matches!(made, Cow::Borrowed(_)) { "lent" } else { "owned" };
+            let is_same = made == text && (by.name(), is_malformed) == (used, flag);
+            if !is_same || !self.is_strict(encoding, &src, &text, flag) || (lends != "none" && lends != lent) {
                 return Err(fails(&[
                     ("part", &"once"),
                     ("of", &encoding.name()),
-                    ("text", &hex(given.text.as_deref().unwrap_or("").as_bytes())),
-                    ("encoding", &given.used.name()),
-                    ("flag", &given.is_malformed),
+                    ("text", &hex(made.as_bytes())),
+                    ("encoding", &by.name()),
+                    ("flag", &is_malformed),
                     ("lends", &lent),
                 ]));
             }

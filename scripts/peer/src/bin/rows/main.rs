@@ -65,9 +65,25 @@ fn compared<T: PartialEq + Display>(part: &str, (name, given): (&str, T), want: 
     }
 }
 
+/// Compares the encoding of a label: as it is, in capitals, with whitespace around it, and with a letter more, by which
+/// it is none. That of calls that leave replacement out is none for it.
 fn label_row(words: &mut Words) -> String {
-    let given = Encoding::for_label(&bytes_of(words.next())).map_or("none", Encoding::name);
-    compared("label", ("encoding", given), words.next())
+    let (label, want) = (bytes_of(words.next()), words.next());
+    let blanks = b"\t\n\x0C\r \t";
+    let forms = [label.clone(), label.to_ascii_uppercase(), [blanks, &label[..], blanks].concat()];
+    let longer = [&label[..], b"x"].concat();
+    let name = |encoding: Option<&'static Encoding>| encoding.map_or("none", Encoding::name);
+    let mut pairs: Vec<(&str, &str)> = Vec::new();
+    for form in &forms {
+        pairs.push((name(Encoding::for_label(form)), want));
+        let left = if want == "replacement" { "none" } else { want };
+        pairs.push((name(Encoding::for_label_no_replacement(form)), left));
+    }
+    if want != "none" {
+        pairs.push((name(Encoding::for_label(&longer)), "none"));
+    }
+    let other = pairs.into_iter().find(|(given, want)| given != want);
+    other.map_or(String::from("holds"), |(given, want)| compared("label", ("encoding", given), want))
 }
 
 fn mark_row(words: &mut Words) -> String {
