@@ -7,7 +7,7 @@ from typing import NamedTuple
 
 from common import crates, is_there, paths, read
 from edit_list import edits_of
-from lists import constant_of, encodings, lists, snake_of
+from lists import encodings, lists, snake_of
 
 # Codecs whose rule, and encoders whose bytes, are in a spec file of another name.
 RULE_OF = {"SingleByte": "OneByte", "XUserDefined": "OneByte"}
@@ -61,7 +61,6 @@ def lacking_of(decoder):
         return ["no file of its name in src/ of a family's crate"]
     wanted = [f"crates/{crate}/src/{module}.rt", f"crates/{crate}/specs/{RULE_OF.get(name, name)}.antt"]
     wanted.append(f"conformance/decode-{module.replace('_', '-')}.txt")
-    wanted += [f"crates/test_support/src/samples/{constant_of(it).lower()}.rt" for it in codecs]
     missing = [it for it in wanted if not is_there(it)] + without_edit(crate, f"src/{module}.rt")
     return missing + (lacking_of_encoder(encoder, module) if encoder != "-" else []) + unsaid({
         "crates/enc_codec/specs/Codecs.antt": [rf"\bcodec_rule [(]?codec\.{it}\b" for it in codecs],
@@ -69,6 +68,7 @@ def lacking_of(decoder):
         "crates/enc_encode/src/choice.rt": [rf"\bCodec::{it}\b" for it in codecs],
         "docs/PROVED.md": [rf"`{name}Decoder`"],
         "ARCHITECTURE.md": [rf"\b{module}\b"],
+        "crates/test_codecs/src/surface/samples.rt": [rf"\bCodec::{it}\b" for it in codecs],
     })
 
 

@@ -66,15 +66,8 @@ def of_encodings():
     }
 
 
-# The functions of test_support that return samples, of a codec that has more than one.
-SAMPLES = {"SingleByte": ("windows_1252", "windows_1251", "windows_1257")}
 # What `new` of a decoder takes, if it takes something.
 ARGUMENTS = {"Utf16Be": "true", "Utf16Le": "false", "SingleByte": "WINDOWS_1252"}
-
-
-def samples_of(codec):
-    """The calls that return the samples of a codec."""
-    return [f"{constant_of(codec).lower()}::{it}()" for it in SAMPLES.get(codec, ["sample"])]
 
 
 def words_of_codec(it):
@@ -86,7 +79,7 @@ def words_of_codec(it):
         "Decoder": it.decoder, "decoder": constant_of(decoder).lower() if decoder else snake_of(it.decoder),
         "Encoder": it.encoder, "lengths": it.byte_lengths,
         "pattern": f"Codec::{it.name}" + ("(_)" if it.name == "SingleByte" else ""),
-        "arguments": ARGUMENTS.get(it.name, ""), "sample": samples_of(it.name)[0],
+        "arguments": ARGUMENTS.get(it.name, ""), "sample": f"samples::{constant_of(it.name)}",
         "encoder_name": f'Some("{it.encoder}")' if it.encoder != "-" else "None",
     }
 
@@ -119,9 +112,8 @@ def of_codecs():
     multi = [every[it.name] for it in lists().codecs if it.recipe in "CD"]
     decoders, encoders = with_titles(multi, "Decoder"), with_titles(multi, "Encoder")
     of_pairs = {it.name for it in lists().codecs if it.recipe == "C"}
-    samples = [call for it in every for call in samples_of(it)]
     return {
-        "codecs": list(every.values()), "samples": [{"call": it} for it in samples], "sample_count": len(samples),
+        "codecs": list(every.values()),
         "decoders": [{"Name": it["Decoder"], "name": it["decoder"]} for it in each_once(every.values(), "Decoder")],
         "encoders": [{"Name": it["Encoder"]} for it in each_once(every.values(), "Encoder")],
         "multi_byte_codecs": multi, "multi_byte_decoders": decoders,

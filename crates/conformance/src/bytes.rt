@@ -5,7 +5,7 @@ use crate::words::{Unreadable, Words, hexadecimal};
 use encoding_rs::run::BomHandling;
 use encoding_rs::{DecoderResult, Encoding};
 use std::alloc::Global;
-use test_support::decoding::{Given, Output, compare_read, make_call, new_decoder};
+use test_support::decoding::{Given, Output, make_call, new_decoder};
 
 /// Single bytes, and the character of each.
 #[derive(Drop)]
@@ -51,7 +51,7 @@ fn compare_byte(
     Ok(())
 }
 
-/// Compares each byte of a row by itself, and a reader of all of them with the whole input.
+/// Compares each byte of a row by itself.
 pub(crate) fn compare_bytes(
     alloc: Global,
     encoding: Encoding,
@@ -60,6 +60,5 @@ pub(crate) fn compare_bytes(
     for (byte, character) in row.bytes.iter().zip(row.text.chars()) {
         compare_byte(alloc, encoding, *byte, character)?;
     }
-    compare_read(alloc, encoding, &row.bytes)?;
     Ok(())
 }

@@ -10,4 +10,5 @@ mod codecs;
 mod derives;
 mod encoders;
 mod encodings;
+mod samples;
 mod units;

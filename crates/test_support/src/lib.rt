@@ -1,5 +1,5 @@
-//! Helpers of the test crates: the table of all encodings, the samples of all codecs, the forms of
-//! rows, and runs of rows over decoders and encoders.
+//! Helpers of the test crates: all encodings, and runs of inputs and texts over decoders
+//! and encoders, with every cut and room.
 //!
 //! It is a library so that its functions are proved once, and stay proved while rows change. A
 //! library may not abort: a helper returns a `Fail` that names the case if a row does not hold, and
@@ -10,4 +10,3 @@ pub mod cases;
 pub mod decoding;
 pub mod encoding;
 pub mod encodings;
-pub mod samples;

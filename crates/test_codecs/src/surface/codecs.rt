@@ -7,11 +7,11 @@ mod types;
 
 use crate::surface::codecs::types::{variant_name, variant_of};
 use crate::surface::derives::{are_equal, copies, debug_text};
+use crate::surface::samples::{Pointer, SAMPLES, Sample};
 use enc_codec::*;
 use enc_units::Utf8Slice;
 use std::process::Abort;
 use std::test::Fail;
-use test_support::samples::{Pointer, Sample, samples};
 
 #[test]
 fn results_of_decoders_are_compared_and_printed(rt: HostRuntime) -> Result<(), Fail> {
@@ -90,27 +90,25 @@ fn decode_all<D: RawDecoder>(
     Ok(())
 }
 
-/// Decodes nothing, and the characters of a sample, each by two copies of a decoder.
+/// Decodes nothing, and the bytes of a sample, each by two copies of a decoder.
 pub(crate) fn decode_sample<D: RawDecoder>(
     rt: &impl Abort,
     start: D,
     sample: &Sample,
 ) -> Result<(), Fail> {
     decode_all(rt, start, b"", "")?;
-    for (bytes, text) in sample.characters {
-        decode_all(rt, start, bytes, text)?;
-    }
-    Ok(())
+    let (bytes, text) = sample.decoded;
+    decode_all(rt, start, bytes, text)
 }
 
 #[test]
 fn each_codec_has_a_decoder(rt: HostRuntime) -> Result<(), Fail> {
-    for sample in samples() {
+    for sample in SAMPLES {
         let (codec, _) = copies(sample.codec)?;
         let decoder: VariantDecoder = codec.new_decoder();
         assert!(rt; variant_name(&decoder) == variant_of(codec));
         assert!(rt; codec.text_lengths().utf8(5, 0) == decoder.max_utf8_buffer_length(5));
-        decode_sample(&rt, decoder, &sample)?;
+        decode_sample(&rt, decoder, sample)?;
     }
     Ok(())
 }
@@ -140,8 +138,8 @@ fn compare_pointers(rt: &impl Abort, sample: &Sample) -> Result<(), Fail> {
 
 #[test]
 fn each_index_has_characters_by_pointer(rt: HostRuntime) -> Result<(), Fail> {
-    for sample in samples() {
-        compare_pointers(&rt, &sample)?;
+    for sample in SAMPLES {
+        compare_pointers(&rt, sample)?;
     }
     Ok(())
 }

@@ -6,6 +6,7 @@ mod types;
 
 use crate::surface::derives::{are_equal, debug_text};
 use crate::surface::encoders::types::{variant_name, variant_of};
+use crate::surface::samples::{SAMPLES, Sample};
 use enc_encode::{
     Codec, EncoderResult, EncoderStop, Iso2022JpEncoder, RawEncoder, VariantEncoder, has_encoder,
     new_encoder,
@@ -13,7 +14,6 @@ use enc_encode::{
 use enc_units::{Utf8Chars, Utf16Chars};
 use std::process::Abort;
 use std::test::Fail;
-use test_support::samples::{Sample, samples};
 
 #[test]
 fn results_of_encoders_are_compared_and_printed(rt: HostRuntime) -> Result<(), Fail> {
@@ -58,13 +58,13 @@ fn an_encoder_keeps_its_character_set(rt: HostRuntime) {
     encode_in_parts(&rt, &mut Iso2022JpEncoder::new(&[]));
 }
 
-/// Encodes the short text of a sample by a new encoder.
+/// Encodes the text of a sample by a new encoder.
 pub(crate) fn encode_sample<E: RawEncoder + Drop>(
     rt: &impl Abort,
     mut encoder: E,
     sample: &Sample,
 ) {
-    let (text, bytes) = sample.text;
+    let (text, bytes) = sample.encoded;
     let mut dst: [u8; 8] = [0; 8];
     let answer = encoder.encode(&mut Utf8Chars::new(text), &mut dst, true);
     let want = (EncoderResult::InputEmpty, text.len(), bytes.len());
@@ -84,9 +84,9 @@ fn compare_variant(rt: &impl Abort, sample: &Sample, name: &str) {
 
 #[test]
 fn each_codec_but_three_has_an_encoder(rt: HostRuntime) {
-    for sample in samples() {
+    for sample in SAMPLES {
         match variant_of(sample.codec) {
-            Some(name) => compare_variant(&rt, &sample, name),
+            Some(name) => compare_variant(&rt, sample, name),
             None => assert!(rt; !has_encoder(sample.codec)),
         }
     }

@@ -6,7 +6,7 @@ use crate::decoding::mixed::compare_mixed;
 use crate::decoding::one_shot::compare_at_once;
 use crate::decoding::outputs::{ALL_OUTPUTS, Output};
 use crate::decoding::raw::compare_raw_cuts;
-use crate::decoding::rows::{Cut, Input, Row, input_of};
+use crate::decoding::rows::{Cut, Input};
 use crate::decoding::runs::{Run, Use, run_cut};
 use crate::decoding::small_offers::compare_after_broken_marks;
 use enc_decoder::RawDecoder;
@@ -82,21 +82,6 @@ fn compare_cut(
 ) -> Result<(), Fail> {
     let run = run_cut(alloc, way, input.bytes, cut, room)?;
     compare(&run, way, input, room)
-}
-
-/// Compares one call with the whole input, with this room for each call, with calls of single
-/// bytes.
-pub fn compare_offers(alloc: Global, way: Use, input: &Input<'_>, room: usize) -> Result<(), Fail> {
-    let whole = run_cut(alloc, way, input.bytes, Cut::At(0), room)?;
-    let single = run_cut(alloc, way, input.bytes, Cut::Everywhere, room)?;
-    compare(&whole, way, input, room)?;
-    compare(&single, way, input, room)?;
-    let case = Case {
-        name: way.encoding.name(),
-        input: input.bytes,
-        room,
-    };
-    expect_bytes(&whole.text, &single.text, "single bytes differ", &case)
 }
 
 /// Runs an input through every cut, or, if not `wide`, uncut, in single bytes, and cut in the
@@ -194,18 +179,4 @@ pub fn compare_input(
     compare_cuts_of(alloc, (way, others), input)?;
     compare_raw_cuts(alloc, (encoding.name(), decoder), input)?;
     compare_after_broken_marks(alloc, encoding, input.bytes)
-}
-
-/// Runs the input of each row so. The first row goes into all outputs.
-pub fn compare_all(
-    alloc: Global,
-    (encoding, decoder): (Encoding, impl RawDecoder),
-    rows: &[Row],
-) -> Result<(), Fail> {
-    let mut others = Others::All;
-    for row in rows {
-        compare_input(alloc, (encoding, decoder), others, &input_of(row))?;
-        others = Others::Few;
-    }
-    Ok(())
 }

@@ -43,7 +43,7 @@ pub struct Given<'a> {
 pub type Answer = (DecoderResult, usize, usize, bool);
 
 /// The result of a call with replacement, as one without replacement has it.
-pub(crate) fn result_of(stop: CoderResult) -> DecoderResult {
+fn result_of(stop: CoderResult) -> DecoderResult {
     match stop {
         CoderResult::InputEmpty => DecoderResult::InputEmpty,
         CoderResult::OutputFull => DecoderResult::OutputFull,

@@ -3,10 +3,9 @@
 
 use crate::cases::{Case, expect};
 use crate::decoding::outputs::written_part;
-use crate::decoding::raw_calls::call;
 use crate::decoding::rows::{Cut, Input, MOST_ROOM, REPLACEMENT_CHARACTER, chunks_of, split};
-use enc_decoder::{ErrorMode, RawDecoder};
-use enc_units::DecoderResult;
+use enc_decoder::{DecoderStop, ErrorMode, RawDecoder};
+use enc_units::{DecoderResult, Units, Utf8Slice};
 use std::alloc::Global;
 use std::test::Fail;
 
@@ -30,6 +29,21 @@ const MOST_HELD: usize = 5;
 
 /// No input of a row takes more calls for a chunk.
 const MOST_CALLS: usize = 128;
+
+/// The answer of a call: why it stopped, bytes read, bytes written, and the room that it left.
+type RawAnswer = (DecoderResult, usize, usize, usize);
+
+/// Makes a call up to a malformed sequence.
+fn call(
+    decoder: &mut impl RawDecoder,
+    (src, last): (&[u8], bool),
+    dst: &mut [u8],
+    mode: ErrorMode,
+) -> RawAnswer {
+    let mut out = Utf8Slice::new(dst);
+    let DecoderStop { result, read } = decoder.decode(src, &mut out, last, mode);
+    (result, read, out.len(), out.room())
+}
 
 /// The result of a call.
 #[derive(Clone, Copy)]

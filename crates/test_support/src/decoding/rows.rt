@@ -22,25 +22,6 @@ pub struct Input<'a> {
     pub room: usize,
 }
 
-/// A row of a table: the bytes, the text, the malformed sequences and the room of an input. Tables
-/// are constants of such rows, since the prover looks at each row that a function makes.
-pub type Row = (
-    &'static [u8],
-    &'static str,
-    &'static [(usize, usize)],
-    usize,
-);
-
-/// The input of a row.
-pub fn input_of(row: &Row) -> Input<'static> {
-    Input {
-        bytes: row.0,
-        text: row.1.as_bytes(),
-        malformed: row.2,
-        room: row.3,
-    }
-}
-
 /// The way in which an input is split into chunks.
 #[derive(Clone, Copy)]
 pub enum Cut {

@@ -11,10 +11,6 @@ use encoding_rs::{Encoder, EncoderResult};
 use std::alloc::Global;
 use std::test::Fail;
 
-/// A row of a table: a text, and its bytes, with a decimal reference in place of each unmappable
-/// character.
-pub type EncoderRow = (&'static str, &'static [u8]);
-
 /// A text, and its bytes, as in such a row.
 pub type Encoded<'a> = (&'a str, &'a [u8]);
 

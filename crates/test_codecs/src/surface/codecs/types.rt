@@ -3,32 +3,32 @@
 //! Written by scripts/make-sources from data/templates: change the text there, and not this file.
 
 use crate::surface::codecs::decode_sample;
+use crate::surface::samples;
 use enc_codec::*;
 use std::test::Fail;
-use test_support::samples::*;
 
 /// The index of windows-1252.
 const WINDOWS_1252: SingleByteIndex = SingleByteIndex::Windows1252;
 
 #[test]
 fn each_decoder_decodes_its_encoding(rt: HostRuntime) -> Result<(), Fail> {
-    decode_sample(&rt, Utf8Decoder::new(), &utf_8::sample())?;
-    decode_sample(&rt, Utf16Decoder::new(true), &utf_16be::sample())?;
-    decode_sample(&rt, Utf16Decoder::new(false), &utf_16le::sample())?;
+    decode_sample(&rt, Utf8Decoder::new(), &samples::UTF_8)?;
+    decode_sample(&rt, Utf16Decoder::new(true), &samples::UTF_16BE)?;
+    decode_sample(&rt, Utf16Decoder::new(false), &samples::UTF_16LE)?;
     decode_sample(
         &rt,
         SingleByteDecoder::new(WINDOWS_1252),
-        &single_byte::windows_1252(),
+        &samples::SINGLE_BYTE,
     )?;
-    decode_sample(&rt, Big5Decoder::new(), &big5::sample())?;
-    decode_sample(&rt, EucKrDecoder::new(), &euc_kr::sample())?;
-    decode_sample(&rt, ShiftJisDecoder::new(), &shift_jis::sample())?;
-    decode_sample(&rt, EucJpDecoder::new(), &euc_jp::sample())?;
-    decode_sample(&rt, Gb18030Decoder::new(), &gbk::sample())?;
-    decode_sample(&rt, Gb18030Decoder::new(), &gb18030::sample())?;
-    decode_sample(&rt, XUserDefinedDecoder::new(), &x_user_defined::sample())?;
-    decode_sample(&rt, ReplacementDecoder::new(), &replacement::sample())?;
-    decode_sample(&rt, Iso2022JpDecoder::new(), &iso_2022_jp::sample())?;
+    decode_sample(&rt, Big5Decoder::new(), &samples::BIG5)?;
+    decode_sample(&rt, EucKrDecoder::new(), &samples::EUC_KR)?;
+    decode_sample(&rt, ShiftJisDecoder::new(), &samples::SHIFT_JIS)?;
+    decode_sample(&rt, EucJpDecoder::new(), &samples::EUC_JP)?;
+    decode_sample(&rt, Gb18030Decoder::new(), &samples::GBK)?;
+    decode_sample(&rt, Gb18030Decoder::new(), &samples::GB18030)?;
+    decode_sample(&rt, XUserDefinedDecoder::new(), &samples::X_USER_DEFINED)?;
+    decode_sample(&rt, ReplacementDecoder::new(), &samples::REPLACEMENT)?;
+    decode_sample(&rt, Iso2022JpDecoder::new(), &samples::ISO_2022_JP)?;
     Ok(())
 }
 

@@ -3,9 +3,9 @@
 //! Written by scripts/make-sources from data/templates: change the text there, and not this file.
 
 use crate::surface::encoders::encode_sample;
+use crate::surface::samples;
 use enc_codec::SingleByteIndex;
 use enc_encode::*;
-use test_support::samples::*;
 
 /// The repertoire of windows-1252.
 const WINDOWS_1252: SingleByte = SingleByte {
@@ -23,43 +23,43 @@ fn each_encoder_encodes_its_encoding(rt: HostRuntime) {
     encode_sample(
         &rt,
         Utf8Encoder::new(Barring::new(Utf8, &[])),
-        &utf_8::sample(),
+        &samples::UTF_8,
     );
     let encoder = SingleByteEncoder::new(Barring::new(WINDOWS_1252, &[]));
-    encode_sample(&rt, encoder, &single_byte::windows_1252());
+    encode_sample(&rt, encoder, &samples::SINGLE_BYTE);
     encode_sample(
         &rt,
         Big5Encoder::new(Barring::new(Big5, &[])),
-        &big5::sample(),
+        &samples::BIG5,
     );
     encode_sample(
         &rt,
         EucKrEncoder::new(Barring::new(EucKr, &[])),
-        &euc_kr::sample(),
+        &samples::EUC_KR,
     );
     encode_sample(
         &rt,
         ShiftJisEncoder::new(Barring::new(ShiftJis, &[])),
-        &shift_jis::sample(),
+        &samples::SHIFT_JIS,
     );
     encode_sample(
         &rt,
         EucJpEncoder::new(Barring::new(EucJp, &[])),
-        &euc_jp::sample(),
+        &samples::EUC_JP,
     );
     encode_sample(
         &rt,
         Gb18030Encoder::new(Barring::new(GBK, &[])),
-        &gbk::sample(),
+        &samples::GBK,
     );
     encode_sample(
         &rt,
         Gb18030Encoder::new(Barring::new(GB18030, &[])),
-        &gb18030::sample(),
+        &samples::GB18030,
     );
     let encoder = XUserDefinedEncoder::new(Barring::new(XUserDefined, &[]));
-    encode_sample(&rt, encoder, &x_user_defined::sample());
-    encode_sample(&rt, Iso2022JpEncoder::new(&[]), &iso_2022_jp::sample());
+    encode_sample(&rt, encoder, &samples::X_USER_DEFINED);
+    encode_sample(&rt, Iso2022JpEncoder::new(&[]), &samples::ISO_2022_JP);
 }
 
 /// The name of an encoder's variant.
