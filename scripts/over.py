@@ -96,7 +96,7 @@ def outcomes(peer, rows):
 def crate():
     """The Rust crate encoding_rs."""
     folder, version = build_peer("scripts/peer", f"{CACHE}/conformance")
-    return Peer(f"encoding_rs {version} of Debian", lambda lines: said([f"{folder}/rows"], lines))
+    return Peer(f"encoding_rs {version}", lambda lines: said([f"{folder}/rows"], lines))
 
 
 def python():

@@ -8,44 +8,45 @@ from typing import NamedTuple
 REPLACEMENT = "\ufffd"
 
 # Causes of texts.
-PRIVATE = "bytes have private-use characters, where the standard has others or malformed sequences"
-CONTROLS = "lead bytes, or bytes without a character, are control characters by themselves"
+PRIVATE = "bytes have private-use characters"
+CONTROLS = "bytes without a character are controls"
 LACKS = "bytes that have a character are malformed"
-LACKS_CONTROLS = "bytes that are control characters above U+007F are malformed"
-HAS = "bytes that are malformed, or the last of them, have a character"
+LACKS_CONTROLS = "bytes of controls are malformed"
+HAS = "malformed bytes, or the last of them, have a character"
 OTHER = "bytes have another character"
-COUNT = "malformed bytes become another number of U+FFFD"
-SKIPS = "malformed bytes are skipped, without U+FFFD"
+COUNT = "another number of U+FFFD"
+SKIPS = "malformed bytes are skipped"
 TAKES = "a malformed sequence takes bytes after it along"
 PLACES = "the text is the same, and the malformed sequences are other bytes"
 CUT = "another text if the input is cut than if it is whole"
-GB18030_2022 = "the characters of GB18030-2022 are those of an older edition, and A3 A0 is of private use"
-FOUR_BYTES = "GBK has no sequences of four bytes, which it has in common with gb18030"
+GB18030_2022 = "GB18030-2022, or A3 A0, is not known"
+FOUR_BYTES = "GBK has no sequences of four bytes"
 # Causes of bytes.
-UNMAPPABLE = "characters that have bytes are unmappable"
-MAPPABLE = "characters that are unmappable have bytes"
+UNMAPPABLE = "characters with bytes are unmappable"
+MAPPABLE = "unmappable characters have bytes"
 OTHER_BYTES = "characters have other bytes"
 # Causes of Python and of Node.
-LATIN_1 = "windows-1252 is decoded as ISO-8859-1: 80 to 9F are control characters"
+LATIN_1 = "80 to 9F are controls"
 ERROR = "the codec raises an error, though errors have a handler"
-NO_DECODER = "there is no TextDecoder of the encoding: it throws RangeError"
-THROWS = "without `fatal`, a TextDecoder throws TypeError if the input is cut"
-FATAL = "a TextDecoder with `fatal` throws where nothing is malformed, or does not throw where something is"
+FF = "with `ignoreBOM`, FF at the start is lost"
+NO_DECODER = "no TextDecoder has the encoding"
+THROWS = "without `fatal`, cut inputs throw"
+FATAL = "`fatal` throws where nothing is malformed, or does not throw where something is"
 # Causes of the crate.
-SMALL = "`OutputFull` in fewer than 4 bytes or 2 code units, for which its documentation asks, where the next text fits"
-SMALL_PANIC = "a panic in fewer than 4 bytes or 2 code units, for which its documentation asks"
-SMALL_ENCODER = "`OutputFull` in fewer than 14 bytes with references, or 4 without, where the next bytes fit"
-EARLIER = "`OutputFull` earlier, in less room than its length query returns"
-AFTER = "the malformed sequence is the same, and another number of bytes is read after it"
-MARK_PANIC = "a panic in 4 or 5 bytes, where a byte order mark that breaks off has text (docs/UPSTREAM.md)"
-SECOND_PANIC = "a panic where a second U+FFFD of ISO-2022-JP does not fit (docs/UPSTREAM.md)"
-HELD_MARK = "a malformed byte EF of a byte order mark that breaks off is placed one byte too late (docs/UPSTREAM.md)"
-LOST = "a held lead byte is lost in a call that has no input (docs/UPSTREAM.md)"
-SPLIT = "a pair of surrogates is split at the end of the room (docs/UPSTREAM.md)"
-FINISHED = "a query of a decoder or encoder that is finished panics"
-LENGTHS = "a length query returns another length (docs/DIFFERENCES.md)"
-ASCII_END = "the Latin-1 prefix ends before the ASCII bytes at its end (docs/UPSTREAM.md)"
-BYTE_80 = "the Latin-1 prefix ends at byte 80 (docs/UPSTREAM.md)"
+SMALL = "`OutputFull` though the next text fits, in under 4 bytes or 2 code units"
+SMALL_PANIC = "a panic in under 4 bytes or 2 code units"
+SMALL_ENCODER = "`OutputFull` though the next bytes fit, in under 14 bytes"
+EARLIER = "`OutputFull` earlier than by the length query"
+AFTER = "`Malformed` with more or fewer bytes read after it"
+MARK_PANIC = "a panic in 4 or 5 bytes after the start of a byte order mark (UPSTREAM)"
+SECOND_PANIC = "a panic where a second U+FFFD of ISO-2022-JP does not fit (UPSTREAM)"
+HELD_MARK = "EF, as of a byte order mark, is placed one byte on (UPSTREAM)"
+LOST = "a held lead byte is lost in a call that has no input (UPSTREAM)"
+SPLIT = "a pair of surrogates is split at the end of the room (UPSTREAM)"
+FINISHED = "a query of a finished decoder panics"
+LENGTHS = "another length (DIFFERENCES)"
+ASCII_END = "the Latin-1 prefix ends before the ASCII bytes at its end (UPSTREAM)"
+BYTE_80 = "the Latin-1 prefix ends at byte 80 (UPSTREAM)"
 NOT_EXPLAINED = "not explained"
 
 NEW_IN_2022 = {*map(chr, range(0xFE10, 0xFE1A)), *map(chr, range(0x9FB4, 0x9FBC)), "\u1e3f", "\ue7c7"}
@@ -174,8 +175,11 @@ def of_node(failure):
     if part == "bytes":
         return [cause_of_encoding(failure)]
     want, got = failure.texts()
-    is_latin_1 = failure.get("of") == "windows-1252" and set(got) - set(want) <= CONTROL
-    return [LATIN_1] if is_latin_1 else causes_of_texts(failure)
+    if failure.get("of") == "windows-1252" and failure.row.head.marks == "off" and want.replace("ÿ", "", 1) == got:
+        return [FF]
+    if failure.get("of") == "windows-1252" and set(got) - set(want) <= CONTROL:
+        return [LATIN_1]
+    return causes_of_texts(failure)
 
 
 def numbers_of(result):

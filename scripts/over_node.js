@@ -55,12 +55,6 @@ function compare(label, cuts, text, isMalformed) {
   return 'holds';
 }
 
-// Whether a decoder with `fatal` throws.
-function isThrown(label, src) {
-  const made = decoded(label, true, [src]);
-  return made === null ? 'holds' : fails({ part: 'fatal', stage: 'whole', of: label, cut: 'no', text: hex(made) });
-}
-
 function among(label, letter, middle, text, isMalformed) {
   const letters = Math.floor((40 - middle.length) / letter.length), many = (it, count) => Array(count).fill(it);
   for (let front = 0; front <= letters; front++) {
@@ -80,10 +74,7 @@ function bytes(label, first, text) {
 // The rows of decoders, by their names.
 const DECODING = {
   text: (label, [src, text, places]) => compare(label, cutsOf(bytesOf(src)), textOf(text), places !== '-'),
-  whole: (label, [src, text, , flag]) => {
-    if (section.reports && flag === 'yes') return isThrown(label, bytesOf(src));
-    return compare(label, [['no', [bytesOf(src)]]], textOf(text), flag === 'yes');
-  },
+  whole: (label, [src, text, , flag]) => compare(label, [['no', [bytesOf(src)]]], textOf(text), flag === 'yes'),
   among: (label, [letter, src, text, places]) => {
     return among(label, bytesOf(letter), bytesOf(src), textOf(text), places !== '-');
   },
@@ -115,18 +106,25 @@ function encode(name, [text, bytes]) {
   return hex(made) === bytes ? 'holds' : fails({ part: 'bytes', stage: 'whole', of: 'UTF-8', bytes: hex(made) });
 }
 
+// A label as it is, in capitals, with whitespace around it, and with a letter more, by which it is none.
 function label(digits, name) {
   const label = bytesOf(digits).toString('latin1'), wanted = name === 'replacement' ? 'none' : name.toLowerCase();
-  const given = isThere(label) ? new TextDecoder(label).encoding : 'none';
-  if (given === wanted) return 'holds';
-  return fails({ part: wanted !== 'none' && !isThere(name) ? 'lacks' : 'label', of: name, encoding: given });
+  const capitals = label.replace(/[a-z]/g, (it) => it.toUpperCase());
+  const forms = [[label, wanted], [capitals, wanted], [`\t\n\f\r ${label}\t\n\f\r `, wanted]];
+  if (name !== 'none') forms.push([`${label}x`, 'none']);
+  for (const [form, want] of forms) {
+    const given = isThere(form) ? new TextDecoder(form).encoding : 'none';
+    if (given === want) continue;
+    return fails({ part: want !== 'none' && !isThere(name) ? 'lacks' : 'label', of: name, encoding: given });
+  }
+  return 'holds';
 }
 
 function answer(line) {
   const [name, ...words] = line.split(' ');
   if (name === 'decoder' || name === 'encoder') {
-    const [names, marks, mode, barred] = words;
-    section = { decodes: name === 'decoder', names: names.split(','), marks, reports: mode === 'report', barred };
+    const [names, marks, , barred] = words;
+    section = { decodes: name === 'decoder', names: names.split(','), marks, barred };
     return 'holds';
   }
   if (name === 'label') return label(...words);

@@ -1,9 +1,9 @@
 //! Sums over what the Rust crate encoding_rs encodes single characters to.
 //!
 //! They are over every character of the Basic Multilingual Plane and each 97th of the others, and in Big5 every one of
-//! plane 2. A sum is FNV-1a with 64 bits, over numbers: of a character that is mappable its bytes and 0x100. Of any other
-//! one they are without replacement 0x200 and the character that is reported, and with it the bytes of its reference,
-//! with the escape sequence that may follow, and 0x200.
+//! plane 2. A sum is FNV-1a with 64 bits, over numbers: of a character that is mappable its bytes and 0x100. Of any
+//! other one they are without replacement 0x200 and the character that is reported, and with it the bytes of its
+//! reference, with the escape sequence that may follow, and 0x200.
 use encoding_rs::{EncoderResult, Encoding, BIG5};
 
 const OFFSET_BASIS: u64 = 0xCBF2_9CE4_8422_2325;

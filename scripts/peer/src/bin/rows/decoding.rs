@@ -1,7 +1,9 @@
 //! Rows of decoders.
-use crate::words::{bytes_of, caught, hex, length_of, named, number_of, parts, places_of, shown, shown_places, text_of, Words};
+use crate::words::{answer_of, caught, fails, hex, lower, shown, shown_places};
+use crate::words::{bytes_of, length_of, named, number_of, parts, places_of, text_of, Words};
 use encoding_rs::{CoderResult, Decoder, DecoderResult, Encoding};
 use std::borrow::Cow;
+use std::fmt::Display;
 
 /// Room for the whole text of a row, in code units.
 const AMPLE: usize = 4096;
@@ -20,7 +22,20 @@ const OUTPUTS: [Output; 4] = [Output::Utf8, Output::Utf16, Output::Str, Output::
 impl Output {
     /// The least room, by the crate's documentation.
     fn least(self) -> usize {
-        if self == Output::Utf16 { 2 } else { 4 }
+        if self == Output::Utf16 {
+            2
+        } else {
+            4
+        }
+    }
+
+    /// The length query of calls into this output.
+    fn query(self, reports: bool) -> &'static str {
+        match (self, reports) {
+            (Output::Utf16, _) => "utf16",
+            (_, true) => "report",
+            _ => "utf8",
+        }
     }
 
     /// The room in which the end is reached, if it is in `room` bytes of UTF-8.
@@ -30,6 +45,35 @@ impl Output {
             (Output::Utf16, _) => room.min(1),
             _ => room,
         }
+    }
+}
+
+/// What the answer of a call has to be.
+struct Wanted<'a> {
+    result: &'a str,
+    read: usize,
+    written: usize,
+    replaced: bool,
+    text: String,
+}
+
+impl Wanted<'_> {
+    /// Reads `RESULT READ WRITTEN REPLACED TEXT`.
+    fn new<'a>(words: &mut Words<'a>) -> Wanted<'a> {
+        let (result, read, written) = (words.next(), number_of(words.next()), number_of(words.next()));
+        Wanted { result, read, written, replaced: words.next() == "yes", text: text_of(words.next()) }
+    }
+
+    /// Another answer in words, with what the length query has returned before the call.
+    fn other(&self, given: &Answer, query: Option<usize>) -> Option<String> {
+        let result = format!("{:?}", given.result).replace(' ', "");
+        let Answer { read, written, replaced, text, .. } = given;
+        let want = (self.result, self.read, self.written, self.replaced, &self.text);
+        if want == (result.as_str(), *read, *written, *replaced, text) {
+            return None;
+        }
+        let (text, query) = (hex(text.as_bytes()), shown(query));
+        Some(format!("result={result} read={read} written={written} replaced={replaced} text={text} query={query}"))
     }
 }
 
@@ -111,47 +155,54 @@ fn reporting((result, read, written): (DecoderResult, usize, usize)) -> Answer {
 
 /// Makes a call into one of the outputs.
 fn call(decoder: &mut Decoder, output: Output, given: &Given) -> Answer {
-    let Given { src, last, room, reports } = *given;
     match output {
-        Output::Utf8 => {
-            let mut dst = vec![0xA5; room];
-            let answer = if reports {
-                reporting(decoder.decode_to_utf8_without_replacement(src, &mut dst, last))
-            } else {
-                replacing(decoder.decode_to_utf8(src, &mut dst, last))
-            };
-            Answer { text: String::from_utf8_lossy(&dst[..answer.written]).into_owned(), ..answer }
-        }
-        Output::Utf16 => {
-            let mut dst = vec![0xDCA5; room];
-            let answer = if reports {
-                reporting(decoder.decode_to_utf16_without_replacement(src, &mut dst, last))
-            } else {
-                replacing(decoder.decode_to_utf16(src, &mut dst, last))
-            };
-            Answer { text: String::from_utf16_lossy(&dst[..answer.written]), ..answer }
-        }
-        Output::Str => {
-            let mut dst = "\0".repeat(room);
-            let answer = if reports {
-                reporting(decoder.decode_to_str_without_replacement(src, &mut dst, last))
-            } else {
-                replacing(decoder.decode_to_str(src, &mut dst, last))
-            };
-            Answer { text: String::from(&dst[..answer.written]), ..answer }
-        }
-        Output::String => {
-            let mut text = String::with_capacity(room);
-            let answer = if reports {
-                let (result, read) = decoder.decode_to_string_without_replacement(src, &mut text, last);
-                reporting((result, read, text.len()))
-            } else {
-                let (result, read, replaced) = decoder.decode_to_string(src, &mut text, last);
-                replacing((result, read, text.len(), replaced))
-            };
-            Answer { text, ..answer }
-        }
+        Output::Utf8 => to_utf8(decoder, given),
+        Output::Utf16 => to_utf16(decoder, given),
+        Output::Str => to_str(decoder, given),
+        Output::String => to_string(decoder, given),
     }
+}
+
+fn to_utf8(decoder: &mut Decoder, given: &Given) -> Answer {
+    let mut dst = vec![0xA5; given.room];
+    let answer = if given.reports {
+        reporting(decoder.decode_to_utf8_without_replacement(given.src, &mut dst, given.last))
+    } else {
+        replacing(decoder.decode_to_utf8(given.src, &mut dst, given.last))
+    };
+    Answer { text: String::from_utf8_lossy(&dst[..answer.written]).into_owned(), ..answer }
+}
+
+fn to_utf16(decoder: &mut Decoder, given: &Given) -> Answer {
+    let mut dst = vec![0xDCA5; given.room];
+    let answer = if given.reports {
+        reporting(decoder.decode_to_utf16_without_replacement(given.src, &mut dst, given.last))
+    } else {
+        replacing(decoder.decode_to_utf16(given.src, &mut dst, given.last))
+    };
+    Answer { text: String::from_utf16_lossy(&dst[..answer.written]), ..answer }
+}
+
+fn to_str(decoder: &mut Decoder, given: &Given) -> Answer {
+    let mut dst = "\0".repeat(given.room);
+    let answer = if given.reports {
+        reporting(decoder.decode_to_str_without_replacement(given.src, &mut dst, given.last))
+    } else {
+        replacing(decoder.decode_to_str(given.src, &mut dst, given.last))
+    };
+    Answer { text: String::from(&dst[..answer.written]), ..answer }
+}
+
+fn to_string(decoder: &mut Decoder, given: &Given) -> Answer {
+    let mut text = String::with_capacity(given.room);
+    let answer = if given.reports {
+        let (result, read) = decoder.decode_to_string_without_replacement(given.src, &mut text, given.last);
+        reporting((result, read, text.len()))
+    } else {
+        let (result, read, replaced) = decoder.decode_to_string(given.src, &mut text, given.last);
+        replacing((result, read, text.len(), replaced))
+    };
+    Answer { text, ..answer }
 }
 
 fn chunks(src: &[u8], cut: Cut) -> Vec<&[u8]> {
@@ -215,8 +266,9 @@ fn fault_of(run: Option<&Run>, way: Way, input: &Input, room: usize) -> Option<&
     if !run.is_finished {
         return (room >= way.output.enough(input.room)).then_some("stuck");
     }
-    let places = if way.reports { run.malformed == input.malformed } else { run.had_errors != input.malformed.is_empty() };
-    (!places).then_some("places")
+    let is_malformed = !input.malformed.is_empty();
+    let is_placed = if way.reports { run.malformed == input.malformed } else { run.had_errors == is_malformed };
+    (!is_placed).then_some("places")
 }
 
 /// Decodes an input in one way. What it gives where that is wrong.
@@ -224,11 +276,17 @@ fn compare(stage: &str, way: Way, input: &Input, cut: Cut, room: usize) -> Resul
     let run = caught(|| run(way, input.src, cut, room));
     let Some(part) = fault_of(run.as_ref(), way, input, room) else { return Ok(()) };
     let run = run.unwrap_or_default();
-    let (name, mode) = (way.encoding.name(), if way.reports { "report" } else { "replace" });
-    let (text, places) = (hex(run.text.as_bytes()), shown_places(&run.malformed));
-    let cut = format!("{cut:?}").to_lowercase();
-    let output = format!("{:?}", way.output).to_lowercase();
-    Err(format!("fails part={part} stage={stage} of={name} output={output} mode={mode} cut={cut} room={room} text={text} malformed={places}"))
+    Err(fails(&[
+        ("part", &part),
+        ("stage", &stage),
+        ("of", &way.encoding.name()),
+        ("output", &lower(way.output)),
+        ("mode", &if way.reports { "report" } else { "replace" }),
+        ("cut", &lower(cut)),
+        ("room", &room),
+        ("text", &hex(run.text.as_bytes())),
+        ("malformed", &shown_places(&run.malformed)),
+    ]))
 }
 
 /// Decodes an input with each cut, in each output and mode, in one room.
@@ -262,7 +320,8 @@ fn compare_among(way: Way, letter: &[u8], input: &Input) -> Result<(), String> {
         let back = letters - front;
         let src = [&letter.repeat(front)[..], input.src, &letter.repeat(back)].concat();
         let text = ["a".repeat(front).as_str(), input.text, &"a".repeat(back)].concat();
-        let malformed: Vec<_> = input.malformed.iter().map(|(at, length)| (at + front * letter.len(), *length)).collect();
+        let place = |(at, length): &(usize, usize)| (at + front * letter.len(), *length);
+        let malformed: Vec<_> = input.malformed.iter().map(place).collect();
         let input = Input { src: &src, text: &text, malformed: &malformed, room: 4 };
         for (output, reports) in OUTPUTS.into_iter().flat_map(|output| [(output, false), (output, true)]) {
             let way = Way { output, reports, ..way };
@@ -294,7 +353,8 @@ fn compare_bytes(encoding: &'static Encoding, first: usize, text: &str) -> Resul
     if made == text {
         return Ok(());
     }
-    Err(format!("fails part=text stage=bytes of={} text={}", encoding.name(), hex(made.as_bytes())))
+    let text = hex(made.as_bytes());
+    Err(fails(&[("part", &"text"), ("stage", &"bytes"), ("of", &encoding.name()), ("text", &text)]))
 }
 
 impl Decoders {
@@ -333,7 +393,7 @@ impl Decoders {
             }
             _ => return String::from("skip"),
         };
-        made.err().unwrap_or(String::from("holds"))
+        answer_of(made)
     }
 
     fn way(&self, encoding: &'static Encoding) -> Way<'_> {
@@ -348,28 +408,18 @@ impl Decoders {
 
     fn call(&mut self, words: &mut Words) -> Result<(), String> {
         let (src, last, room) = (bytes_of(words.next()), words.next() == "yes", number_of(words.next()));
-        let (result, read, written) = (words.next(), number_of(words.next()), number_of(words.next()));
-        let (replaced, text) = (words.next() == "yes", text_of(words.next()));
+        let want = Wanted::new(words);
+        let given = Given { src: &src, last, room, reports: self.reports };
         for (decoder, output) in &mut self.targets {
-            let (used, is_wide) = (decoder.encoding().name(), *output == Output::Utf16);
-            let shown_output = format!("{output:?}").to_lowercase();
-            let query = caught(|| match (is_wide, self.reports) {
-                (true, _) => decoder.max_utf16_buffer_length(src.len()),
-                (_, true) => decoder.max_utf8_buffer_length_without_replacement(src.len()),
-                _ => decoder.max_utf8_buffer_length(src.len()),
-            });
-            let given = Given { src: &src, last, room, reports: self.reports };
+            let of = decoder.encoding().name();
+            let query = caught(|| length(decoder, output.query(self.reports), src.len())).flatten();
+            let place: [(&str, &dyn Display); 3] = [("stage", &"call"), ("of", &of), ("output", &lower(*output))];
             let Some(answer) = caught(|| call(decoder, *output, &given)) else {
-                return Err(format!("fails part=panic stage=call of={used} output={shown_output}"));
+                return Err(fails(&[&[("part", &"panic" as &dyn Display)], &place[..]].concat()));
             };
-            let given = format!("{:?}", answer.result).replace(' ', "");
-            if (given.as_str(), answer.read, answer.written, answer.replaced) == (result, read, written, replaced) && answer.text == text {
-                continue;
+            if let Some(other) = want.other(&answer, query) {
+                return Err(fails(&[("part", &"call"), place[0], place[1], place[2]]) + " " + &other);
             }
-            let query = query.map_or(String::from("none"), shown);
-            let Answer { read, written, replaced, text, .. } = answer;
-            let text = hex(text.as_bytes());
-            return Err(format!("fails part=call stage=call of={used} output={shown_output} result={given} read={read} written={written} replaced={replaced} text={text} query={query}"));
         }
         Ok(())
     }
@@ -377,7 +427,8 @@ impl Decoders {
     fn used(&self, words: &mut Words) -> Result<(), String> {
         let want = words.next();
         let other = self.targets.iter().find(|(decoder, _)| decoder.encoding().name() != want);
-        other.map_or(Ok(()), |(decoder, _)| Err(format!("fails part=used encoding={}", decoder.encoding().name())))
+        let Some((decoder, _)) = other else { return Ok(()) };
+        Err(fails(&[("part", &"used"), ("encoding", &decoder.encoding().name())]))
     }
 
     fn lengths(&self, words: &mut Words) -> Result<(), String> {
@@ -385,7 +436,7 @@ impl Decoders {
         for (decoder, _) in &self.targets {
             let lengths = ["utf8", "report", "utf16"].map(|of| shown(length(decoder, of, n))).join(",");
             if lengths != want {
-                return Err(format!("fails part=lengths of={} lengths={lengths}", decoder.encoding().name()));
+                return Err(fails(&[("part", &"lengths"), ("of", &decoder.encoding().name()), ("lengths", &lengths)]));
             }
         }
         Ok(())
@@ -396,7 +447,8 @@ impl Decoders {
         for (decoder, _) in &self.targets {
             let given = length(decoder, of, n);
             if given != want {
-                return Err(format!("fails part=lengths of={} lengths={}", decoder.encoding().name(), shown(given)));
+                let (of, given) = (decoder.encoding().name(), shown(given));
+                return Err(fails(&[("part", &"lengths"), ("of", &of), ("lengths", &given)]));
             }
         }
         Ok(())
@@ -407,47 +459,46 @@ impl Decoders {
         for (decoder, _) in &self.targets {
             let given = decoder.latin1_byte_compatible_up_to(&src);
             if given != want {
-                return Err(format!("fails part=latin1 of={} length={}", decoder.encoding().name(), shown(given)));
+                let (of, given) = (decoder.encoding().name(), shown(given));
+                return Err(fails(&[("part", &"latin1"), ("of", &of), ("length", &given)]));
             }
         }
         Ok(())
     }
 
-    /// The one-shot call of the head: its text or none, the encoding that was used, whether a sequence was malformed.
-    fn at_once<'a>(&self, encoding: &'static Encoding, src: &'a [u8]) -> (Option<Cow<'a, str>>, &'static Encoding, bool) {
-        if self.reports {
-            let text = encoding.decode_without_bom_handling_and_without_replacement(src);
-            let is_malformed = text.is_none();
-            return (text, encoding, is_malformed);
-        }
-        match self.marks.as_str() {
-            "sniff" => {
-                let (text, used, is_malformed) = encoding.decode(src);
-                (Some(text), used, is_malformed)
-            }
-            "remove" => {
-                let (text, is_malformed) = encoding.decode_with_bom_removal(src);
-                (Some(text), encoding, is_malformed)
-            }
-            _ => {
-                let (text, is_malformed) = encoding.decode_without_bom_handling(src);
-                (Some(text), encoding, is_malformed)
-            }
-        }
+    /// The one-shot call of the head.
+    fn at_once<'a>(&self, encoding: &'static Encoding, src: &'a [u8]) -> (Cow<'a, str>, &'static Encoding, bool) {
+        let (text, is_malformed) = match self.marks.as_str() {
+            "sniff" => return encoding.decode(src),
+            "remove" => encoding.decode_with_bom_removal(src),
+            _ => encoding.decode_without_bom_handling(src),
+        };
+        (text, encoding, is_malformed)
+    }
+
+    /// Whether the call without replacement returns a text, or none if a sequence is malformed.
+    fn is_strict(&self, encoding: &'static Encoding, src: &[u8], text: &str, is_malformed: bool) -> bool {
+        let strict = encoding.decode_without_bom_handling_and_without_replacement(src);
+        self.marks != "off" || strict.map_or(is_malformed, |it| !is_malformed && it == text)
     }
 
     fn whole(&self, words: &mut Words) -> Result<(), String> {
         let (src, text, used) = (bytes_of(words.next()), text_of(words.next()), words.next());
-        let (is_malformed, lends) = (words.next() == "yes", words.next());
+        let (flag, lends) = (words.next() == "yes", words.next());
         for encoding in &self.subjects {
-            let given = self.at_once(encoding, &src);
-            let lent = if matches!(given.0, Some(Cow::Borrowed(_))) { "lent" } else { "owned" };
-            let has_text = given.0.as_deref().map_or(is_malformed, |it| it == text);
-            if has_text && (given.1.name(), given.2) == (used, is_malformed) && (lends == "none" || lends == lent) {
-                continue;
+            let (made, by, is_malformed) = self.at_once(encoding, &src);
+            let lent = if matches!(made, Cow::Borrowed(_)) { "lent" } else { "owned" };
+            let is_same = made == text && (by.name(), is_malformed) == (used, flag);
+            if !is_same || !self.is_strict(encoding, &src, &text, flag) || (lends != "none" && lends != lent) {
+                return Err(fails(&[
+                    ("part", &"once"),
+                    ("of", &encoding.name()),
+                    ("text", &hex(made.as_bytes())),
+                    ("encoding", &by.name()),
+                    ("flag", &is_malformed),
+                    ("lends", &lent),
+                ]));
             }
-            let shown = hex(given.0.as_deref().unwrap_or("").as_bytes());
-            return Err(format!("fails part=once of={} text={shown} encoding={} flag={} lends={lent}", encoding.name(), given.1.name(), given.2));
         }
         Ok(())
     }

@@ -1,5 +1,6 @@
 //! Rows of encoders.
-use crate::words::{bytes_of, caught, hex, named, number_of, parts, shown, text_of, Words};
+use crate::words::{answer_of, caught, fails, hex, lower, shown};
+use crate::words::{bytes_of, named, number_of, parts, text_of, Words};
 use encoding_rs::{CoderResult, Encoder, EncoderResult, Encoding};
 use peer::sums::sums_of;
 use std::borrow::Cow;
@@ -36,7 +37,11 @@ struct Way {
 impl Way {
     /// The room with which the crate always makes progress.
     fn least(self) -> usize {
-        if self.reports { 4 } else { 14 }
+        if self.reports {
+            4
+        } else {
+            14
+        }
     }
 }
 
@@ -54,6 +59,9 @@ struct Answer {
     replaced: bool,
     bytes: Vec<u8>,
 }
+
+/// A text and its bytes.
+type Row<'a> = (&'a str, &'a [u8]);
 
 #[derive(Default)]
 struct Run {
@@ -156,7 +164,7 @@ fn run_chunk(encoder: &mut Encoder, input: Input, mut text: &str, given: Given, 
         run.bytes.extend_from_slice(&answer.bytes);
         match answer.result {
             EncoderResult::InputEmpty => return true,
-            EncoderResult::Unmappable(it) => run.bytes.extend_from_slice(format!("&#{};", u32::from(it)).as_bytes()),
+            EncoderResult::Unmappable(it) => run.bytes.extend(format!("&#{};", u32::from(it)).bytes()),
             EncoderResult::OutputFull => {
                 idle = if answer.read == 0 && answer.written == 0 { idle + 1 } else { 0 };
                 if idle > 2 {
@@ -181,7 +189,7 @@ fn run(way: Way, text: &str, cut: Cut, room: usize) -> Run {
 }
 
 /// Encodes a text in one way. What it gives where that is wrong.
-fn compare(stage: &str, way: Way, (text, bytes): (&str, &[u8]), cut: Cut, room: usize) -> Result<(), String> {
+fn compare(stage: &str, way: Way, (text, bytes): Row, cut: Cut, room: usize) -> Result<(), String> {
     let run = caught(|| run(way, text, cut, room));
     let part = match &run {
         None => "panic",
@@ -191,16 +199,32 @@ fn compare(stage: &str, way: Way, (text, bytes): (&str, &[u8]), cut: Cut, room: 
         Some(run) if !run.is_finished && room >= way.least() => "stuck",
         _ => return Ok(()),
     };
-    let (name, mode) = (way.encoding.name(), if way.reports { "report" } else { "replace" });
-    let made = hex(&run.unwrap_or_default().bytes);
-    let (cut, input) = (format!("{cut:?}").to_lowercase(), format!("{:?}", way.input).to_lowercase());
-    Err(format!("fails part={part} stage={stage} of={name} input={input} mode={mode} cut={cut} room={room} bytes={made}"))
+    Err(fails(&[
+        ("part", &part),
+        ("stage", &stage),
+        ("of", &way.encoding.name()),
+        ("input", &lower(way.input)),
+        ("mode", &if way.reports { "report" } else { "replace" }),
+        ("cut", &lower(cut)),
+        ("room", &room),
+        ("bytes", &hex(&run.unwrap_or_default().bytes)),
+    ]))
+}
+
+/// The inputs, each without references and with them.
+fn ways(encoding: &'static Encoding) -> Vec<Way> {
+    let both = |input| [false, true].map(|reports| Way { encoding, input, reports });
+    INPUTS.into_iter().flat_map(both).collect()
 }
 
 /// Encodes a text with each cut, from each input and in each mode.
-fn compare_cuts(stage: &str, encoding: &'static Encoding, row: (&str, &[u8]), rooms: impl Fn(Way) -> Vec<usize>) -> Result<(), String> {
-    for (input, reports) in INPUTS.into_iter().flat_map(|input| [(input, false), (input, true)]) {
-        let way = Way { encoding, input, reports };
+fn compare_cuts(
+    stage: &str,
+    encoding: &'static Encoding,
+    row: Row,
+    rooms: impl Fn(Way) -> Vec<usize>,
+) -> Result<(), String> {
+    for way in ways(encoding) {
         for room in rooms(way) {
             compare(stage, way, row, Cut::No, room)?;
             compare(stage, way, row, Cut::Each, room)?;
@@ -214,7 +238,7 @@ fn compare_cuts(stage: &str, encoding: &'static Encoding, row: (&str, &[u8]), ro
 }
 
 /// Encodes a text whole, cut, in rooms in which the crate makes progress, and in smaller ones.
-fn compare_all(encoding: &'static Encoding, row: (&str, &[u8])) -> Result<(), String> {
+fn compare_all(encoding: &'static Encoding, row: Row) -> Result<(), String> {
     compare("whole", Way { encoding, input: Input::Utf8, reports: false }, row, Cut::No, AMPLE)?;
     compare_cuts("cut", encoding, row, |_| vec![AMPLE])?;
     compare_cuts("room", encoding, row, |way| (way.least()..ROOMS).collect())?;
@@ -222,9 +246,8 @@ fn compare_all(encoding: &'static Encoding, row: (&str, &[u8])) -> Result<(), St
 }
 
 /// Encodes a long text whole and in two parts, in room enough and in little.
-fn compare_long(encoding: &'static Encoding, row: (&str, &[u8])) -> Result<(), String> {
-    for (input, reports) in INPUTS.into_iter().flat_map(|input| [(input, false), (input, true)]) {
-        let way = Way { encoding, input, reports };
+fn compare_long(encoding: &'static Encoding, row: Row) -> Result<(), String> {
+    for way in ways(encoding) {
         compare("whole", way, row, Cut::No, AMPLE)?;
         for (place, _) in row.0.char_indices() {
             compare("cut", way, row, Cut::At(place), AMPLE)?;
@@ -236,6 +259,34 @@ fn compare_long(encoding: &'static Encoding, row: (&str, &[u8])) -> Result<(), S
         }
     }
     Ok(())
+}
+
+/// What the answer of a call has to be.
+struct Wanted<'a> {
+    result: &'a str,
+    read: usize,
+    written: usize,
+    replaced: bool,
+    bytes: Vec<u8>,
+}
+
+impl Wanted<'_> {
+    /// Reads `RESULT READ WRITTEN REPLACED BYTES`.
+    fn new<'a>(words: &mut Words<'a>) -> Wanted<'a> {
+        let (result, read, written) = (words.next(), number_of(words.next()), number_of(words.next()));
+        Wanted { result, read, written, replaced: words.next() == "yes", bytes: bytes_of(words.next()) }
+    }
+
+    /// Another answer in words.
+    fn other(&self, given: &Answer) -> Option<String> {
+        let (result, Answer { read, written, replaced, bytes, .. }) = (name_of(&given.result), given);
+        let want = (self.result, self.read, self.written, self.replaced, &self.bytes);
+        if want == (result.as_str(), *read, *written, *replaced, bytes) {
+            return None;
+        }
+        let bytes = hex(bytes);
+        Some(format!("result={result} read={read} written={written} replaced={replaced} bytes={bytes}"))
+    }
 }
 
 /// The four length queries of an encoder.
@@ -307,26 +358,21 @@ impl Encoders {
             "whole" => self.whole(words),
             _ => return String::from("skip"),
         };
-        made.err().unwrap_or(String::from("holds"))
+        answer_of(made)
     }
 
     fn call(&mut self, words: &mut Words, made: impl Fn(&mut Encoder, Input, Given) -> Answer) -> Result<(), String> {
-        let (last, room, result) = (words.next() == "yes", number_of(words.next()), words.next());
-        let (read, written) = (number_of(words.next()), number_of(words.next()));
-        let (replaced, bytes) = (words.next() == "yes", bytes_of(words.next()));
+        let (last, room) = (words.next() == "yes", number_of(words.next()));
+        let (want, given) = (Wanted::new(words), Given { last, room, reports: self.reports });
         for (encoder, input) in &mut self.targets {
-            let (name, shown_input) = (encoder.encoding().name(), format!("{input:?}").to_lowercase());
-            let given = Given { last, room, reports: self.reports };
+            let (of, by) = (encoder.encoding().name(), lower(*input));
             let Some(answer) = caught(|| made(encoder, *input, given)) else {
-                return Err(format!("fails part=panic stage=call of={name} input={shown_input}"));
+                return Err(fails(&[("part", &"panic"), ("stage", &"call"), ("of", &of), ("input", &by)]));
             };
-            let result_of = name_of(&answer.result);
-            if (result_of.as_str(), answer.read, answer.written, answer.replaced) == (result, read, written, replaced) && answer.bytes == bytes {
-                continue;
+            if let Some(other) = want.other(&answer) {
+                let place = fails(&[("part", &"call"), ("stage", &"call"), ("of", &of), ("input", &by)]);
+                return Err(format!("{place} {other}"));
             }
-            let Answer { read, written, replaced, bytes, .. } = answer;
-            let bytes = hex(&bytes);
-            return Err(format!("fails part=call stage=call of={name} input={shown_input} result={result_of} read={read} written={written} replaced={replaced} bytes={bytes}"));
         }
         Ok(())
     }
@@ -337,7 +383,7 @@ impl Encoders {
             let (reported, replaced) = sums_of(encoding);
             let given = format!("{reported:016X},{replaced:016X}");
             if given != want {
-                return Err(format!("fails part=sum of={} sums={given}", encoding.name()));
+                return Err(fails(&[("part", &"sum"), ("of", &encoding.name()), ("sums", &given)]));
             }
         }
         Ok(())
@@ -346,7 +392,8 @@ impl Encoders {
     fn pending(&self, words: &mut Words) -> Result<(), String> {
         let want = words.next() == "yes";
         let other = self.targets.iter().find(|(encoder, _)| encoder.has_pending_state() != want);
-        other.map_or(Ok(()), |(encoder, _)| Err(format!("fails part=pending of={}", encoder.encoding().name())))
+        let Some((encoder, _)) = other else { return Ok(()) };
+        Err(fails(&[("part", &"pending"), ("of", &encoder.encoding().name()), ("pending", &!want)]))
     }
 
     fn lengths(&self, words: &mut Words) -> Result<(), String> {
@@ -354,7 +401,7 @@ impl Encoders {
         for (encoder, _) in &self.targets {
             let given = lengths(encoder, n);
             if given != want {
-                return Err(format!("fails part=lengths of={} lengths={given}", encoder.encoding().name()));
+                return Err(fails(&[("part", &"lengths"), ("of", &encoder.encoding().name()), ("lengths", &given)]));
             }
         }
         Ok(())
@@ -366,10 +413,17 @@ impl Encoders {
         for encoding in &self.subjects {
             let (made, by, is_unmappable) = encoding.encode(&text);
             let lent = if matches!(made, Cow::Borrowed(_)) { "lent" } else { "owned" };
-            if *made == bytes[..] && (by.name(), is_unmappable) == (used, flag) && (lends == "none" || lends == lent) {
-                continue;
+            let is_same = *made == bytes[..] && (by.name(), is_unmappable) == (used, flag);
+            if !is_same || (lends != "none" && lends != lent) {
+                return Err(fails(&[
+                    ("part", &"once"),
+                    ("of", &encoding.name()),
+                    ("bytes", &hex(&made)),
+                    ("encoding", &by.name()),
+                    ("flag", &is_unmappable),
+                    ("lends", &lent),
+                ]));
             }
-            return Err(format!("fails part=once of={} bytes={} encoding={} flag={is_unmappable} lends={lent}", encoding.name(), hex(&made), by.name()));
         }
         Ok(())
     }

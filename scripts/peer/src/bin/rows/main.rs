@@ -1,7 +1,7 @@
 //! rows: answers rows of conformance by the Rust crate encoding_rs, for scripts/conformance.
 //!
-//! A line of standard input is a row or a head, as scripts/over.py writes them. The answer is a line: `holds`, `skip` for
-//! a row that the crate has no call for, or `fails` with what it gives, as words `NAME=VALUE`.
+//! A line of standard input is a row or a head, as scripts/over.py writes them. The answer is a line: `holds`, `skip`
+//! for a row that the crate has no call for, or `fails` with what it gives, as words `NAME=VALUE`.
 mod decoding;
 mod encoding;
 mod words;
@@ -9,9 +9,10 @@ mod words;
 use decoding::Decoders;
 use encoding::Encoders;
 use encoding_rs::Encoding;
+use std::fmt::Display;
 use std::io::{self, BufRead, BufWriter, Write};
 use std::panic::{catch_unwind, set_hook, AssertUnwindSafe};
-use words::{bytes_of, named, number_of, Words};
+use words::{bytes_of, fails, named, number_of, Words};
 
 /// What the rows after a head are of.
 enum Section {
@@ -52,29 +53,54 @@ fn encoding_row(words: &mut Words) -> String {
     if exact && given == (output.name(), has("ascii-compatible"), has("single-byte")) {
         return String::from("holds");
     }
-    format!("fails part=properties output={} ascii-compatible={} single-byte={}", given.0, given.1, given.2)
+    fails(&[("part", &"properties"), ("output", &given.0), ("ascii-compatible", &given.1), ("single-byte", &given.2)])
 }
 
+/// `holds`, or what is given by its names.
+fn compared<T: PartialEq + Display>(part: &str, (name, given): (&str, T), want: T) -> String {
+    if given == want {
+        String::from("holds")
+    } else {
+        fails(&[("part", &part), (name, &given)])
+    }
+}
+
+/// Compares the encoding of a label: as it is, in capitals, with whitespace around it, and with a letter more, by which
+/// it is none. That of calls that leave replacement out is none for it.
 fn label_row(words: &mut Words) -> String {
     let (label, want) = (bytes_of(words.next()), words.next());
-    let given = Encoding::for_label(&label).map_or("none", Encoding::name);
-    if given == want { String::from("holds") } else { format!("fails part=label encoding={given}") }
+    let blanks = b"\t\n\x0C\r \t";
+    let forms = [label.clone(), label.to_ascii_uppercase(), [blanks, &label[..], blanks].concat()];
+    let longer = [&label[..], b"x"].concat();
+    let name = |encoding: Option<&'static Encoding>| encoding.map_or("none", Encoding::name);
+    let mut pairs: Vec<(&str, &str)> = Vec::new();
+    for form in &forms {
+        pairs.push((name(Encoding::for_label(form)), want));
+        let left = if want == "replacement" { "none" } else { want };
+        pairs.push((name(Encoding::for_label_no_replacement(form)), left));
+    }
+    if want != "none" {
+        pairs.push((name(Encoding::for_label(&longer)), "none"));
+    }
+    let other = pairs.into_iter().find(|(given, want)| given != want);
+    other.map_or(String::from("holds"), |(given, want)| compared("label", ("encoding", given), want))
 }
 
 fn mark_row(words: &mut Words) -> String {
-    let (bytes, want, length) = (bytes_of(words.next()), words.next(), number_of(words.next()));
-    let given = Encoding::for_bom(&bytes).map_or(("none", 0), |(encoding, length)| (encoding.name(), length));
-    if given == (want, length) { String::from("holds") } else { format!("fails part=mark encoding={} length={}", given.0, given.1) }
+    let given = Encoding::for_bom(&bytes_of(words.next()));
+    let given = given.map_or(String::from("none 0"), |(encoding, length)| format!("{} {length}", encoding.name()));
+    let want = format!("{} {}", words.next(), words.next());
+    compared("mark", ("mark", given.replace(' ', "+")), want.replace(' ', "+"))
 }
 
 fn valid_row(words: &mut Words) -> String {
-    let (of, bytes, length) = (words.next(), bytes_of(words.next()), number_of(words.next()));
+    let (of, bytes) = (words.next(), bytes_of(words.next()));
     let given = match of {
         "utf8" => Encoding::utf8_valid_up_to(&bytes),
         "ascii" => Encoding::ascii_valid_up_to(&bytes),
         _ => Encoding::iso_2022_jp_ascii_valid_up_to(&bytes),
     };
-    if given == length { String::from("holds") } else { format!("fails part=valid length={given}") }
+    compared("valid", ("length", given), number_of(words.next()))
 }
 
 fn main() -> io::Result<()> {

@@ -1,5 +1,6 @@
 //! The words of a line, and what they stand for. A dash stands for nothing.
 use encoding_rs::Encoding;
+use std::fmt::{Debug, Display};
 
 /// The words of a line that are still to be read.
 pub struct Words<'a>(std::str::Split<'a, char>);
@@ -22,7 +23,11 @@ pub fn named(name: &str) -> &'static Encoding {
 
 /// The parts of a word between commas.
 pub fn parts(word: &str) -> Vec<&str> {
-    if word == "-" { Vec::new() } else { word.split(',').collect() }
+    if word == "-" {
+        Vec::new()
+    } else {
+        word.split(',').collect()
+    }
 }
 
 pub fn number_of(word: &str) -> usize {
@@ -46,7 +51,11 @@ pub fn places_of(word: &str) -> Vec<(usize, usize)> {
 
 pub fn shown_places(places: &[(usize, usize)]) -> String {
     let all: Vec<String> = places.iter().map(|(at, length)| format!("{at}+{length}")).collect();
-    if all.is_empty() { String::from("-") } else { all.join(",") }
+    if all.is_empty() {
+        String::from("-")
+    } else {
+        all.join(",")
+    }
 }
 
 /// The bytes of hexadecimal digits, and none of a dash.
@@ -61,7 +70,27 @@ pub fn text_of(digits: &str) -> String {
 
 pub fn hex(bytes: &[u8]) -> String {
     let all: String = bytes.iter().map(|byte| format!("{byte:02X}")).collect();
-    if all.is_empty() { String::from("-") } else { all }
+    if all.is_empty() {
+        String::from("-")
+    } else {
+        all
+    }
+}
+
+/// The answer of a row that does not hold: what is given, by names.
+pub fn fails(given: &[(&str, &dyn Display)]) -> String {
+    let all: Vec<String> = given.iter().map(|(name, it)| format!("{name}={it}")).collect();
+    format!("fails {}", all.join(" "))
+}
+
+/// The answer of a row.
+pub fn answer_of(made: Result<(), String>) -> String {
+    made.err().unwrap_or(String::from("holds"))
+}
+
+/// The name of a variant in small letters.
+pub fn lower(it: impl Debug) -> String {
+    format!("{it:?}").to_lowercase()
 }
 
 /// Calls a function, or returns nothing where it panics.
