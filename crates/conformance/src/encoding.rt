@@ -399,8 +399,8 @@ impl Encoders {
         Ok(())
     }
 
-    /// Makes the call from UTF-16 `N,.. more|last ROOM RESULT READ WRITTEN replaced|- BYTES` with each
-    /// encoder that reads UTF-16.
+    /// Makes the call from UTF-16 `N,.. more|last ROOM RESULT READ WRITTEN replaced|- BYTES` with
+    /// each encoder that reads UTF-16.
     fn units(&mut self, alloc: Global, words: &mut Words<'_>) -> Result<(), RowFault> {
         let units = units_of(alloc, words.word()?)?;
         let expected = expected_of(alloc, words)?;

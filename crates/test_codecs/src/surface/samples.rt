@@ -1,5 +1,5 @@
-//! A character of each codec, decoded and encoded, by Python's codecs, and by hand from the Encoding
-//! Standard (8 to 14) where these differ.
+//! A character of each codec, decoded and encoded, by Python's codecs, and by hand from the
+//! Encoding Standard (8 to 14) where these differ.
 
 use enc_index::{Codec, List, SingleByteIndex};
 

@@ -9,8 +9,8 @@ use encoding_rs::EncoderResult;
 use std::alloc::Global;
 use std::test::Fail;
 
-/// All rooms less than this are tried. Calls with 32 bytes of room and more write many characters at
-/// once.
+/// All rooms less than this are tried. Calls with 32 bytes of room and more write many characters
+/// at once.
 const SMALL_ROOMS: usize = 49;
 
 /// Larger rooms.
@@ -66,8 +66,8 @@ fn compare_room(
     )
 }
 
-/// Encodes a text by one call, in small rooms, in large ones, and around its length; and in two parts,
-/// cut between any two characters.
+/// Encodes a text by one call, in small rooms, in large ones, and around its length; and in two
+/// parts, cut between any two characters.
 pub fn compare_long(alloc: Global, asked: Asked, row: Encoded<'_>) -> Result<(), Fail> {
     let before = row.1.len().saturating_sub(1);
     for way in SLICE_WAYS {

@@ -70,8 +70,8 @@ fn compare_alike(alloc: Global, asked: Asked, row: Encoded<'_>) -> Result<(), Fa
     Ok(())
 }
 
-/// Encodes a text by runs of calls of each kind, and by calls that change, from each of the first six
-/// on.
+/// Encodes a text by runs of calls of each kind, and by calls that change, from each of the first
+/// six on.
 pub(crate) fn compare_mixed(alloc: Global, asked: Asked, row: Encoded<'_>) -> Result<(), Fail> {
     compare_alike(alloc, asked, row)?;
     let count = row.0.chars().count().saturating_mul(4).saturating_add(60);

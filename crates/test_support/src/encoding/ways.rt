@@ -3,8 +3,8 @@
 use encoding_rs::{Encoder, Encoding};
 use std::test::Fail;
 
-/// An encoding, and the characters that are barred from its encoder, which keeps the list as long as
-/// it is.
+/// An encoding, and the characters that are barred from its encoder, which keeps the list as long
+/// as it is.
 pub type Asked = (Encoding, &'static [char]);
 
 /// Makes a new encoder.
