@@ -6,6 +6,7 @@ rows.py FILE..    says how many rows each file has, and names each that can't be
 `rows_of` returns the rows of a file. One that can't be read has a fault, and no fields.
 """
 
+import os
 import re
 import sys
 from typing import NamedTuple
@@ -396,7 +397,7 @@ def main(named):
     faults = []
     for path in files_of(named):
         try:
-            rows = rows_of(path)
+            rows = rows_of(path, read(os.path.abspath(path)) if named else None)
         except (OSError, UnicodeDecodeError) as why:
             give_up(f"{path}: {why}")
         print(f"{path}: {len(rows)} rows")
