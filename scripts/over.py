@@ -13,11 +13,8 @@ import over_python
 from common import TOP, run_quietly
 from lists import encodings
 from programs import CACHE, build_peer
-from rows import Row
+from rows import CALLS, STATEFUL, Row
 
-# Rows of calls: each is about the decoder or the encoder after the calls before it.
-CALLS = ("call", "units")
-STATEFUL = (*CALLS, "used", "lengths", "length", "latin1", "pending")
 # Fields that are a word by themselves, and no text.
 PLAIN = ("result", "of", "encoding", "output", "lends")
 

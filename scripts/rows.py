@@ -6,6 +6,7 @@ rows.py FILE..    says how many rows each file has, and names each that can't be
 `rows_of` returns the rows of a file. One that can't be read has a fault, and no fields.
 """
 
+import os
 import re
 import sys
 from typing import NamedTuple
@@ -17,6 +18,9 @@ FOLDER = "conformance"
 SPACES = " \t\n\f\r"
 MARKS, MODES = ("off", "sniff", "remove"), ("replace", "report")
 OUTPUTS, INPUTS = ("utf8", "utf16", "str", "string"), ("utf8", "utf16", "vec")
+# Rows of calls: each is of the decoder or the encoder after the calls before it.
+CALLS = ("call", "units")
+STATEFUL = (*CALLS, "used", "lengths", "length", "latin1", "pending")
 FLAGS = ("ascii-compatible", "single-byte", "line-feeds-divide")
 ESCAPE = re.compile(r"x([0-9A-F]{2})|u\{([0-9A-F]{1,8})\}")
 
@@ -116,7 +120,7 @@ def pair_of(word, sign):
 
 def one_of(word, words):
     if word not in words:
-        raise Unreadable(f"{word}: none of {', '.join(words)}")
+        raise Unreadable(f"{word}: none of {', '.join(dict.fromkeys(words))}")
     return word
 
 
@@ -183,8 +187,12 @@ class Words:
     def name(self):
         return encoding_of(self.word())
 
+    def exact_name(self):
+        """The name of an encoding, and none of its labels."""
+        return one_of(self.word(), LABELS.values())
+
     def name_or_none(self):
-        return None if self.takes("none") else self.name()
+        return None if self.takes("none") else self.exact_name()
 
     def choice(self, yes, no):
         return one_of(self.word(), (yes, no)) == yes
@@ -202,6 +210,8 @@ def head_of(kind, number, words):
     while words.rest:
         if kind == "encoder" and words.takes("barring"):
             barred = words.text()
+            if any(it.isascii() for it in barred):
+                raise Unreadable("an ASCII character can't be barred")
             break
         ways.append(one_of(words.word(), OUTPUTS if kind == "decoder" else INPUTS))
     return Head(kind, number, tuple(names), marks, mode, tuple(ways), barred)
@@ -288,7 +298,7 @@ def first_bytes(words):
 
 
 def encoding(words):
-    made = {"encoding": words.name(), "output": words.name()}
+    made = {"encoding": words.exact_name(), "output": words.exact_name()}
     return made | {"flags": [one_of(words.word(), FLAGS) for _ in range(len(words.rest))]}
 
 
@@ -325,6 +335,18 @@ FORMS = {
 }
 
 
+def check(head, name, fields):
+    """Refuses a row that its head is not for."""
+    if name in STATEFUL and not head.ways:
+        raise Unreadable(f"the head names no {'output' if head.kind == 'decoder' else 'input'}")
+    if name == "units" and set(head.ways) != {"utf16"}:
+        raise Unreadable("an encoder of the head reads UTF-8")
+    if head.kind == "encoder" and name in ("whole", "sum") and head.barred:
+        raise Unreadable("this row bars no characters")
+    if fields.get("held") is not None and head.marks != "off":
+        raise Unreadable("held bytes are those of marks `off`")
+
+
 def parsed(number, line, head):
     """The head that holds after a line, its kind, its name and its fields."""
     words = Words(line)
@@ -340,6 +362,7 @@ def parsed(number, line, head):
         raise Unreadable(f"no row of {'a decoder' if head.kind == 'decoder' else 'an encoder'} has this name")
     else:
         found = head, head.kind, name, FORMS[head.kind, name](words)
+        check(head, name, found[3])
     if words.rest:
         raise Unreadable("there is a word too many")
     return found
@@ -374,7 +397,7 @@ def main(named):
     faults = []
     for path in files_of(named):
         try:
-            rows = rows_of(path)
+            rows = rows_of(path, read(os.path.abspath(path)) if named else None)
         except (OSError, UnicodeDecodeError) as why:
             give_up(f"{path}: {why}")
         print(f"{path}: {len(rows)} rows")
