@@ -182,6 +182,9 @@ impl Decoding {
         match name {
             "text" => self.text(alloc, words),
             "whole" => whole(alloc, (&self.subjects, self.handling), words),
+            "among" => self.among(alloc, words),
+            "repeat" => self.repeat(alloc, words),
+            "bytes" => self.bytes(alloc, words),
             _ if self.targets.is_empty() => {
                 Err(Unreadable::Unknown("the head names no output").into())
             }
@@ -190,9 +193,6 @@ impl Decoding {
             "lengths" => lengths(&self.targets, words),
             "length" => length(&self.targets, words),
             "latin1" => latin1(alloc, &self.targets, words),
-            "among" => self.among(alloc, words),
-            "repeat" => self.repeat(alloc, words),
-            "bytes" => self.bytes(alloc, words),
             _ => Err(Unreadable::Unknown("no row of a decoder has this name").into()),
         }
     }
