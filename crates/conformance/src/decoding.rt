@@ -23,7 +23,7 @@ use test_support::decoding::{
 pub struct Target {
     pub decoder: Decoder,
     output: Output,
-    codec: Option<VariantDecoder>,
+    pub codec: Option<VariantDecoder>,
 }
 
 /// An encoding of a head, with the decoder of its codec.

@@ -2,24 +2,29 @@
 
 use crate::decoding::Target;
 use crate::fault::RowFault;
+use crate::held::{self, Lengths};
 use crate::words::{Unreadable, Words};
 use encoding_rs::Decoder;
 use std::alloc::Global;
 use std::test::Fail;
 
-/// The lengths for calls into UTF-8 with replacement, for those without, and for calls into UTF-16.
-type Lengths = (Option<usize>, Option<usize>, Option<usize>);
-
-/// What the length queries of a decoder return for `more` bytes.
-fn lengths_of(decoder: &Decoder, more: usize) -> Result<Lengths, RowFault> {
+/// What the length queries of a decoder return for `more` bytes, and those of its codec's decoder.
+fn lengths_of(target: &Target, more: usize) -> Result<Lengths, RowFault> {
+    let decoder = &target.decoder;
     if decoder.is_finished() {
         return Err(RowFault::fails("the decoder is finished"));
     }
-    Ok((
+    let lengths = (
         decoder.max_utf8_buffer_length(more),
         decoder.max_utf8_buffer_length_without_replacement(more),
         decoder.max_utf16_buffer_length(more),
-    ))
+    );
+    match &target.codec {
+        Some(codec) if held::lengths_of(codec, more) != lengths => {
+            Err(RowFault::fails("a decoder by itself returns other lengths"))
+        }
+        _ => Ok(lengths),
+    }
 }
 
 /// Fails with the name of a decoder's encoding unless an answer is this one.
@@ -42,8 +47,8 @@ pub(crate) fn lengths(targets: &[Target], words: &mut Words<'_>) -> Result<(), R
     let report = words.number_or_none()?;
     let utf16 = words.number_or_none()?;
     words.end()?;
-    for Target { decoder, .. } in targets {
-        let got = lengths_of(decoder, more)?;
+    for target in targets {
+        let (got, decoder) = (lengths_of(target, more)?, &target.decoder);
         expect((got.0, utf8), decoder, "another length in UTF-8")?;
         expect((got.1, report), decoder, "another length of reports")?;
         expect((got.2, utf16), decoder, "another length in UTF-16")?;
@@ -66,9 +71,9 @@ pub(crate) fn length(targets: &[Target], words: &mut Words<'_>) -> Result<(), Ro
     let (query, more) = (words.word()?, words.number()?);
     let want = words.number_or_none()?;
     words.end()?;
-    for Target { decoder, .. } in targets {
-        let got = length_named(query, lengths_of(decoder, more)?)?;
-        expect((got, want), decoder, "another length")?;
+    for target in targets {
+        let got = length_named(query, lengths_of(target, more)?)?;
+        expect((got, want), &target.decoder, "another length")?;
     }
     Ok(())
 }

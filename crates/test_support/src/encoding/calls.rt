@@ -9,7 +9,7 @@ use std::test::Fail;
 /// Room enough for any call of a short text, in bytes.
 pub const MOST_ROOM: usize = 64;
 
-/// The greatest room of a call that takes no memory. Any character has room in it.
+/// Room in which any character fits.
 pub const SMALL_ROOM: usize = 32;
 
 /// Each byte of an output buffer before a call.
@@ -129,28 +129,6 @@ fn encode(
     }
 }
 
-/// Makes a call into the front of a buffer, and appends the bytes that it writes. The rest of its
-/// room stays.
-fn call_to_front(
-    encoder: &mut Encoder,
-    replaces: bool,
-    (input, last): (Input<'_>, bool),
-    (buffer, room): (&mut [u8], usize),
-    bytes: &mut Vec<u8>,
-) -> Result<Answer, Fail> {
-    let Some(dst) = buffer.get_mut(..room) else {
-        return Err(Fail::new("a call has more room than its buffer"));
-    };
-    let (answer, written) = encode(encoder, replaces, (input, last), dst);
-    match dst.split_at_checked(written) {
-        Some((front, rest)) if rest.iter().all(|byte| *byte == UNTOUCHED) => {
-            bytes.extend_from_slice(front)?;
-        }
-        _ => return Err(Fail::new("a call writes outside of its room")),
-    }
-    Ok(answer)
-}
-
 /// Makes a call into a slice, and appends the bytes that it writes. The rest of its room stays.
 pub fn call_to_slice(
     alloc: Global,
@@ -159,14 +137,16 @@ pub fn call_to_slice(
     room: usize,
     bytes: &mut Vec<u8>,
 ) -> Result<Answer, Fail> {
-    if room <= SMALL_ROOM {
-        let mut buffer = [UNTOUCHED; SMALL_ROOM];
-        let front = (buffer.as_mut_slice(), room);
-        return call_to_front(encoder, replaces, (input, last), front, bytes);
-    }
     let mut buffer = vec![in alloc; UNTOUCHED; room]?;
-    let front = (buffer.as_mut_slice(), room);
-    call_to_front(encoder, replaces, (input, last), front, bytes)
+    let (answer, written) = encode(encoder, replaces, (input, last), &mut buffer);
+    let Some((front, rest)) = buffer.split_at_checked(written) else {
+        return Err(Fail::new("a call writes more than its room"));
+    };
+    if rest.iter().any(|byte| *byte != UNTOUCHED) {
+        return Err(Fail::new("a call writes after its bytes"));
+    }
+    bytes.extend_from_slice(front)?;
+    Ok(answer)
 }
 
 /// Makes a call into a `Vec`, and appends the bytes that it writes. Contents and capacity of the
