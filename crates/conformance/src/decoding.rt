@@ -6,7 +6,7 @@ use crate::fault::RowFault;
 use crate::held::{call_beside, held_of};
 use crate::queries::{latin1, length, lengths};
 use crate::repeat::{compare_long, long_input};
-use crate::whole::whole;
+use crate::whole::run_whole;
 use crate::words::{Unreadable, Words, choice, number_of, pair_of};
 use enc_codec::{NewDecoder, VariantDecoder};
 use enc_names::EncodingId;
@@ -181,7 +181,7 @@ impl Decoding {
     ) -> Result<(), RowFault> {
         match name {
             "text" => self.text(alloc, words),
-            "whole" => whole(alloc, (&self.subjects, self.handling), words),
+            "whole" => run_whole(alloc, (&self.subjects, self.handling), words),
             "among" => self.among(alloc, words),
             "repeat" => self.repeat(alloc, words),
             "bytes" => self.bytes(alloc, words),

@@ -2,9 +2,10 @@
 
 use crate::decoding::{Subject, subject_of};
 use crate::fault::RowFault;
+use crate::one_shot::lend;
 use crate::words::{Words, choice};
+use encoding_rs::Encoding;
 use encoding_rs::run::BomHandling;
-use encoding_rs::{Encoding, OneShotError};
 use std::alloc::Global;
 use std::borrow::CowStr;
 use std::test::Fail;
@@ -43,23 +44,6 @@ fn is_borrowed(text: &CowStr<'_>) -> bool {
     }
 }
 
-/// Makes the lending call that looks for these byte order marks.
-fn lend<'a>(
-    alloc: Global,
-    (encoding, handling): Mode,
-    bytes: &'a [u8],
-) -> Result<(CowStr<'a>, Encoding, bool), OneShotError> {
-    let answer = match handling {
-        BomHandling::Sniff => return encoding.decode_lending(alloc, bytes),
-        BomHandling::Remove => encoding.decode_with_bom_removal_lending(alloc, bytes),
-        BomHandling::Off => encoding.decode_without_bom_handling_lending(alloc, bytes),
-    };
-    match answer {
-        Ok((text, had_errors)) => Ok((text, encoding, had_errors)),
-        Err(error) => Err(error),
-    }
-}
-
 /// Compares the text of a lending call, and whether it is lent.
 fn compare_lent(text: &CowStr<'_>, encoding: Encoding, want: &Whole<'_>) -> Result<(), RowFault> {
     expect(is_text(text, want.text), "another lent text", encoding)?;
@@ -69,32 +53,24 @@ fn compare_lent(text: &CowStr<'_>, encoding: Encoding, want: &Whole<'_>) -> Resu
     }
 }
 
-/// Makes the call with replacement that lends, and compares its answer.
-fn lend_whole(alloc: Global, mode: Mode, want: &Whole<'_>) -> Result<(), RowFault> {
-    let encoding = mode.0;
-    match lend(alloc, mode, want.bytes) {
+/// Makes the call that lends, with replacement or without, and compares its answer.
+fn lend_whole(
+    alloc: Global,
+    (encoding, handling): Mode,
+    replaces: bool,
+    want: &Whole<'_>,
+) -> Result<(), RowFault> {
+    match lend(alloc, encoding, (handling, replaces), want.bytes) {
         Ok((text, used, had_errors)) => {
-            expect(
-                used == want.used,
-                "another encoding of a lent text",
-                encoding,
-            )?;
+            let is_used = used == want.used;
+            expect(is_used, "another encoding of a lent text", encoding)?;
             let is_same = had_errors == want.had_errors;
             expect(is_same, "malformed or not, of a lent text", encoding)?;
-            compare_lent(&text, encoding, want)
+            match text {
+                Some(text) => compare_lent(&text, encoding, want),
+                None => expect(!replaces && want.had_errors, "no text", encoding),
+            }
         }
-        Err(error) => Err(error.into()),
-    }
-}
-
-/// Makes the call without replacement that lends, and compares its answer.
-fn lend_strictly(alloc: Global, encoding: Encoding, want: &Whole<'_>) -> Result<(), RowFault> {
-    match encoding.decode_without_bom_handling_and_without_replacement_lending(alloc, want.bytes) {
-        Ok(Some(text)) => {
-            expect(!want.had_errors, "a text that is malformed", encoding)?;
-            compare_lent(&text, encoding, want)
-        }
-        Ok(None) => expect(want.had_errors, "no text", encoding),
         Err(error) => Err(error.into()),
     }
 }
@@ -106,19 +82,19 @@ fn compare(alloc: Global, mode: Mode, want: &Whole<'_>) -> Result<(), RowFault> 
     expect(is_text(&text, want.text), "another text", encoding)?;
     expect(used == want.used, "another encoding", encoding)?;
     expect(had_errors == want.had_errors, "malformed or not", encoding)?;
-    lend_whole(alloc, mode, want)?;
+    lend_whole(alloc, mode, true, want)?;
     match handling {
         BomHandling::Off => {
             let answer = (want.text.as_bytes(), want.had_errors);
             compare_strict(alloc, (encoding, want.bytes), answer)?;
-            lend_strictly(alloc, encoding, want)
+            lend_whole(alloc, mode, false, want)
         }
         BomHandling::Sniff | BomHandling::Remove => Ok(()),
     }
 }
 
 /// Makes the calls of `BYTES TEXT NAME malformed|- [lent|owned]` in each encoding.
-pub(crate) fn whole(
+pub(crate) fn run_whole(
     alloc: Global,
     (subjects, handling): (&[Subject], BomHandling),
     words: &mut Words<'_>,
