@@ -296,27 +296,27 @@ fn writes_long_ascii_as_it_is(rt: HostRuntime) -> Result<(), Fail> {
 /// The encodings to decode from and to write, an input, and for `Sniff`, `Remove` and `Off` the
 /// bytes written and whether something is replaced.
 #[rattlefmt::skip]
-const MARKS: &[((Encoding, Encoding), &[u8], [(&[u8], bool); 3])] = &[
+const MARKS: &[((Encoding, Encoding), &[u8], &[(&[u8], bool)])] = &[
     // the mark of the encoding itself
     ((UTF_8, UTF_8), b"\xEF\xBB\xBFa",
-        [(b"a", false), (b"a", false), (b"\xEF\xBB\xBFa", false)]),
+        &[(b"a", false), (b"a", false), (b"\xEF\xBB\xBFa", false)]),
     ((UTF_8, SHIFT_JIS), b"\xEF\xBB\xBFa\xFF",
-        [(b"a&#65533;", true), (b"a&#65533;", true), (b"&#65279;a&#65533;", true)]),
+        &[(b"a&#65533;", true), (b"a&#65533;", true), (b"&#65279;a&#65533;", true)]),
     ((UTF_16LE, UTF_8), b"\xFF\xFEa\0",
-        [(b"a", false), (b"a", false), (b"\xEF\xBB\xBFa", false)]),
+        &[(b"a", false), (b"a", false), (b"\xEF\xBB\xBFa", false)]),
     // the mark of another encoding
     ((WINDOWS_1252, UTF_8), b"\xEF\xBB\xBFa",
-        [(b"a", false), (b"\xC3\xAF\xC2\xBB\xC2\xBFa", false),
+        &[(b"a", false), (b"\xC3\xAF\xC2\xBB\xC2\xBFa", false),
             (b"\xC3\xAF\xC2\xBB\xC2\xBFa", false)]),
     ((WINDOWS_1252, WINDOWS_1252), b"\xFE\xFF\0a",
-        [(b"a", false), (b"\xFE\xFF\0a", false), (b"\xFE\xFF\0a", false)]),
+        &[(b"a", false), (b"\xFE\xFF\0a", false), (b"\xFE\xFF\0a", false)]),
     // a mark that is broken off
     ((UTF_8, UTF_8), b"\xEF\xBB",
-        [(b"\xEF\xBF\xBD", true), (b"\xEF\xBF\xBD", true), (b"\xEF\xBF\xBD", true)]),
+        &[(b"\xEF\xBF\xBD", true), (b"\xEF\xBF\xBD", true), (b"\xEF\xBF\xBD", true)]),
     // no mark, and one that comes later
     ((UTF_8, UTF_8), b"a\xEF\xBB\xBF",
-        [(b"a\xEF\xBB\xBF", false), (b"a\xEF\xBB\xBF", false), (b"a\xEF\xBB\xBF", false)]),
-    ((UTF_8, UTF_8), b"", [(b"", false), (b"", false), (b"", false)]),
+        &[(b"a\xEF\xBB\xBF", false), (b"a\xEF\xBB\xBF", false), (b"a\xEF\xBB\xBF", false)]),
+    ((UTF_8, UTF_8), b"", &[(b"", false), (b"", false), (b"", false)]),
 ];
 
 const HANDLINGS: [BomHandling; 3] = [BomHandling::Sniff, BomHandling::Remove, BomHandling::Off];
@@ -331,7 +331,7 @@ fn looks_for_the_marks_of_each_handling(rt: HostRuntime) {
                 let mut sink = FromWrite::new(&mut written);
                 let outcome = run_part(&mut source, &mut sink, *from, *to, *handling);
                 assert!(rt;
-                    outcome == Ok(is_replaced) && written.as_slice() == want,
+                    outcome == Ok(*is_replaced) && written.as_slice() == *want,
                     "{input:?}"
                 );
             }

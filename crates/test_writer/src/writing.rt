@@ -97,18 +97,12 @@ fn make_call<S: Sink>(writer: &mut EncodeWriter<'_, S>, act: Act, text: &str) ->
     }
 }
 
-/// Plays a script, through a buffer of `room` bytes, from 14 to 64. Returns the numbers of calls of
-/// the device and of its flushes.
-pub(crate) fn play(
-    rt: &impl Abort,
-    (encoding, acts, taken): Script,
-    device: StepWriter<'_>,
-    room: usize,
-) -> (usize, usize) {
-    let mut sink = FromWrite::new(device);
+/// Makes the calls of a script on a new writer, through a buffer of `room` bytes, from 14 to 64. The
+/// sink has failed exactly if a call says so.
+fn make_calls<S: Sink>(rt: &impl Abort, sink: &mut S, (encoding, acts, _): Script, room: usize) {
     let mut buffer = [0; 64];
     let room = room.max(14).min(64);
-    let mut writer = EncodeWriter::new(&mut sink, encoding, &mut buffer[..room]);
+    let mut writer = EncodeWriter::new(sink, encoding, &mut buffer[..room]);
     let mut has_failed = false;
     for (act, text, want) in acts {
         let got = make_call(&mut writer, *act, *text);
@@ -118,8 +112,20 @@ pub(crate) fn play(
     assert!(rt; writer.encoding() == encoding.output_encoding());
     // the sink comes back without the bytes that are held
     assert!(rt; writer.into_sink().failed() == has_failed);
+}
+
+/// Plays a script, and compares the bytes that the device has taken. Returns the numbers of its
+/// calls and of its flushes.
+pub(crate) fn play(
+    rt: &impl Abort,
+    script: Script,
+    device: StepWriter<'_>,
+    room: usize,
+) -> (usize, usize) {
+    let mut sink = FromWrite::new(device);
+    make_calls(rt, &mut sink, script, room);
     let device = sink.into_inner();
-    assert!(rt; device.taken.as_slice() == taken, "{:?}", device.taken);
+    assert!(rt; device.taken.as_slice() == script.2, "{:?}", device.taken);
     assert!(rt; device.empty_calls == 0);
     (device.calls, device.flushes)
 }
