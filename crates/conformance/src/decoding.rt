@@ -2,6 +2,7 @@
 
 use crate::among::{compare_among, read_among};
 use crate::bytes::{byte_row, compare_bytes};
+use crate::encoding::encoding_of;
 use crate::fault::RowFault;
 use crate::held::{call_beside, held_of};
 use crate::queries::{latin1, length, lengths};
@@ -63,20 +64,6 @@ fn output_of(word: &str) -> Result<Output, Unreadable> {
         "str" => Ok(Output::Str),
         "string" => Ok(Output::String),
         _ => Err(Unreadable::Unknown("no output has this name")),
-    }
-}
-
-/// The encoding that a label names, with the decoder of its codec.
-pub(crate) fn subject_of(label: &str) -> Result<Subject, Unreadable> {
-    match (
-        Encoding::for_label(label.as_bytes()),
-        EncodingId::for_label(label.as_bytes()),
-    ) {
-        (Some(encoding), Some(id)) => Ok(Subject {
-            encoding,
-            codec: id.codec().new_decoder(),
-        }),
-        _ => Err(Unreadable::Unknown("no encoding has this label")),
     }
 }
 
@@ -142,7 +129,13 @@ impl Decoding {
             if handling.is_some() {
                 break;
             }
-            subjects.push(subject_of(word)?)?;
+            let Some(id) = EncodingId::for_label(word.as_bytes()) else {
+                return Err(Unreadable::Unknown("no encoding has this label"));
+            };
+            subjects.push(Subject {
+                encoding: encoding_of(word)?,
+                codec: id.codec().new_decoder(),
+            })?;
         }
         let (Some(handling), false) = (handling, subjects.is_empty()) else {
             return Err(Unreadable::Missing);
@@ -286,7 +279,7 @@ impl Decoding {
 
     /// Compares the encoding of each decoder with that of a label.
     fn used(&mut self, words: &mut Words<'_>) -> Result<(), RowFault> {
-        let used = subject_of(words.word()?)?.encoding;
+        let used = encoding_of(words.word()?)?;
         words.end()?;
         for target in &self.targets {
             if target.decoder.encoding() != used {

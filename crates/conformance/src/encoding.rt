@@ -56,7 +56,7 @@ impl Expected {
 type Lengths = (Option<usize>, Option<usize>);
 
 /// The encoding that a label names.
-fn encoding_of(label: &str) -> Result<Encoding, Unreadable> {
+pub(crate) fn encoding_of(label: &str) -> Result<Encoding, Unreadable> {
     match Encoding::for_label(label.as_bytes()) {
         Some(encoding) => Ok(encoding),
         None => Err(Unreadable::Unknown("no encoding has this label")),

@@ -1,6 +1,7 @@
 //! The calls that decode a whole input.
 
-use crate::decoding::{Subject, subject_of};
+use crate::decoding::Subject;
+use crate::encoding::encoding_of;
 use crate::fault::RowFault;
 use crate::one_shot::lend;
 use crate::words::{Words, choice};
@@ -100,7 +101,7 @@ pub(crate) fn run_whole(
     words: &mut Words<'_>,
 ) -> Result<(), RowFault> {
     let (bytes, text) = (words.bytes(alloc)?, words.text(alloc)?);
-    let used = subject_of(words.word()?)?.encoding;
+    let used = encoding_of(words.word()?)?;
     let had_errors = choice(words.word()?, ("malformed", "-"))?;
     let is_lent = if words.has_more() {
         Some(choice(words.word()?, ("lent", "owned"))?)

@@ -68,18 +68,19 @@ fn decode_lending<'a>(
     src: &'a [u8],
 ) -> Result<Answer<'a>, Refusal> {
     match lend(alloc, encoding, how, src) {
-        Ok((Some(CowStr::Borrowed(text)), used, had_errors)) => Ok((
-            CowSlice::Borrowed(text.as_bytes()),
-            used,
-            had_errors,
-        )),
-        Ok((Some(CowStr::Owned(text)), used, had_errors)) => Ok((
-            CowSlice::Owned(text.into_bytes()),
-            used,
-            had_errors,
-        )),
-        Ok((None, _, _)) => Err(Refusal::Other("there is no text")),
+        Ok((text, used, had_errors)) => match text {
+            Some(text) => Ok((bytes_of(text), used, had_errors)),
+            None => Err(Refusal::Other("there is no text")),
+        },
         Err(error) => Err(Refusal::from(error)),
+    }
+}
+
+/// The bytes of a text, lent if it is.
+fn bytes_of(text: CowStr<'_>) -> CowSlice<'_, u8> {
+    match text {
+        CowStr::Borrowed(text) => CowSlice::Borrowed(text.as_bytes()),
+        CowStr::Owned(text) => CowSlice::Owned(text.into_bytes()),
     }
 }
 
