@@ -97,8 +97,8 @@ fn make_call<S: Sink>(writer: &mut EncodeWriter<'_, S>, act: Act, text: &str) ->
     }
 }
 
-/// Makes the calls of a script on a new writer, through a buffer of `room` bytes, from 14 to 64. The
-/// sink has failed exactly if a call says so.
+/// Makes the calls of a script on a new writer, through a buffer of `room` bytes, from 14 to 64.
+/// The sink has failed exactly if a call says so.
 fn make_calls<S: Sink>(rt: &impl Abort, sink: &mut S, (encoding, acts, _): Script, room: usize) {
     let mut buffer = [0; 64];
     let room = room.max(14).min(64);
