@@ -84,7 +84,7 @@ fn lists_have_no_ascii(rt: HostRuntime) {
 }
 
 /// The length of the text that is encoded at once, in bytes of UTF-8.
-const LONG: usize = 20_000;
+const LONG: usize = 8_000;
 
 /// The length of the text that is encoded by single characters.
 const SHORT: usize = 2_000;
