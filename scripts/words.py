@@ -24,10 +24,10 @@ def words_of_labels(labels):
     return "\n    " + "\n    ++ ".join(f'words "{line}"' for line in lines)
 
 
-def words_of_encoding(it):
+def words_of_encoding(it, number):
     index_in_code = f"(SingleByteIndex::{it.index})" if it.index else ""
     return names_of(it.ident, it.constant) | {
-        "title": it.name, "section": it.section,
+        "title": it.name, "section": it.section, "number": number,
         "about": textwrap.indent(textwrap.fill(texts_of_encodings()[it.name], 96, break_on_hyphens=False), "/// "),
         "codec_in_code": f"Codec::{it.codec}{index_in_code}",
         "codec_in_spec": f"codec.{it.codec}" + (f" index.{it.index}" if it.index else ""),
@@ -54,11 +54,12 @@ def taken_labels():
 
 def of_encodings():
     every = encodings()
-    by_label = [{"label": label, "Name": it.ident} for label, it in pairs_of(every)]
+    by_label = [{"label": label, "Name": it.ident, "number": every.index(it)} for label, it in pairs_of(every)]
     ordered = [it["label"] for it in by_label]
     return {
-        "encodings": [words_of_encoding(it) for it in every], "encoding_count": len(every),
+        "encodings": [words_of_encoding(it, number) for number, it in enumerate(every)], "encoding_count": len(every),
         "labels_in_order": by_label, "label_count": len(by_label), "longest_label": max(map(len, ordered)),
+        "longest_name": max(len(it.name) for it in every),
         "words_in_order": words_of_labels(ordered), "taken_labels": taken_labels(),
         "those_that_write_utf_8": pattern([it for it in every if it.writes_utf_8]),
         "those_not_ascii_compatible": pattern([it for it in every if "ascii-compatible" not in it.properties]),
@@ -178,6 +179,15 @@ def of_indexes():
     }
 
 
+def of_handles():
+    """What a caller in another language holds. The compiler moves an encoder once before it is written."""
+    decoder = {"Name": "Decoder", "name": "decoder", "a_name": "a decoder", "A_name": "A decoder",
+               "State_file": "Decoding", "moved_first": []}
+    encoder = {"Name": "Encoder", "name": "encoder", "a_name": "an encoder", "A_name": "An encoder",
+               "State_file": "Encoder", "moved_first": [{}]}
+    return {"handled": [decoder, encoder]}
+
+
 def words():
     """All words and lists."""
-    return of_encodings() | of_codecs() | of_indexes()
+    return of_encodings() | of_codecs() | of_indexes() | of_handles()

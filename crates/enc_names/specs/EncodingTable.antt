@@ -1,7 +1,7 @@
 -- The encodings: their names and labels (Encoding Standard 4.2), codecs and properties.
 --
 -- Written by scripts/make-sources from data/templates: change the text there, and not this file.
-use Rattle.std.specs.Prelude.{ℕ, Bool, true, false, List, [], ◌∷◌, ◌++◌, codes}
+use Rattle.std.specs.Prelude.{ℕ, Bool, true, false, List, [], ◌∷◌, ◌++◌, codes, Option, slice_get}
 use Rattle.enc_names.specs.Words.{words}
 use Rattle.enc_index.specs.declared.single_byte_index.SingleByteIndex.TheVariants as index
 use Rattle.enc_index.specs.declared.codec.Codec.{Codec}
@@ -53,6 +53,11 @@ ids =
     id.Utf16le ∷
     id.XUserDefined ∷
     []
+
+-- the encoding with this number, if there is one: the number of an encoding is its place in the
+-- standard's order, from 0
+abbrev pub id_of_number : ℕ → Option EncodingId
+id_of_number number = slice_get ids number
 
 -- the name
 abbrev pub name_by_id : EncodingId → List ℕ

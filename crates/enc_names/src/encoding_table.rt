@@ -2,8 +2,9 @@
 //!
 //! Written by scripts/make-sources from data/templates: change the text there, and not this file.
 
-ghost use Rattle.std.specs.Prelude.{◌≡◌};
+ghost use Rattle.std.specs.Prelude.{◌≡◌, ◌<◌, Some};
 ghost use Rattle.enc_names.specs.EncodingTable.{codec_by_id, name_by_id, output_by_id};
+ghost use Rattle.enc_names.specs.EncodingTable.{ids, id_of_number};
 ghost use Rattle.enc_names.specs.EncodingTable.{ascii_compatible_by_id, single_byte_by_id};
 
 use crate::encoding_id::EncodingId;
@@ -143,6 +144,120 @@ impl EncodingId {
             | Self::Utf16be
             | Self::Utf16le => false,
             _ => true,
+        }
+    }
+}
+
+/// The encodings in the standard's order.
+const IDS: [EncodingId; 40] = [
+    EncodingId::Utf8,
+    EncodingId::Ibm866,
+    EncodingId::Iso88592,
+    EncodingId::Iso88593,
+    EncodingId::Iso88594,
+    EncodingId::Iso88595,
+    EncodingId::Iso88596,
+    EncodingId::Iso88597,
+    EncodingId::Iso88598,
+    EncodingId::Iso88598I,
+    EncodingId::Iso885910,
+    EncodingId::Iso885913,
+    EncodingId::Iso885914,
+    EncodingId::Iso885915,
+    EncodingId::Iso885916,
+    EncodingId::Koi8R,
+    EncodingId::Koi8U,
+    EncodingId::Macintosh,
+    EncodingId::Windows874,
+    EncodingId::Windows1250,
+    EncodingId::Windows1251,
+    EncodingId::Windows1252,
+    EncodingId::Windows1253,
+    EncodingId::Windows1254,
+    EncodingId::Windows1255,
+    EncodingId::Windows1256,
+    EncodingId::Windows1257,
+    EncodingId::Windows1258,
+    EncodingId::XMacCyrillic,
+    EncodingId::Gbk,
+    EncodingId::Gb18030,
+    EncodingId::Big5,
+    EncodingId::EucJp,
+    EncodingId::Iso2022Jp,
+    EncodingId::ShiftJis,
+    EncodingId::EucKr,
+    EncodingId::Replacement,
+    EncodingId::Utf16be,
+    EncodingId::Utf16le,
+    EncodingId::XUserDefined,
+];
+
+/// Returns the encodings in the standard's order.
+fn ids() -> &'static [EncodingId]
+    ensures { result.now ≡ ids }
+{
+    &IDS
+}
+
+impl EncodingId {
+    /// Returns its number: its place in the standard's order, from 0.
+    pub fn number(self) -> u32
+        ensures number { id_of_number result ≡ Some self }
+        ensures below { result < 40 }
+    {
+        match self {
+            Self::Utf8 => 0,
+            Self::Ibm866 => 1,
+            Self::Iso88592 => 2,
+            Self::Iso88593 => 3,
+            Self::Iso88594 => 4,
+            Self::Iso88595 => 5,
+            Self::Iso88596 => 6,
+            Self::Iso88597 => 7,
+            Self::Iso88598 => 8,
+            Self::Iso88598I => 9,
+            Self::Iso885910 => 10,
+            Self::Iso885913 => 11,
+            Self::Iso885914 => 12,
+            Self::Iso885915 => 13,
+            Self::Iso885916 => 14,
+            Self::Koi8R => 15,
+            Self::Koi8U => 16,
+            Self::Macintosh => 17,
+            Self::Windows874 => 18,
+            Self::Windows1250 => 19,
+            Self::Windows1251 => 20,
+            Self::Windows1252 => 21,
+            Self::Windows1253 => 22,
+            Self::Windows1254 => 23,
+            Self::Windows1255 => 24,
+            Self::Windows1256 => 25,
+            Self::Windows1257 => 26,
+            Self::Windows1258 => 27,
+            Self::XMacCyrillic => 28,
+            Self::Gbk => 29,
+            Self::Gb18030 => 30,
+            Self::Big5 => 31,
+            Self::EucJp => 32,
+            Self::Iso2022Jp => 33,
+            Self::ShiftJis => 34,
+            Self::EucKr => 35,
+            Self::Replacement => 36,
+            Self::Utf16be => 37,
+            Self::Utf16le => 38,
+            Self::XUserDefined => 39,
+        }
+    }
+
+    /// Returns the encoding with a number, if there is one.
+    pub fn from_number(number: u32) -> Option<EncodingId>
+        ensures { result ≡ id_of_number number }
+    {
+        let (ids, place) = (ids(), number as usize);
+        if place < ids.len() {
+            Some(ids[place])
+        } else {
+            None
         }
     }
 }

@@ -93,3 +93,13 @@ IsEnoughRoom units_of mode d n room =
 -- the formulas of an encoding's encoder
 abbrev pub output_lengths : Encoding → ByteLengths
 output_lengths e = encoder_lengths (codec_by_id e.id)
+
+-- the lengths to allocate for the three kinds of calls, by which crates above name them
+abbrev pub max_utf_8_length : DecoderState → ℕ → Option ℕ
+max_utf_8_length = max_length Utf8
+
+abbrev pub max_reporting_length : DecoderState → ℕ → Option ℕ
+max_reporting_length = max_length Utf8Reporting
+
+abbrev pub max_utf_16_length : DecoderState → ℕ → Option ℕ
+max_utf_16_length = max_length Utf16

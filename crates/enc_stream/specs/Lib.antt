@@ -8,6 +8,7 @@ pub mod Faults
 pub mod MarkLaws
 pub mod Latin1
 pub mod Names
+pub mod Numbers
 pub mod Labels
 pub mod Properties
 pub mod Encoder

@@ -19,6 +19,7 @@ pub mod laws;
 mod lending;
 mod lengths;
 mod life_cycle;
+mod numbers;
 mod one_shot;
 mod one_shot_error;
 mod own_text;

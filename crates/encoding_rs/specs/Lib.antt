@@ -15,6 +15,7 @@ pub use Rattle.enc_stream.specs.Division
 pub use Rattle.enc_stream.specs.MarkLaws
 pub use Rattle.enc_stream.specs.Latin1
 pub use Rattle.enc_stream.specs.Names
+pub use Rattle.enc_stream.specs.Numbers
 pub use Rattle.enc_stream.specs.Labels
 pub use Rattle.enc_stream.specs.Properties
 pub use Rattle.enc_stream.specs.Encoder

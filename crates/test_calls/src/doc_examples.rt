@@ -37,6 +37,13 @@ fn returns_names(rt: HostRuntime) {
 }
 
 #[test]
+fn returns_numbers(rt: HostRuntime) {
+    assert!(rt; UTF_8.number() == 0 && X_USER_DEFINED.number() == 39);
+    assert!(rt; Encoding::from_number(SHIFT_JIS.number()) == Some(SHIFT_JIS));
+    assert!(rt; Encoding::from_number(40) == None);
+}
+
+#[test]
 fn returns_output_encodings(rt: HostRuntime) {
     assert!(rt; UTF_16LE.output_encoding() == UTF_8);
     assert!(rt; BIG5.output_encoding() == BIG5);

@@ -1,7 +1,9 @@
 //! `Encoding`: look-ups, properties, valid prefixes, and what it makes.
 
 use crate::surface::derives::{are_equal, copies, debug_text, hash_of};
-use encoding_rs::{Decoder, Encoder, Encoding, SHIFT_JIS, UTF_8, UTF_16BE, WINDOWS_1252, laws};
+use encoding_rs::{
+    Decoder, Encoder, Encoding, SHIFT_JIS, UTF_8, UTF_16BE, WINDOWS_1252, X_USER_DEFINED, laws,
+};
 use std::hash::{DefaultHasher, Hasher};
 use std::test::Fail;
 
@@ -45,6 +47,23 @@ fn an_encoding_is_found_by_label_or_byte_order_mark(rt: HostRuntime) {
     assert!(rt; found == Some(WINDOWS_1252));
     let found: Option<(Encoding, usize)> = Encoding::for_bom(b"\xEF\xBB\xBFa");
     assert!(rt; found == Some((UTF_8, 3)));
+}
+
+/// The first, the last and one of the others in the standard's table of names and labels.
+#[test]
+fn an_encoding_is_found_by_its_number(rt: HostRuntime) -> Result<(), Fail> {
+    for (number, encoding) in [(0, UTF_8), (34, SHIFT_JIS), (39, X_USER_DEFINED)] {
+        let found: Option<Encoding> = Encoding::from_number(number);
+        assert!(rt; found == Some(encoding));
+        let place: u32 = encoding.number();
+        assert!(rt; place == number);
+    }
+    for number in 0..40 {
+        let encoding = Encoding::from_number(number).ok_or("no encoding")?;
+        assert!(rt; encoding.number() == number);
+    }
+    assert!(rt; Encoding::from_number(40) == None && Encoding::from_number(u32::MAX) == None);
+    Ok(())
 }
 
 #[test]
