@@ -63,7 +63,7 @@ def differing(texts):
 @functools.cache
 def crates():
     """The crates, lowest first, each with those that it may name."""
-    return {name: words.split() for name, words in re.findall(r"^(\w+) *:(.*)$", read("crates.txt"), re.M)}
+    return {name: words.split() for name, words in re.findall(r"^(\w+)(?: staticlib)? *:(.*)$", read("crates.txt"), re.M)}
 
 
 def parser():

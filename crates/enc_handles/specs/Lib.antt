@@ -1,0 +1,13 @@
+pub mod Contents
+pub mod Handles
+pub mod Outcomes
+pub use Rattle.enc_stream.specs.Bom
+pub use Rattle.enc_stream.specs.Decoding
+pub use Rattle.enc_stream.specs.Encoder
+pub use Rattle.enc_stream.specs.Labels
+pub use Rattle.enc_stream.specs.Latin1
+pub use Rattle.enc_stream.specs.Lengths
+pub use Rattle.enc_stream.specs.Names
+pub use Rattle.enc_stream.specs.Need
+pub use Rattle.enc_stream.specs.Numbers
+pub use Rattle.enc_stream.specs.Properties

@@ -1,0 +1,16 @@
+use Rattle.std.proofs.Common.{IfSome, subst}
+use Rattle.std.specs.Char.{encode_utf8}
+use Rattle.enc_decoder.specs.Call.{Replacement}
+use Rattle.enc_stream.specs.Lengths.{IsEnoughRoom}
+use Rattle.enc_handles.proofs.LengthLemmas.{of_known_length}
+use Rattle.encoding_c.proofs.lengths.encoding_c_max_utf8_buffer_length.Goals as goal
+
+pub returns-clause-enough : goal.returns-clause-enough
+returns-clause-enough c =
+    λ _ known. of_known_length
+    (IsEnoughRoom encode_utf8 Replacement c.args.decoder.now.value c.args.byte_length)
+    c.max_utf8_buffer_length.result c.length_or_none.result
+    c.length_or_none.ensures
+    (subst (λ v. IfSome c.max_utf8_buffer_length.result
+    (IsEnoughRoom encode_utf8 Replacement v c.args.byte_length))
+    c.get-inner.ensures.value c.max_utf8_buffer_length.ensures.enough) known
