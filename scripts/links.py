@@ -7,7 +7,7 @@ from common import crates, paths, read
 from edit_list import file_of_test
 
 # Folders whose name begins a path of the repository, and words that begin one below crates.
-ROOTS = ("crates/", "docs/", "scripts/", "data/", "bench/", "completions/", ".ci/")
+ROOTS = ("crates/", "docs/", "scripts/", "data/", "bench/", "bindings/", "completions/", ".ci/")
 BELOW = re.compile(r"\b((?:enc|recode|example|test)\w*/(?:src|specs|proofs|must-fail|edits|equal)/[\w./-]*\w)")
 # Code that is shown, and the sources that have it: tests, examples and their proofs.
 CODE = re.compile(r"^```(?:rust|antt)\n(.*?)^```$", re.M | re.S)
