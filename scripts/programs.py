@@ -66,8 +66,8 @@ def install(command, package):
         give_up(f"lacks {command}, and apt-get could not install {package}")
 
 
-def build_peer(sources, room):
-    """Builds programs over the Rust crate, with no network and outside the repository."""
+def build_peer(sources, room, instead=None, env=None):
+    """Builds programs over the Rust crate, or a package in its place, with no network and outside the repository."""
     install("cargo", "cargo")
     shutil.rmtree(f"{room}/crates", ignore_errors=True)
     os.makedirs(f"{room}/crates")
@@ -76,10 +76,11 @@ def build_peer(sources, room):
         for it in os.scandir(f"{folder}/usr/share/cargo/registry"):
             os.symlink(it.path, f"{room}/crates/{it.name}")
     shutil.copytree(f"{TOP}/{sources}", f"{room}/peer", dirs_exist_ok=True)
+    settings = ['source.crates-io.replace-with="packaged"', f'source.packaged.directory="{room}/crates"']
+    settings += [f'patch.crates-io.encoding_rs.path="{instead}"'] * bool(instead)
     run_quietly(
-        ["cargo", "build", "--release", "--offline", "--target-dir", f"{room}/peer/target", "--config",
-         'source.crates-io.replace-with="packaged"', "--config", f'source.packaged.directory="{room}/crates"'],
-        cwd=f"{room}/peer")
+        ["cargo", "build", "--release", "--offline", "--target-dir", f"{room}/peer/target",
+         *(word for it in settings for word in ("--config", it))], cwd=f"{room}/peer", env=env)
     version = re.search(r'name = "encoding_rs"\nversion = "([^"]*)"', read(f"{room}/peer/Cargo.lock"))[1]
     return f"{room}/peer/target/release", version
 
