@@ -13,7 +13,7 @@ from common import crates, is_there, paths, read
 # The head line of an impl or a trait, and that of a function, with its attributes.
 HEAD = re.compile(
     r"^(?:(?P<owner>(?:unsafe )?impl\b[^{\n]*|(?:pub(?:\(crate\))? )?trait\b[^{\n]*)|(?P<attributes>(?: *#\[.*\n)*)"
-    r"(?P<head>(?P<indent> *)(?:pub(?:\([a-z]+\))? +)?(?:const +)?fn +(?P<name>\w+)[^{\n]*\{?))", re.M)
+    r"(?P<head>(?P<indent> *)(?:pub(?:\([a-z]+\))? +)?(?:const +)?(?:extern \"C\" +)?fn +(?P<name>\w+)[^{\n]*\{?))", re.M)
 TEST = re.compile(r"^#\[test\]\nfn (\w+)\(", re.M)
 
 # The lines of an edit that say more than its pairs: what they are for, and how each begins.
@@ -141,8 +141,13 @@ def is_rows(name):
     return bool(re.fullmatch(r"conformance/[\w-]+\.txt", name)) and is_there(name)
 
 
+def is_of_c(name):
+    """Whether a path is that of a program in C that calls the exports."""
+    return bool(re.fullmatch(r"bindings/c/tests/\w+\.c", name)) and is_there(name)
+
+
 def is_witness(name):
-    return bool(file_of_test(name)) or is_program(name) or is_rows(name)
+    return bool(file_of_test(name)) or is_program(name) or is_rows(name) or is_of_c(name)
 
 
 def fault_of(edit):

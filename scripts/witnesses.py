@@ -11,6 +11,8 @@ test runs in a process of its own. A program, and crates/conformance for a file 
 it has from the variable SWITCH. It fails if it prints something else than its file `stdout`, or names a row, or is
 stopped at a fault or after a minute of processor time.
 
+Exports of the static library are run by a program in C (witnesses_in_c.py).
+
 Not all changes are of bodies. One of a head, a constant or a program is built and run by itself. Ghost lines and
 definitions do not run, so of an edit that changes them too only the rest is made. An edit whose wrong body can't stand
 beside the right one (a value is moved or lent in both, say) is tried by itself too.
@@ -22,8 +24,9 @@ import subprocess
 from concurrent.futures import ThreadPoolExecutor
 
 from common import TOP, copied, is_there, lanes, paths, read, read_bytes, write
-from edit_list import apply, edits_of, ends_of, equal_of, fault_of, file_of_test, is_program, is_rows
+from edit_list import apply, edits_of, ends_of, equal_of, fault_of, file_of_test, is_of_c, is_program, is_rows
 from unproved import SECONDS, kit_of_links
+from witnesses_in_c import run_exports
 
 # Runs side by side. One takes 2 GB, and that of a large crate of tests 4.
 LANES = min(3, lanes(4))
@@ -260,10 +263,20 @@ class Runs:
 
     def __init__(self, edits):
         self.ended, self.controls = {}, {}
-        together = [it for it in edits if bodies_of(it[0])]
-        apart = [it for it in edits if it not in together]
+        in_c = [it for it in edits if is_of_c(it[1])]
+        together = [it for it in edits if bodies_of(it[0]) and it not in in_c]
+        apart = [it for it in edits if it not in together and it not in in_c]
         others = dict.fromkeys(it for _, it in apart)
         self.run_apart(apart + self.run_together(dict(enumerate(together, 1)), others))
+        self.run_in_c(dict(enumerate(in_c, 1)))
+
+    def run_in_c(self, numbered):
+        """Runs the program in C for each of these edits of exports, in one archive."""
+        if not numbered:
+            return
+        ended = run_exports(numbered, (SWITCH, SWITCH_SOURCE, SWITCH_C), bodies_of, (BEGINS, ENDS))
+        self.ended |= {edit: ended[number] for number, (edit, _) in numbered.items()}
+        self.controls |= {witness: ended[0] is True for _, witness in numbered.values()}
 
     def run_together(self, numbered, others):
         """Runs numbered edits in one copy, with other controls too. Returns those that can't stand there."""
