@@ -24,9 +24,11 @@ from sources import blocks
 CLAIMS = "docs/PROVED.md"
 
 # Crates and traits all of whose public clauses are claims.
-CRATES_CLAIMED = ("enc_stream", "encoding_rs", "enc_reader", "enc_writer", "recode_engine")
+CRATES_CLAIMED = ("enc_stream", "encoding_rs", "enc_reader", "enc_writer", "recode_engine", "encoding_c")
 TRAITS_CLAIMED = ("Units", "Chars", "RawDecoder", "RawEncoder", "Source", "Sink")
 
+# How the head of an export begins, which other languages call.
+EXPORT = 'pub extern "C" fn '
 LABEL = re.compile(r"(?:`(\w+)`|(its clause|every clause))(?: \((.*?)\))?")
 # An item of a list with the items in it, if it is no list of names.
 CLAIM = re.compile(r"^- (?!\*[^*]+\*: )(.*(?:\n  (?!- ).*)*)((?:\n  - .*(?:\n    .*)*)*)", re.M)
@@ -70,7 +72,8 @@ def functions_of(crate):
             name, (owner, of_trait) = place.name, owner_of(place.owner)
             through = {it for it, names in shown.items() if (owner or name) in names or it == module}
             is_public, names = (place.head.startswith("pub") or of_trait) and through, {crate, module, owner, *through}
-            if place.head.startswith(("fn ", "pub fn ")):
+            is_public = is_public or place.head.startswith(EXPORT)
+            if place.head.startswith(("fn ", "pub fn ", EXPORT)):
                 yield Function(path, name, crate, owner, bool(is_public), names, *contract(read(path), begin))
 
 

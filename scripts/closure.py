@@ -19,8 +19,8 @@ ENCODE_RUN = "crates/encoding_rs/src/encode_run.rt"
 LABELS = "crates/enc_stream/src/labels.rt"
 CODECS = "crates/enc_codec/specs/Codecs.antt"
 
-CONTRACT = re.compile(r"\n +(?=(?:requires|ensures) )|\{\}?\n|;\n")
-CLAUSE = re.compile(r"\s*(?://.*\s+)*(requires|ensures) (\w+ )?(?=\{)")
+CONTRACT = re.compile(r"\n +(?=(?:requires|ensures)\*? )|\{\}?\n|;\n")
+CLAUSE = re.compile(r"\s*(?://.*\s+)*(requires|ensures)\*? (\w+ )?(?=\{)")
 WORD = re.compile(r"[^\W\d][\w']*(?:-[\w']+)*|\w+")
 TYPE = r"^(?:pub(?:\(crate\))? )?(?:enum|struct) {}\b.*?(?:;$|^\}})"
 
