@@ -94,7 +94,7 @@ fn between(
     Ok(made)
 }
 
-/// The input with so many letters before the bytes and after them.
+/// The input with that number of letters before the bytes and after them.
 fn place_of(
     alloc: Global,
     (encoding, reporting): (Encoding, bool),
@@ -181,7 +181,7 @@ fn steps_of(alloc: Global, place: &Place) -> Result<Vec<usize>, Fail> {
     Ok(steps)
 }
 
-/// The same after so many letters of this length, before which nothing is pending.
+/// The same after that number of letters of this length, before which nothing is pending.
 fn steps_after(
     alloc: Global,
     (letters, len): (usize, usize),

@@ -18,7 +18,7 @@ const WAYS: [(Step, usize, usize); 4] = [
 
 /// Inputs that have sequences of each kind in some encoding: characters of one byte to four, pairs
 /// of characters, surrogates, escape sequences and repeated ones, malformed and incomplete
-/// sequences, byte order marks, whole and broken off, and lines.
+/// sequences, and byte order marks, whole and broken off.
 #[rattlefmt::skip]
 const INPUTS: &[&[u8]] = &[
     b"",
@@ -46,7 +46,11 @@ const INPUTS: &[&[u8]] = &[
     b"\xFEa",
     b"\xFF",
     b"\xEF\xBB\xBF\xEF\xBB\xBF",
-    // lines, among them of U+0A0A and U+0A00, which have a byte 0A in UTF-16
+];
+
+/// Lines, among them of U+0A0A and U+0A00, which have a byte 0A in UTF-16.
+#[rattlefmt::skip]
+const LINES: &[&[u8]] = &[
     b"ab\r\ncd\n\n\ne\rf",
     b"\n\0a\0\r\0\n\0\x0A\x0A\0\x0A\n\0\x3D\xD8\xA9\xDC\n\0b\0\0\xD8",
     b"\0\n\0a\0\r\0\n\x0A\x0A\x0A\0\0\n\xD8\x3D\xDC\xA9\0\n\0b\xD8\0",
@@ -71,22 +75,32 @@ fn compare_ways(rt: &impl Abort, alloc: Global, input: (Encoding, &[u8])) -> Res
     Ok(())
 }
 
-#[test]
-fn reads_the_text_of_the_whole_input(rt: HostRuntime) -> Result<(), Fail> {
+/// Reads inputs in every encoding. Single-byte encodings differ in their characters alone, so those
+/// but windows-1252 read the first of them.
+fn compare_inputs(rt: &impl Abort, alloc: Global, inputs: &[&[u8]]) -> Result<(), Fail> {
     for name in NAMES.split(' ') {
         let encoding = Encoding::for_label(name.as_bytes()).ok_or("no encoding")?;
-        // single-byte encodings differ in their characters alone
         let is_like_another = encoding.is_single_byte() && encoding != WINDOWS_1252;
-        let inputs = if is_like_another {
-            &INPUTS[..3]
+        let some = if is_like_another {
+            &inputs[..inputs.len().min(3)]
         } else {
-            INPUTS
+            inputs
         };
-        for bytes in inputs {
-            compare_ways(&rt, rt.alloc(), (encoding, *bytes))?;
+        for bytes in some {
+            compare_ways(rt, alloc, (encoding, *bytes))?;
         }
     }
     Ok(())
+}
+
+#[test]
+fn reads_the_text_of_the_whole_input(rt: HostRuntime) -> Result<(), Fail> {
+    compare_inputs(&rt, rt.alloc(), INPUTS)
+}
+
+#[test]
+fn reads_the_lines_of_the_whole_input(rt: HostRuntime) -> Result<(), Fail> {
+    compare_inputs(&rt, rt.alloc(), LINES)
 }
 
 /// An input, and the parts of its text that the bytes before a fault at each of six reads

@@ -1,4 +1,4 @@
-//! Texts of some seventy characters, many of which one call writes at once.
+//! Texts of about seventy characters, of which a call writes long parts at once.
 
 use crate::cases::expect;
 use crate::encoding::calls::{Answer, Offer, compare_answer, make_call};
