@@ -2,6 +2,7 @@
 
 BEGIN = "<!-- scripts/bench writes from here -->"
 CALLS_BEGIN = "<!-- scripts/bench --only calls writes from here -->"
+INTERFACE_BEGIN = "<!-- scripts/bench --only interface writes from here -->"
 END = "<!-- to here -->"
 
 DECODING = "How many times as fast as the crate encoding_rs recode decodes"

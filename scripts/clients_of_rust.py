@@ -124,8 +124,8 @@ def io(room):
     return counted(*tested(room, own))
 
 
-def ripgrep(room):
-    """ripgrep's tests of itself, over the package and over the crate."""
+def sources_of_ripgrep(room):
+    """The sources of ripgrep in a folder, and that of the packages that they are built from."""
     own, registry = room.path("ripgrep"), room.path("ripgrep-crates")
     [folder] = unpacked(RIPGREP_SUITE, "rust-ripgrep", source=True)
     [archive] = (it.path for it in os.scandir(folder) if ".orig.tar" in it.name)
@@ -142,18 +142,36 @@ def ripgrep(room):
     # (an allocator for other C libraries, and a feature of nightly compilers, which Debian leaves out too)
     toml = re.sub(r"^simd-accel.*\n", "", read(f"{sources}/Cargo.toml"), flags=re.M)
     write(f"{sources}/Cargo.toml", re.sub(r"^\[target[^\n]*jemallocator\]\n(?:.+\n)*", "", toml, flags=re.M))
+    return sources, registry
+
+
+def over(room, sources, registry, patched):
+    """Has the next build of ripgrep be over the package, or over the crate."""
+    config(sources, registry, patched)
+    if os.path.exists(f"{sources}/Cargo.lock"):
+        os.remove(f"{sources}/Cargo.lock")
+
+
+def ripgrep(room):
+    """ripgrep's tests of itself, over the package and over the crate."""
+    sources, registry = sources_of_ripgrep(room)
     results = []
     for patched in (True, False):
-        config(sources, registry, patched)
-        if os.path.exists(f"{sources}/Cargo.lock"):
-            os.remove(f"{sources}/Cargo.lock")
+        over(room, sources, registry, patched)
         results.append(counted(*tested(room, sources, "--test", "integration")))
-        if not results[-1][0]:
-            break
-        shutil.copy(f"{room.path('target')}/release/rg", room.path("rg-proved" if patched else "rg-stock"))
-    if len(results) > 1 and results[1][2]:
+    if results[1][2]:
         print("  over the crate some fail too")
     return results[0]
+
+
+def ripgreps(room):
+    """The programs over the crate and over the package."""
+    sources, registry = sources_of_ripgrep(room)
+    for patched, name in ((False, "rg-crate"), (True, "rg-package")):
+        over(room, sources, registry, patched)
+        run_quietly(["cargo", "build", "--release", "--offline"], cwd=sources, env=environment(room))
+        shutil.copy(f"{room.path('target')}/release/rg", room.path(name))
+    return room.path("rg-crate"), room.path("rg-package")
 
 
 def packages_of_ripgrep(room):
