@@ -36,17 +36,16 @@ class Whole:
 
     def __init__(self, commands, source):
         self.commands, self.source, self.best = commands, source, {}
-        outputs = {self.run(name)[1] for name in commands}
-        if len(outputs) != 1:
+        if len({hash(self.run(name, subprocess.PIPE)[1]) for name in commands}) != 1:
             raise SystemExit(f"bench: outputs differ: {commands['package']}")
 
-    def run(self, name):
-        """The processor time of a run, and the sum of what it writes."""
+    def run(self, name, stdout=subprocess.DEVNULL):
+        """The processor time of a run, and what it writes if that is kept."""
         before = resource.getrusage(resource.RUSAGE_CHILDREN)
         with open(self.source, "rb") as file:
-            ran = subprocess.run(self.commands[name], stdin=file, stdout=subprocess.PIPE, check=False)
+            ran = subprocess.run(self.commands[name], stdin=file, stdout=stdout, check=False)
         after = resource.getrusage(resource.RUSAGE_CHILDREN)
-        return after.ru_utime - before.ru_utime + after.ru_stime - before.ru_stime, hash(ran.stdout)
+        return after.ru_utime - before.ru_utime + after.ru_stime - before.ru_stime, ran.stdout
 
     def measure(self):
         for name in self.commands:
