@@ -1,1 +1,2 @@
+mod HandleLemmas
 pub mod LengthLemmas

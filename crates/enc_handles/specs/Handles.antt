@@ -1,4 +1,4 @@
--- What a loan of the value behind a handle leaves there.
+-- A loan of the value at the pointer of a handle, which ends with the value that the loan leaves.
 use Rattle.std.specs.Borrow.{Lends, MutBor, Fml}
 use Rattle.enc_stream.specs.Decoding.{DecoderState}
 use Rattle.enc_stream.specs.Encoder.{EncoderState}
@@ -17,10 +17,10 @@ with_decoder h d = record h { value = d }
 abbrev pub with_encoder : EncoderAt → EncoderState → EncoderAt
 with_encoder h e = record h { value = e }
 
--- h ends with the last decoder behind r
+-- h ends with the decoder that r leaves
 abbrev pub lends_decoder : MutBor DecoderAt → MutBor DecoderState → Fml
 lends_decoder h r = Lends decoder_at_row decoder_row h r (with_decoder h.now)
 
--- h ends with the last encoder behind r
+-- h ends with the encoder that r leaves
 abbrev pub lends_encoder : MutBor EncoderAt → MutBor EncoderState → Fml
 lends_encoder h r = Lends encoder_at_row encoder_row h r (with_encoder h.now)

@@ -1,6 +1,6 @@
 -- The results of calls by numbers, and what the numbers stand for.
-use Rattle.std.specs.Prelude.{ℕ, zero, suc, ◌-◌, ◌/◌, ◌%◌, ◌^◌, ◌==◌, Option, Some, None, false, option_map}
-use Rattle.std.specs.Prelude.{if◌then◌else◌}
+use Rattle.std.specs.Prelude.{ℕ, zero, suc, ◌-◌, ◌/◌, ◌%◌, ◌^◌, ◌==◌, Option, Some, None, false}
+use Rattle.std.specs.Prelude.{option_map, if◌then◌else◌}
 use Rattle.enc_units.specs.declared.coder_result.CoderResult.{CoderResult}
 use Rattle.enc_units.specs.declared.coder_result.CoderResult.TheVariants as coder
 use Rattle.enc_units.specs.declared.decoder_result.DecoderResult.{DecoderResult}

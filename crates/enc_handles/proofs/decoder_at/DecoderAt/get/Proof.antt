@@ -1,9 +1,9 @@
--- `get` lends the decoder behind the pointer, and the handle follows it.
+-- `get` lends the decoder at the pointer, and the handle follows it.
 --
 -- Written by scripts/make-sources from data/templates: change the text there, and not this file.
 --
--- The borrow checker does not follow a raw pointer, so this is a walk of the code by hand. In it are
--- the block and the offset of the handle (`b`, `o`), and those of the decoder (`b'`, `o'`).
+-- The borrow checker does not follow a raw pointer, so this is a walk of the code by hand. It names
+-- the block and the offset of the handle `b` and `o`, and those of the decoder `b'` and `o'`.
 use Rattle.std.proofs.Common.{Bool, true, ◌≡◌, ℕ, List, [], ◌∷◌, refl, sym, ap, ◌∙◌, MutBor}
 use Rattle.std.proofs.raw_atomic.Walks.{proved}
 use base.Fraction.{full_share}
@@ -11,7 +11,7 @@ use base.Logic.{ent, sep, id⊢}
 use base.Fml.{GName, ftrue, fsep, flft}
 use seplogic.Ra.Ura.{Ura}
 use mir.Syntax.{named}
-use mir.Val.{Val, vptr, vstruct, vcons, vnil}
+use mir.Val.{Val, vptr}
 use contract.Running.{tables}
 use contract.Monad.{fact}
 use types.Logic.{Logic, sem}
@@ -35,6 +35,7 @@ use denote.Steps.{nothing, heard, opens, peeks}
 use denote.Exit.{no}
 use denote.Triple.Walked.{Stays, walk_of, says, stay_dropped, Goes-spent_ref, ends_at}
 use Rattle.std.proofs.VecSteps.Shapes.{after}
+use Rattle.enc_handles.proofs.HandleLemmas.{word}
 use Rattle.enc_handles.specs.Contents.{decoder_contents as contents}
 use Rattle.enc_handles.specs.Handles.{with_decoder as with_value}
 use Rattle.enc_handles.specs.declared.decoder_at.DecoderAt.{DecoderAt}
@@ -48,11 +49,7 @@ use Rattle.enc_handles.proofs.decoder_at.DecoderAt.get.Code as code
 abbrev stayed : Stays f.ended.signature.params f.ended.kept
 stayed = (stay_dropped (mut_ref_to (0 ∷ []) tt (plain (λ _. R))) no, tt)
 
--- the handle's machine value
-abbrev word : ℕ → ℕ → List Val
-word b o = vstruct (vcons (vptr b o) vnil) ∷ []
-
--- with any value behind its pointer the handle is whole
+-- with any value at its pointer the handle is whole
 back : {M : Type 1} {𝓤 : Ura M} (𝓛 : Logic 𝓤) (handle : DecoderAt) (b o b' o' : ℕ)
     → handle.ready ≡ true → handle.at ≡ block_ptr b' o' → (value : T.Denot)
     → ent 𝓤 (sep 𝓤 (sem 𝓛 ((mem T).own_at value b' o'))
@@ -60,7 +57,8 @@ back : {M : Type 1} {𝓤 : Ura M} (𝓛 : Logic 𝓤) (handle : DecoderAt) (b o
     (sem 𝓛 ((mem R).own_at (with_value handle value) b o))
 unfolding part_of
 back 𝓛 handle b o b' o' ready e value =
-    qed 𝓛 (‵ (part_at T full_share value b' o') ∷ ‵ (cell_at full_share R.mir (word b' o') b o) ∷ [])
+    qed 𝓛 (‵ (part_at T full_share value b' o')
+    ∷ ‵ (cell_at full_share R.mir (word b' o') b o) ∷ [])
     ∵
     rewrite ! 0 (λ (p : Ptr). ‵ (lies_at T full_share p value)) (sym e) refl $
     rewrite ! 0 (λ (r : Bool). ‵ (contents r handle.at value)) (sym ready) refl $
@@ -85,9 +83,11 @@ get_spec 𝓤 𝓛 𝓜 𝓡 wired =
     let b = args.0.ref_ptr.0 in let o = args.0.ref_ptr.1 in
     let handle = args.0.now in let vs = mut_vals args.0 in let γ = args.0.ghost_name in
     let ghosts : walk.Ghost = ((κs, qs, bounds, args, (vs, tt)), tt) in
-    qed 𝓛 (((‵ (flft κs.0 qs.0) ⊛ ‵ ftrue) ⊛ ‵ ((MutRef (named 0) κs.0 R).own_val args.0 vs) ⊛ ‵ ftrue)
+    qed 𝓛 (((‵ (flft κs.0 qs.0) ⊛ ‵ ftrue)
+    ⊛ ‵ ((MutRef (named 0) κs.0 R).own_val args.0 vs) ⊛ ‵ ftrue)
     ∷ raw (fact 𝓤 (handle.ready ≡ true)) ∷ []) ∵
-    split ! $ split ! $ move ! (2 ∷ []) $ split ! $ keep ! (4 ∷ 0 ∷ 2 ∷ []) $ heard ! _ (λ ready.
+    split ! $ split ! $ move ! (2 ∷ []) $ split ! $ keep ! (4 ∷ 0 ∷ 2 ∷ []) $
+    heard ! _ (λ ready.
     enter ! _ _ _ _ _ $ alloc_all ! (λ l. pass_all ! refl ((tt, tt), tt) $
     fsplit3 ! $ move ! (1 ∷ 2 ∷ 3 ∷ []) $ opens ! tt R b o (λ us.
     move ! (1 ∷ []) $ peeks ! R _ (shows 𝓛 R) handle us (λ is. fsplit ! $ drop ! $

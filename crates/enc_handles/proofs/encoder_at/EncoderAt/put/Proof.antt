@@ -1,19 +1,17 @@
--- `put` writes a encoder behind the pointer.
+-- `put` writes an encoder at the pointer.
 --
 -- Written by scripts/make-sources from data/templates: change the text there, and not this file.
 --
--- The borrow checker does not follow a raw pointer, so this is a walk of the code by hand. In it are
--- the block and the offset of the handle (`b`, `o`), and those of the encoder (`b'`, `o'`).
-use Rattle.std.proofs.Common.{◌≡◌, ℕ, Bool, true, false, List, [], ◌∷◌, ◌++◌, refl, sym, ap, ◌∙◌, subst}
+-- The borrow checker does not follow a raw pointer, so this is a walk of the code by hand. It names
+-- the block and the offset of the handle `b` and `o`, and those of the encoder `b'` and `o'`.
+use Rattle.std.proofs.Common.{◌≡◌, Bool, true, false, List, [], ◌∷◌, ◌++◌, refl, sym, ap, ◌∙◌, subst}
 use Rattle.std.proofs.raw_atomic.Walks.{proved_at, leaves}
 use base.Fraction.{full_share}
 use base.Logic.{SProp, ent, emp, never_e, id⊢}
 use base.Fml.{ftrue, fat, flft}
 use seplogic.Ra.Ura.{Ura}
-use lib.Dec.{T as Holds}
-use denote.Laws.{Typed, shows}
-use mir.Syntax.{Ty}
-use mir.Val.{Val, has_ty, WT, vptr, vunit, vstruct, vcons, vnil}
+use denote.Laws.{shows}
+use mir.Val.{Val, vptr, vunit}
 use prog.Wp.{WpFn}
 use contract.Running.{tables}
 use contract.Monad.{fact, fact_i}
@@ -35,6 +33,7 @@ use denote.Exit.{yes}
 use denote.Triple.Walked.{Stays, walk_of, stay_ref, stay_dropped, Goes-ref, Goes-dropped}
 use borrow.Table.OneValue.{part_out, part_in}
 use Rattle.std.proofs.VecSteps.Shapes.{after}
+use Rattle.enc_handles.proofs.HandleLemmas.{word, one}
 use Rattle.enc_handles.specs.Contents.{encoder_contents as contents}
 use Rattle.enc_handles.specs.declared.encoder_at.EncoderAt.{EncoderAt}
 use Rattle.enc_stream.specs.contracts.encoder.Encoder.{the_row as T}
@@ -48,35 +47,27 @@ use Rattle.enc_handles.proofs.encoder_at.EncoderAt.put.Code as code
 abbrev stayed : Stays f.ended.signature.params f.ended.kept
 stayed = (stay_ref (0 ∷ []) tt (plain (λ _. R)), (stay_dropped (plain (λ _. T)) yes, tt))
 
--- the handle's machine value
-abbrev word : ℕ → ℕ → List Val
-word b o = vstruct (vcons (vptr b o) vnil) ∷ []
-
--- what lies behind the pointer is room for another value
+-- what lies at the pointer is room for another value
 to_room : {M : Type 1} {𝓤 : Ura M} (𝓛 : Logic 𝓤) (ready : Bool) (p : Ptr) (value : T.Denot)
     → ent 𝓤 (sem 𝓛 (contents ready p value)) (sem 𝓛 (room_at T p))
 to_room {𝓤 = 𝓤} 𝓛 false p value = id⊢ 𝓤 _
 to_room {𝓤 = 𝓤} 𝓛 true null_ptr value = never_e 𝓤 _
 to_room {𝓤 = 𝓤} 𝓛 true (block_ptr b o) value =
     qed 𝓛 (‵ (part_at T full_share value b o) ∷ []) ∵
-    use1 𝓛 (some (λ (v : Val). ‵ (fat full_share (lone T.mir) b o v) ⊛ ‵ (T.own_val value (v ∷ []))))
+    use1 𝓛 (some (λ (v : Val). ‵ (fat full_share (lone T.mir) b o v)
+    ⊛ ‵ (T.own_val value (v ∷ []))))
     (part_out 𝓛 T refl full_share value b o) $
     pick ! (λ v. split ! $ keep ! (0 ∷ []) $ by ! (𝓛.laws.at_room (lone T.mir) b o v))
-
--- the one machine value of a type of one
-one : (τ : Ty) (vs : List Val) → Typed (τ ∷ []) vs
-    → (v : Val) × (vs ≡ v ∷ []) × (Holds (has_ty τ v) × WT v)
-one τ [] t = absurd t
-one τ (v ∷ []) t = (v, refl, t.0)
-one τ (v ∷ w ∷ vs) t = absurd t.1
 
 pub put_spec : {M : Type 1} → statement M
 put_spec 𝓤 𝓛 𝓜 𝓡 wired =
     let clauses = f.clauses 𝓛 𝓜.mem 𝓡.returns in
     let walk = walk_of 𝓛 f.ended stayed clauses in
     let code_tables = tables 𝓤 𝓛.H 𝓜 𝓡 𝓡.env in
-    proved_at 𝓛 f.ended stayed clauses 𝓜 𝓡
-    (Goes-ref 𝓛 1 0 tt (plain (λ _. R)), (Goes-dropped 𝓛 1 (plain (λ _. T)) yes (λ κs x w. refl), tt))
+    proved_at 𝓛 f.ended stayed clauses 𝓜 𝓡 (
+      Goes-ref 𝓛 1 0 tt (plain (λ _. R)),
+      (Goes-dropped 𝓛 1 (plain (λ _. T)) yes (λ κs x w. refl), tt),
+    )
     f.Key.name code.function (code.unfolded 𝓤 𝓛.H 𝓜 𝓡 wired) (λ ghosts are.
     let κs = ghosts.0.0 in let qs = ghosts.0.1 in
     let args = ghosts.0.3 in let vss = ghosts.0.4 in
@@ -86,9 +77,11 @@ put_spec 𝓤 𝓛 𝓜 𝓡 wired =
     let us = vptr b o ∷ got.0 ∷ [] in
     let Runs : List Val → SProp 𝓤 =
     λ ws. WpFn 𝓤 𝓛.H code_tables.C code_tables.Λ code.function ws (walk.post ghosts) in
-    qed 𝓛 (((‵ (flft κs.0 qs.0) ⊛ ‵ ftrue) ⊛ ‵ (owns (types_at f.ended.signature.params κs) args vss))
+    qed 𝓛 (((‵ (flft κs.0 qs.0) ⊛ ‵ ftrue)
+    ⊛ ‵ (owns (types_at f.ended.signature.params κs) args vss))
     ∷ ‵ ftrue ∷ []) ∵
-    split ! $ split ! $ move ! (2 ∷ []) $ fsplit3 ! $ fsplit3 ! $ keep ! (1 ∷ 2 ∷ 5 ∷ 3 ∷ []) $
+    split ! $ split ! $ move ! (2 ∷ []) $ fsplit3 ! $ fsplit3 ! $
+    keep ! (1 ∷ 2 ∷ 5 ∷ 3 ∷ []) $
     rewrite ! 3 (λ (ws : List Val). ‵ (T.own_val new ws)) got.1 refl $
     suffices ! (Runs us) (subst (λ (ws : List Val). ent 𝓤 (Runs us) (Runs ws))
     (sym (λ i. are.0.0 i ++ (got.1 i ++ []))) (id⊢ 𝓤 (Runs us))) $
@@ -124,7 +117,8 @@ put_spec 𝓤 𝓛 𝓜 𝓡 wired =
     move ! (1 ∷ []) $ closes ! tt R left (word b' o') b o $
     -- [two parts of self; the token; the locals]
     returns ! (look_at ! 0 refl) $ free_all ! refl $
-    feq_i ! (List Val) vss.0 (vptr b o ∷ []) are.0.0 $ fjoin3 ! $ nothing ! $ nothing ! $ fjoin ! $
+    feq_i ! (List Val) vss.0 (vptr b o ∷ []) are.0.0 $ fjoin3 ! $
+    nothing ! $ nothing ! $ fjoin ! $
     move ! (1 ∷ 0 ∷ []) $ fjoin ! $
     nothing ! $ move ! (2 ∷ 0 ∷ []) $ join ! $
     let Put : Type 0 = (left.ready ≡ true) × (left.value ≡ new) in
