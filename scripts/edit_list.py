@@ -110,6 +110,13 @@ def ends_of(text, place):
     return next((ends for it, ends in functions(place.file, text) if it == place), None)
 
 
+def beside(text, place, counts, wrong, marks):
+    """A source in which a wrong body stands before that of a function, between two marks: it counts where an expression
+    is true."""
+    at = ends_of(text, place)[2]
+    return text[:at] + f"\nif {counts} {{ {marks[0]}\nreturn {{{wrong}}};\n}} {marks[1]}\n" + text[at:]
+
+
 @functools.cache
 def edits_of(crate):
     """The edits of a crate: those that stand singly in must-fail, and those of edits."""

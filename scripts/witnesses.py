@@ -24,7 +24,7 @@ import subprocess
 from concurrent.futures import ThreadPoolExecutor
 
 from common import TOP, copied, is_there, lanes, paths, read, read_bytes, write
-from edit_list import apply, edits_of, ends_of, equal_of, fault_of, file_of_test, is_of_c, is_program, is_rows
+from edit_list import apply, beside, edits_of, ends_of, equal_of, fault_of, file_of_test, is_of_c, is_program, is_rows
 from unproved import SECONDS, kit_of_links
 from witnesses_in_c import run_exports
 
@@ -79,6 +79,11 @@ TESTS = re.compile(
 # The last line of a build that made nothing.
 NO_BUILD = re.compile(r"^run=none ", re.M)
 BEGINS, ENDS = "// the body of edit", "// the end of edit"
+
+
+def marks_of(number):
+    """The marks around the wrong bodies of a number."""
+    return f"{BEGINS} {number}", f"{ENDS} {number}"
 
 
 def is_ghost(pair):
@@ -208,10 +213,7 @@ class Switched(Copy):
         """Has the bodies of an edit stand before those that are there."""
         for place, body in bodies_of(edit).items():
             path = f"{self.room}/crates/{edit.crate}/{place.file}"
-            text = read(path)
-            at = ends_of(text, place)[2]
-            wrong = f"\nif {SWITCH}::is_on({number}) {{ {BEGINS} {number}\nreturn {{{body}}};\n}} {ENDS} {number}\n"
-            write(path, text[:at] + wrong + text[at:])
+            write(path, beside(read(path), place, f"{SWITCH}::is_on({number})", body, marks_of(number)))
 
     def wrappers(self, place, test):
         """The tests that set a number, in place of a test: one for each number, and one for none. No function may call a
@@ -274,7 +276,7 @@ class Runs:
         """Runs the program in C for each of these edits of exports, in one archive."""
         if not numbered:
             return
-        ended = run_exports(numbered, (SWITCH, SWITCH_SOURCE, SWITCH_C), bodies_of, (BEGINS, ENDS))
+        ended = run_exports(numbered, (SWITCH, SWITCH_SOURCE, SWITCH_C), bodies_of, marks_of)
         self.ended |= {edit: ended[number] for number, (edit, _) in numbered.items()}
         self.controls |= {witness: ended[0] is True for _, witness in numbered.values()}
 

@@ -12,7 +12,7 @@ import shutil
 import subprocess
 
 from common import TOP, copied, crates, paths, read, run, run_quietly, share, write
-from edit_list import ends_of
+from edit_list import beside
 
 # The crate of exports, and the files of other crates that its edits may change.
 EXPORTS, HANDLES = "encoding_c", ("enc_handles/src/outcome.rt", "enc_handles/src/numbers.rt")
@@ -21,7 +21,7 @@ SECONDS = 60
 
 
 def end_of_braces(text, at):
-    """The place behind the brace that closes the one at a place."""
+    """The place after the brace that closes the one at a place."""
     depth = 0
     for it in re.finditer(r"[{}]", text[at:]):
         depth += 1 if it[0] == "{" else -1
@@ -48,7 +48,7 @@ def archive_of(room, allowed):
     return (archive, "") if os.path.exists(archive) else ("", said)
 
 
-def run_exports(numbered, switch, bodies_of, marks):
+def run_exports(numbered, switch, bodies_of, marks_of):
     """For each number whether the program of its witness passes, with 0 for none; or what was said if it did not run.
 
     `switch` has the name, the source and the C of the crate that holds the number.
@@ -68,10 +68,7 @@ def run_exports(numbered, switch, bodies_of, marks):
         for number, (edit, _) in numbered.items():
             for place, body in bodies_of(edit).items():
                 path = f"{room}/crates/{edit.crate}/{place.file}"
-                text = read(path)
-                at = ends_of(text, place)[2]
-                wrong = f"\nif {name}::is_on({number}) {{ {marks[0]} {number}\nreturn {{{body}}};\n}} {marks[1]} {number}\n"
-                write(path, text[:at] + wrong + text[at:])
+                write(path, beside(read(path), place, f"{name}::is_on({number})", body, marks_of(number)))
         archive, said = archive_of(room, name)
         if not archive:
             return {number: said[-2000:] for number in (0, *numbered)}

@@ -2,10 +2,10 @@
 
 `lookup(label)` finds an encoding, and `decode(bytes, label)` and `encode(text, label)` convert whole texts: the
 interface of the package webencodings, which `encoding_rs.webencodings` has in full. Importing this package registers
-codecs, so that `bytes.decode("whatwg-shift_jis")` and `open(path, encoding="whatwg-gbk")` take every label of the
-standard behind "whatwg-", where Python has encodings of its own by the same names.
+codecs: `bytes.decode("whatwg-shift_jis")` and `open(path, encoding="whatwg-gbk")` take every label of the standard
+after "whatwg-", since Python has encodings of its own by the same names.
 
-docs/BINDINGS.md says what is proved. Python's own errors handlers are taken: "strict", "replace", "xmlcharrefreplace"
+docs/BINDINGS.md says what is proved. Python's own error handlers are taken: "strict", "replace", "xmlcharrefreplace"
 and so on.
 """
 

@@ -13,7 +13,7 @@ ALL, OWN, NONE = range(3)
 # The states of decoders that Python has asked for, by number: it wants an integer, and keeps it in the places of a file.
 STATES, NUMBERS = [None], {}
 # A malformed sequence begins at most so many bytes before the input of the call that reports it.
-LOOK_BEHIND = 8
+KEPT = 8
 
 
 class IncrementalDecoder(codecs.IncrementalDecoder):
@@ -30,7 +30,7 @@ class IncrementalDecoder(codecs.IncrementalDecoder):
         return NAMES[self._decoder.encoding]
 
     def reset(self):
-        self._decoder, self._behind = _calls.Decoder(self.number, self.marks), b""
+        self._decoder, self._before = _calls.Decoder(self.number, self.marks), b""
 
     def getstate(self):
         key = self._decoder.state
@@ -63,19 +63,19 @@ class IncrementalDecoder(codecs.IncrementalDecoder):
             if place != end:
                 # the handler goes on elsewhere: what is there begins a text
                 self._decoder, at = _calls.Decoder(self._decoder.encoding, NONE), max(place, 0)
-        self._behind = (self._behind + data)[-LOOK_BEHIND:]
+        self._before = (self._before + data)[-KEPT:]
         if final:
             self.reset()
         return "".join(texts)
 
     def _handle(self, data, begin, end):
         """The text of a handler of errors for a malformed sequence, and the place in the data where it goes on."""
-        behind = len(self._behind)
-        error = UnicodeDecodeError(self.encoding, self._behind + data, begin + behind, end + behind, "malformed sequence")
+        before = len(self._before)
+        error = UnicodeDecodeError(self.encoding, self._before + data, begin + before, end + before, "malformed sequence")
         text, place = codecs.lookup_error(self.errors)(error)
         if place < 0:
-            place += behind + len(data)
-        return text, place - behind
+            place += before + len(data)
+        return text, place - before
 
 
 class IncrementalEncoder(codecs.IncrementalEncoder):
