@@ -13,7 +13,8 @@ fn main() {
     };
     println!("cargo:rerun-if-changed={}", archive.display());
     let folder = archive.parent().filter(|_| archive.is_file());
-    let folder = folder.unwrap_or_else(|| panic!("{} is lacking: see docs/BINDINGS.md", archive.display()));
+    let folder =
+        folder.unwrap_or_else(|| panic!("{} is lacking: see docs/BINDINGS.md", archive.display()));
     println!("cargo:rustc-link-search=native={}", folder.display());
     println!("cargo:rustc-link-lib=static=encoding_c");
 }

@@ -1,14 +1,12 @@
 //! Decoders.
 
 use crate::exports::{self as raw, At, Outcome};
+use crate::handle::Handle;
 use crate::{encoding_with, length_or_none, CoderResult, DecoderResult, Encoding};
-
-/// The room that a decoder has, in words.
-const WORDS: usize = 2;
 
 /// Converts a stream of bytes into text, in chunks.
 pub struct Decoder {
-    room: [u64; WORDS],
+    handle: Handle<2>,
 }
 
 /// The result of a call with replacement, or a panic if the decoder was finished.
@@ -46,37 +44,32 @@ impl Decoder {
         encoding: &'static Encoding,
         put: unsafe extern "C" fn(*mut At, u32) -> bool,
     ) -> Decoder {
-        let mut decoder = Decoder { room: [0; WORDS] };
-        // SAFETY: the room is as long and as aligned as a decoder, which the test makes sure of.
-        unsafe {
-            assert!(raw::encoding_c_decoder_size() <= 8 * WORDS);
-            assert!(put(&mut decoder.at(), encoding.number.into()));
+        // SAFETY: the call takes nothing.
+        let size = unsafe { raw::encoding_c_decoder_size() };
+        Decoder {
+            handle: Handle::new(size, put, encoding.number),
         }
-        decoder
     }
 
-    fn at(&mut self) -> At {
-        At(self.room.as_mut_ptr())
-    }
-
-    /// Asks a copy of the decoder, since an export may be the only one that has a decoder.
-    fn ask<T>(&self, question: impl FnOnce(&mut At) -> T) -> T {
-        let mut room = self.room;
-        question(&mut At(room.as_mut_ptr()))
-    }
-
-    fn length(&self, question: unsafe extern "C" fn(*mut At, usize) -> usize, n: usize) -> Option<usize> {
+    fn length(
+        &self,
+        query: unsafe extern "C" fn(*mut At, usize) -> usize,
+        n: usize,
+    ) -> Option<usize> {
         // SAFETY: a copy of a decoder is one.
-        let finished = self.ask(|at| unsafe { raw::encoding_c_decoder_is_finished(at) });
+        let finished = self
+            .handle
+            .ask(|at| unsafe { raw::encoding_c_decoder_is_finished(at) });
         assert!(!finished, "Must not use a decoder that has finished.");
-        // SAFETY: the same.
-        length_or_none(self.ask(|at| unsafe { question(at, n) }))
+        self.handle.length(query, n)
     }
 
     /// Returns the encoding that it decodes. A byte order mark that it looks for changes it.
     pub fn encoding(&self) -> &'static Encoding {
         // SAFETY: a copy of a decoder is one.
-        let number = self.ask(|at| unsafe { raw::encoding_c_decoder_encoding(at) });
+        let number = self
+            .handle
+            .ask(|at| unsafe { raw::encoding_c_decoder_encoding(at) });
         encoding_with(number).expect("a decoder has an encoding")
     }
 
@@ -87,7 +80,10 @@ impl Decoder {
 
     /// Returns the length to allocate for UTF-8 without replacement.
     pub fn max_utf8_buffer_length_without_replacement(&self, byte_length: usize) -> Option<usize> {
-        self.length(raw::encoding_c_max_utf8_buffer_length_without_replacement, byte_length)
+        self.length(
+            raw::encoding_c_max_utf8_buffer_length_without_replacement,
+            byte_length,
+        )
     }
 
     /// Returns the length to allocate for UTF-16.
@@ -99,7 +95,7 @@ impl Decoder {
     /// numbers, or `None` if that holds of no byte.
     pub fn latin1_byte_compatible_up_to(&self, bytes: &[u8]) -> Option<usize> {
         // SAFETY: a copy of a decoder is one, and the pointer and the length are of one slice.
-        length_or_none(self.ask(|at| unsafe {
+        length_or_none(self.handle.ask(|at| unsafe {
             raw::encoding_c_decoder_latin1_byte_compatible_up_to(at, bytes.as_ptr(), bytes.len())
         }))
     }
@@ -111,7 +107,7 @@ impl Decoder {
     /// The room is there, and nothing else has it.
     unsafe fn decode_to(&mut self, src: &[u8], dst: *mut u8, len: usize, last: bool) -> Outcome {
         let (from, count) = (src.as_ptr(), src.len());
-        raw::encoding_c_decode_to_utf8(&mut self.at(), from, count, dst, len, last)
+        raw::encoding_c_decode_to_utf8(&mut self.handle.at(), from, count, dst, len, last)
     }
 
     /// The same without replacement.
@@ -120,7 +116,7 @@ impl Decoder {
     ///
     /// The room is there, and nothing else has it.
     unsafe fn report_to(&mut self, src: &[u8], dst: *mut u8, len: usize, last: bool) -> Outcome {
-        let (at, from, count) = (&mut self.at(), src.as_ptr(), src.len());
+        let (at, from, count) = (&mut self.handle.at(), src.as_ptr(), src.len());
         raw::encoding_c_decode_to_utf8_without_replacement(at, from, count, dst, len, last)
     }
 
@@ -225,7 +221,7 @@ impl Decoder {
         let (from, count, to, len) = (src.as_ptr(), src.len(), dst.as_mut_ptr(), dst.len());
         // SAFETY: pointers and lengths of two slices.
         let it = unsafe {
-            raw::encoding_c_decode_to_utf16(&mut self.at(), from, count, to, len, last)
+            raw::encoding_c_decode_to_utf16(&mut self.handle.at(), from, count, to, len, last)
         };
         (coder_result(it.stop), it.read, it.written, it.replaced)
     }
@@ -238,7 +234,7 @@ impl Decoder {
         last: bool,
     ) -> (DecoderResult, usize, usize) {
         let (from, count, to, len) = (src.as_ptr(), src.len(), dst.as_mut_ptr(), dst.len());
-        let at = &mut self.at();
+        let at = &mut self.handle.at();
         // SAFETY: pointers and lengths of two slices.
         let it = unsafe {
             raw::encoding_c_decode_to_utf16_without_replacement(at, from, count, to, len, last)

@@ -1,14 +1,12 @@
 //! Encoders.
 
-use crate::exports::{self as raw, At, Outcome};
-use crate::{encoding_with, length_or_none, CoderResult, EncoderResult, Encoding};
-
-/// The room that an encoder has, in words.
-const WORDS: usize = 8;
+use crate::exports::{self as raw, Outcome};
+use crate::handle::Handle;
+use crate::{encoding_with, CoderResult, EncoderResult, Encoding};
 
 /// Converts text into bytes, in chunks.
 pub struct Encoder {
-    room: [u64; WORDS],
+    handle: Handle<8>,
 }
 
 fn coder_result(stop: u32) -> CoderResult {
@@ -31,63 +29,73 @@ fn encoder_result(outcome: &Outcome) -> EncoderResult {
 
 impl Encoder {
     pub(crate) fn new(encoding: &'static Encoding) -> Encoder {
-        let mut encoder = Encoder { room: [0; WORDS] };
-        // SAFETY: the room is as long and as aligned as an encoder, which the test makes sure of.
-        unsafe {
-            assert!(raw::encoding_c_encoder_size() <= 8 * WORDS);
-            assert!(raw::encoding_c_new_encoder(&mut encoder.at(), encoding.number.into()));
+        // SAFETY: the call takes nothing.
+        let size = unsafe { raw::encoding_c_encoder_size() };
+        Encoder {
+            handle: Handle::new(size, raw::encoding_c_new_encoder, encoding.number),
         }
-        encoder
-    }
-
-    fn at(&mut self) -> At {
-        At(self.room.as_mut_ptr())
-    }
-
-    /// Asks a copy of the encoder, since an export may be the only one that has an encoder.
-    fn ask<T>(&self, question: impl FnOnce(&mut At) -> T) -> T {
-        let mut room = self.room;
-        question(&mut At(room.as_mut_ptr()))
-    }
-
-    fn length(&self, question: unsafe extern "C" fn(*mut At, usize) -> usize, n: usize) -> Option<usize> {
-        // SAFETY: a copy of an encoder is one.
-        length_or_none(self.ask(|at| unsafe { question(at, n) }))
     }
 
     /// Returns the encoding that it writes, which is an output encoding.
     pub fn encoding(&self) -> &'static Encoding {
         // SAFETY: a copy of an encoder is one.
-        let number = self.ask(|at| unsafe { raw::encoding_c_encoder_encoding(at) });
+        let number = self
+            .handle
+            .ask(|at| unsafe { raw::encoding_c_encoder_encoding(at) });
         encoding_with(number).expect("an encoder has an encoding")
     }
 
     /// Returns whether an escape sequence is due at the end of the text, in ISO-2022-JP alone.
     pub fn has_pending_state(&self) -> bool {
         // SAFETY: a copy of an encoder is one.
-        self.ask(|at| unsafe { raw::encoding_c_encoder_has_pending_state(at) })
+        self.handle
+            .ask(|at| unsafe { raw::encoding_c_encoder_has_pending_state(at) })
     }
 
     /// Returns the length to allocate for that many bytes of UTF-8, with replacement, if no
     /// character is unmappable.
-    pub fn max_buffer_length_from_utf8_if_no_unmappables(&self, byte_length: usize) -> Option<usize> {
-        self.length(raw::encoding_c_max_buffer_length_from_utf8_if_no_unmappables, byte_length)
+    pub fn max_buffer_length_from_utf8_if_no_unmappables(
+        &self,
+        byte_length: usize,
+    ) -> Option<usize> {
+        self.handle.length(
+            raw::encoding_c_max_buffer_length_from_utf8_if_no_unmappables,
+            byte_length,
+        )
     }
 
     /// Returns the length to allocate for that many bytes of UTF-8, without replacement.
-    pub fn max_buffer_length_from_utf8_without_replacement(&self, byte_length: usize) -> Option<usize> {
-        self.length(raw::encoding_c_max_buffer_length_from_utf8_without_replacement, byte_length)
+    pub fn max_buffer_length_from_utf8_without_replacement(
+        &self,
+        byte_length: usize,
+    ) -> Option<usize> {
+        self.handle.length(
+            raw::encoding_c_max_buffer_length_from_utf8_without_replacement,
+            byte_length,
+        )
     }
 
     /// Returns the length to allocate for that many code units of UTF-16, with replacement, if no
     /// character is unmappable.
-    pub fn max_buffer_length_from_utf16_if_no_unmappables(&self, u16_length: usize) -> Option<usize> {
-        self.length(raw::encoding_c_max_buffer_length_from_utf16_if_no_unmappables, u16_length)
+    pub fn max_buffer_length_from_utf16_if_no_unmappables(
+        &self,
+        u16_length: usize,
+    ) -> Option<usize> {
+        self.handle.length(
+            raw::encoding_c_max_buffer_length_from_utf16_if_no_unmappables,
+            u16_length,
+        )
     }
 
     /// Returns the length to allocate for that many code units of UTF-16, without replacement.
-    pub fn max_buffer_length_from_utf16_without_replacement(&self, u16_length: usize) -> Option<usize> {
-        self.length(raw::encoding_c_max_buffer_length_from_utf16_without_replacement, u16_length)
+    pub fn max_buffer_length_from_utf16_without_replacement(
+        &self,
+        u16_length: usize,
+    ) -> Option<usize> {
+        self.handle.length(
+            raw::encoding_c_max_buffer_length_from_utf16_without_replacement,
+            u16_length,
+        )
     }
 
     /// Encodes a chunk of text with replacement, at a pointer to `len` bytes of room.
@@ -97,7 +105,7 @@ impl Encoder {
     /// The room is there, and nothing else has it.
     unsafe fn encode_to(&mut self, src: &str, dst: *mut u8, len: usize, last: bool) -> Outcome {
         let (from, count) = (src.as_ptr(), src.len());
-        raw::encoding_c_encode_from_utf8(&mut self.at(), from, count, dst, len, last)
+        raw::encoding_c_encode_from_utf8(&mut self.handle.at(), from, count, dst, len, last)
     }
 
     /// The same without replacement.
@@ -106,7 +114,7 @@ impl Encoder {
     ///
     /// The room is there, and nothing else has it.
     unsafe fn report_to(&mut self, src: &str, dst: *mut u8, len: usize, last: bool) -> Outcome {
-        let (at, from, count) = (&mut self.at(), src.as_ptr(), src.len());
+        let (at, from, count) = (&mut self.handle.at(), src.as_ptr(), src.len());
         raw::encoding_c_encode_from_utf8_without_replacement(at, from, count, dst, len, last)
     }
 
@@ -179,7 +187,7 @@ impl Encoder {
         let (from, count, to, len) = (src.as_ptr(), src.len(), dst.as_mut_ptr(), dst.len());
         // SAFETY: pointers and lengths of two slices.
         let it = unsafe {
-            raw::encoding_c_encode_from_utf16(&mut self.at(), from, count, to, len, last)
+            raw::encoding_c_encode_from_utf16(&mut self.handle.at(), from, count, to, len, last)
         };
         (coder_result(it.stop), it.read, it.written, it.replaced)
     }
@@ -192,7 +200,7 @@ impl Encoder {
         last: bool,
     ) -> (EncoderResult, usize, usize) {
         let (from, count, to, len) = (src.as_ptr(), src.len(), dst.as_mut_ptr(), dst.len());
-        let at = &mut self.at();
+        let at = &mut self.handle.at();
         // SAFETY: pointers and lengths of two slices.
         let it = unsafe {
             raw::encoding_c_encode_from_utf16_without_replacement(at, from, count, to, len, last)

@@ -9,6 +9,7 @@ mod decoder;
 mod encoder;
 mod encodings;
 mod exports;
+mod handle;
 mod whole;
 
 use exports as raw;

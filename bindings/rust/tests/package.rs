@@ -21,7 +21,10 @@ fn decode_borrows_what_is_its_own_text() {
     assert_eq!((encoding, replaced), (UTF_8, false));
     let (text, replaced) = WINDOWS_1252.decode_with_bom_removal(b"caf\xE9");
     assert!(matches!(text, Cow::Owned(_)) && text == "café" && !replaced);
-    assert_eq!(UTF_8.decode_without_bom_handling_and_without_replacement(b"\xFF"), None);
+    assert_eq!(
+        UTF_8.decode_without_bom_handling_and_without_replacement(b"\xFF"),
+        None
+    );
     assert!(matches!(UTF_16LE.decode(b"").0, Cow::Owned(_)));
 }
 
@@ -42,13 +45,24 @@ fn strings_stay_within_their_capacity() {
     let capacity = text.capacity();
     let bytes = b"\x93\xFA\x96\x7B\x8C\xEA";
     let (result, read, _) = decoder.decode_to_string(bytes, &mut text, true);
-    assert_eq!((result, text.as_str(), text.capacity()), (CoderResult::OutputFull, "a日本", capacity));
+    assert_eq!(
+        (result, text.as_str(), text.capacity()),
+        (CoderResult::OutputFull, "a日本", capacity)
+    );
     text.reserve(8);
     let (result, _, _) = decoder.decode_to_string(&bytes[read..], &mut text, true);
-    assert_eq!((result, text.as_str()), (CoderResult::InputEmpty, "a日本語"));
+    assert_eq!(
+        (result, text.as_str()),
+        (CoderResult::InputEmpty, "a日本語")
+    );
     let mut bytes = Vec::with_capacity(4);
-    let (result, read) = EUC_KR.new_encoder().encode_from_utf8_to_vec_without_replacement("ab한", &mut bytes, true);
-    assert_eq!((result, read, bytes.as_slice()), (EncoderResult::InputEmpty, 5, &b"ab\xC7\xD1"[..]));
+    let (result, read) = EUC_KR
+        .new_encoder()
+        .encode_from_utf8_to_vec_without_replacement("ab한", &mut bytes, true);
+    assert_eq!(
+        (result, read, bytes.as_slice()),
+        (EncoderResult::InputEmpty, 5, &b"ab\xC7\xD1"[..])
+    );
 }
 
 #[test]
@@ -58,8 +72,13 @@ fn a_str_stays_well_formed() {
     assert_eq!((result, written), (CoderResult::InputEmpty, 4));
     assert_eq!(text, "abcd\0\0語");
     let mut text = String::from("é");
-    let (result, read, written) = UTF_8.new_decoder().decode_to_str_without_replacement(b"a\xFF", &mut text, true);
-    assert_eq!((result, read, written), (DecoderResult::Malformed(1, 0), 2, 1));
+    let (result, read, written) = UTF_8
+        .new_decoder()
+        .decode_to_str_without_replacement(b"a\xFF", &mut text, true);
+    assert_eq!(
+        (result, read, written),
+        (DecoderResult::Malformed(1, 0), 2, 1)
+    );
     assert_eq!(text, "a\0");
 }
 
