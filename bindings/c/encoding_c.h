@@ -25,7 +25,7 @@ typedef struct encoding_c_at {
     void *at;
 } encoding_c_at;
 
-/* What a call has done. */
+/* The outcome of a call. */
 typedef struct encoding_c_outcome {
     uint32_t stop;
     uint32_t report;

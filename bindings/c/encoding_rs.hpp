@@ -37,7 +37,7 @@ inline std::span<std::uint8_t> room_of(std::string &text) {
     return {reinterpret_cast<std::uint8_t *>(text.data()), text.size()};
 }
 
-// What a call has done: why it stopped, the units read and written, and whether it has replaced a
+// The outcome of a call: why it stopped, the units read and written, and whether it has replaced a
 // malformed sequence or written a reference.
 struct Outcome {
     std::uint32_t result;

@@ -24,7 +24,7 @@ typedef struct Encoder_ Encoder;
 
 /* All input is read. */
 #define INPUT_EMPTY 0
-/* What comes next does not fit into the output. */
+/* The next output does not fit. */
 #define OUTPUT_FULL 0xFFFFFFFF
 /* The decoder is finished, and nothing is done. */
 #define DECODER_FINISHED 0xFFFFFFFE

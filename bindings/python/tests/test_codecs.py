@@ -1,4 +1,4 @@
-"""What the package itself does: codecs, errors handlers, chunks, and files. The texts are those of the standard, by hand."""
+"""Tests of codecs, error handlers, chunks and files. The texts are those of the standard, by hand."""
 
 import codecs
 import io

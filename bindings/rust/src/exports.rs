@@ -6,7 +6,7 @@
 #[repr(C)]
 pub(crate) struct At(pub(crate) *mut u64);
 
-/// What a call has done.
+/// The outcome of a call.
 #[repr(C)]
 pub(crate) struct Outcome {
     pub(crate) stop: u32,

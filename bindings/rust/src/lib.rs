@@ -34,7 +34,7 @@ pub struct Encoding {
 pub enum CoderResult {
     /// All of the input is read.
     InputEmpty,
-    /// What comes next does not fit into the output.
+    /// The next output does not fit.
     OutputFull,
 }
 
@@ -44,7 +44,7 @@ pub enum CoderResult {
 pub enum DecoderResult {
     /// All of the input is read.
     InputEmpty,
-    /// What comes next does not fit into the output.
+    /// The next output does not fit.
     OutputFull,
     /// A malformed sequence: its length in bytes, and the number of bytes read after it.
     Malformed(u8, u8),
@@ -56,7 +56,7 @@ pub enum DecoderResult {
 pub enum EncoderResult {
     /// All of the input is read.
     InputEmpty,
-    /// What comes next does not fit into the output.
+    /// The next output does not fit.
     OutputFull,
     /// The encoding has no bytes for this character, the last one read.
     Unmappable(char),

@@ -3,7 +3,7 @@
 use crate::{CoderResult, Decoder, DecoderResult, Encoding, ISO_2022_JP, UTF_8};
 use std::borrow::Cow;
 
-/// What the crate says of a length that overflows.
+/// The crate's message for a length that overflows.
 const OVERFLOW: &str = "Overflow in buffer size computation";
 
 /// The text of all bytes, with replacement, and whether a malformed sequence is replaced.

@@ -1,4 +1,4 @@
-//! What the package itself does, beyond passing calls on: strings, borrowed results, and panics.
+//! Tests of the package, beyond passing calls on: strings, borrowed results, and panics.
 
 use encoding_rs::*;
 use std::borrow::Cow;

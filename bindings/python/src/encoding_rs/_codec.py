@@ -6,7 +6,7 @@ import functools
 from . import _calls
 from ._names import BY_CODEC_NAME, NAMES
 
-# What stands before a label in the name of a codec.
+# The prefix of a label in the name of a codec.
 PREFIX = "whatwg-"
 # The byte order marks that a decoder looks for.
 ALL, OWN, NONE = range(3)
@@ -69,7 +69,8 @@ class IncrementalDecoder(codecs.IncrementalDecoder):
         return "".join(texts)
 
     def _handle(self, data, begin, end):
-        """The text of a handler of errors for a malformed sequence, and the place in the data where it goes on."""
+        """The text of an error handler for a malformed sequence, and the place in the data where it
+        goes on."""
         before = len(self._before)
         error = UnicodeDecodeError(self.encoding, self._before + data, begin + before, end + before, "malformed sequence")
         text, place = codecs.lookup_error(self.errors)(error)
@@ -109,7 +110,7 @@ class IncrementalEncoder(codecs.IncrementalEncoder):
             parts.append(text if isinstance(text, bytes) else self._encode_text(text, input, at - 1))
 
     def _handle(self, text, begin, end):
-        """What a handler of errors gives for a character, and the place in the text where it goes on."""
+        """The result of an error handler for a character, and the place in the text where it goes on."""
         name = NAMES[_calls.output_encoding(self.number)]
         error = UnicodeEncodeError(name, text, begin, end, "unmappable character")
         given, place = codecs.lookup_error(self.errors)(error)
