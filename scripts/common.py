@@ -15,8 +15,8 @@ import textwrap
 TOP = os.path.dirname(os.path.dirname(os.path.abspath(__file__)))
 NAME = os.path.basename(sys.argv[0])
 os.environ["PATH"] += ":/usr/local/bin"
-# (scripts take modules of bench/ and reference_site/ too)
-sys.path += [f"{TOP}/bench", f"{TOP}/scripts/reference_site"]
+# (scripts take modules of other folders too)
+sys.path += [f"{TOP}/bench", f"{TOP}/scripts/reference_site", f"{TOP}/scripts/web_page"]
 if sys.stdout:  # (which may be closed)
     sys.stdout.reconfigure(line_buffering=True)
 
@@ -63,7 +63,7 @@ def differing(texts):
 @functools.cache
 def crates():
     """The crates, lowest first, each with those that it may name."""
-    return {name: words.split() for name, words in re.findall(r"^(\w+)(?: staticlib)? *:(.*)$", read("crates.txt"), re.M)}
+    return {name: words.split() for name, words in re.findall(r"^(\w+)(?: staticlib| wasm64)? *:(.*)$", read("crates.txt"), re.M)}
 
 
 def parser():

@@ -1,7 +1,8 @@
 """The declarations of the exports of crates/encoding_c, in Rattle, C and Rust. For scripts/clients.
 
 What the C header and the Rust package declare is compared with what the sources of the crate say: each function with
-its parameters, each struct with its fields, and each number. Spaces and line ends don't matter.
+its parameters, each struct with its fields, and each number. Spaces and line ends don't matter. The module for pages
+declares nothing: its calls are those of exports, and its numbers theirs.
 """
 
 import re
@@ -11,6 +12,7 @@ from common import paths, read
 SOURCES = "crates/encoding_c/src/*.rt"
 HANDLES = "crates/enc_handles/src"
 C_HEADER, RUST_SOURCE = "bindings/c/encoding_c.h", "bindings/rust/src/exports.rs"
+FOR_PAGES = "bindings/web/encoding.js"
 
 EXPORT = re.compile(r'^pub extern "C" fn (\w+)\(([^)]*)\)(?: -> (\w+))?', re.M)
 STRUCT = re.compile(r"^#\[repr\(C\)\]\n#\[derive\(Drop\)\]\npub struct (\w+) \{\n(.*?)^\}", re.M | re.S)
@@ -104,6 +106,14 @@ def faults_of_rust():
     return differences(RUST_SOURCE, wanted, there)
 
 
+def faults_of_pages():
+    """What the module for pages calls beside the exports, and the numbers that it has otherwise."""
+    text, known = read(FOR_PAGES), {name.replace("NO_ENCODING", "NONE"): value for name, value in numbers()}
+    calls = set(re.findall(r"\bencoding_c_\w+", text)) - {name for name, _, _ in exports()}
+    own = [it for it in re.findall(r"\b([A-Z_]+) = (\d+)[,;]", text) if known.get(it[0], it[1]) != it[1]]
+    return [f"{FOR_PAGES} has {it}, which is no export's" for it in sorted(map(str, [*calls, *own]))]
+
+
 def differences(path, wanted, there):
     lacking = [f"{path} lacks {it}" for it in sorted(map(str, wanted - there))]
     return lacking + [f"{path} has {it}, which is no export's" for it in sorted(map(str, there - wanted))]
@@ -111,4 +121,4 @@ def differences(path, wanted, there):
 
 def compared():
     """How many declarations there are, and what differs."""
-    return len(exports()) + len(structs()) + len(numbers()), faults_of_c() + faults_of_rust()
+    return len(exports()) + len(structs()) + len(numbers()), faults_of_c() + faults_of_rust() + faults_of_pages()

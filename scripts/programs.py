@@ -66,6 +66,26 @@ def install(command, package):
         give_up(f"lacks {command}, and apt-get could not install {package}")
 
 
+def lacking(modules, files):
+    """The packages of modules of Debian's Python and of files that are missing."""
+    look = "import importlib.util as it, sys; print(*(name for name in sys.argv[1:] if not it.find_spec(name)))"
+    python = "/usr/bin/python3"
+    missing = run_quietly([python, "-c", look, *modules]).split() if os.access(python, os.X_OK) else [*modules]
+    return [modules[it] for it in missing] + [files[it] for it in files if not os.path.exists(it)]
+
+
+def install_all(modules, files):
+    """Installs Debian's packages, by sudo or as root, where a module or a file is missing."""
+    sudo = ["sudo", "-n"] if os.geteuid() and shutil.which("sudo") else []
+    for updates in (False, True):
+        if packages := lacking(modules, files):
+            if updates:
+                run([*sudo, "apt-get", "update"])
+            run([*sudo, "apt-get", "install", "-y", "--no-install-recommends", *packages])
+    if packages := lacking(modules, files):
+        give_up(f"lacks {', '.join(packages)}, and apt-get could not install that")
+
+
 def build_peer(sources, room, instead=None, env=None):
     """Builds programs over the Rust crate, or a package in its place, with no network and outside the repository."""
     install("cargo", "cargo")

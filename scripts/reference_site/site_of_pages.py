@@ -22,23 +22,22 @@ import subprocess
 import sys
 import tempfile
 
+from browsers import PYTHON, driven
 from claim_links import LinkedClaims
-from common import TOP, give_up, run, run_quietly
+from common import TOP, give_up
 from definitions import spec_files
 from homes import Homes
 from names import Marker, breakable, href
 from pages import Pages
+from programs import install_all
 from prose import Prose, Sources, documents, page_of_document
 from standard import Standard
 from surface import FOR_CALLERS, NOT_READ, libraries
 
 HERE = os.path.dirname(os.path.abspath(__file__))
 FOLDER = f"{TOP}/out/reference"
-# Debian's Python, which sees the modules of its packages, and what the site and the walk need, with its packages.
-PYTHON = "/usr/bin/python3"
+# What the site needs of Debian's Python, with its packages.
 SPHINX = {"sphinx": "python3-sphinx", "myst_parser": "python3-myst-parser", "furo": "furo"}
-SELENIUM = {"selenium": "python3-selenium"}
-CHROMIUM = {"/usr/bin/chromium": "chromium", "/usr/bin/chromedriver": "chromium-driver"}
 CONFIGURATION = """
 import sys
 sys.path.append({here!r})
@@ -60,25 +59,6 @@ html_use_index = False
 suppress_warnings = ["myst.header", "toc.not_included"]
 highlight_language = "none"
 """
-
-
-def lacking(modules, commands):
-    """The packages of Python modules and of commands that are missing."""
-    look = "import importlib.util as it, sys; print(*(name for name in sys.argv[1:] if not it.find_spec(name)))"
-    missing = run_quietly([PYTHON, "-c", look, *modules]).split() if os.access(PYTHON, os.X_OK) else [*modules]
-    return [modules[it] for it in missing] + [commands[it] for it in commands if not os.access(it, os.X_OK)]
-
-
-def install(modules, commands):
-    """Installs Debian's packages, by sudo or as root, where a module or a command is missing."""
-    sudo = ["sudo", "-n"] if os.geteuid() and shutil.which("sudo") else []
-    for updates in (False, True):
-        if packages := lacking(modules, commands):
-            if updates:
-                run([*sudo, "apt-get", "update"])
-            run([*sudo, "apt-get", "install", "-y", "--no-install-recommends", *packages])
-    if packages := lacking(modules, commands):
-        give_up(f"lacks {', '.join(packages)}, and apt-get could not install that")
 
 
 def toctree(pages):
@@ -215,7 +195,7 @@ def build(folder):
     """Builds the site into a folder, and prints what it has. A folder of anything else is left as it is."""
     if os.path.exists(folder) and not (os.path.isdir(folder) and (is_site(folder) or not os.listdir(folder))):
         give_up(f"{folder} is there, and is no reference")
-    install(SPHINX, {PYTHON: "python3"})
+    install_all(SPHINX, {PYTHON: "python3"})
     site = Site()
     with tempfile.TemporaryDirectory(prefix="reference-") as room:
         site.write(room)
@@ -234,16 +214,6 @@ def build(folder):
         print(it)
 
 
-def walk(folder):
-    """Walks through the site of a folder. The status."""
-    install(SELENIUM, {PYTHON: "python3"} | CHROMIUM)
-    # (the browser leaves files where temporary ones are)
-    with tempfile.TemporaryDirectory(prefix="reference-", ignore_cleanup_errors=True) as room:
-        words = [PYTHON, "-B", f"{HERE}/walk.py", folder]
-        ran = subprocess.run(words, stdin=subprocess.DEVNULL, env=os.environ | {"TMPDIR": room}, check=False)
-    return ran.returncode
-
-
 def main():
     parser = argparse.ArgumentParser(description=__doc__, formatter_class=argparse.RawDescriptionHelpFormatter)
     parser.add_argument("--walk", action="store_true", help="walk through it in Chromium")
@@ -251,4 +221,4 @@ def main():
     options = parser.parse_args()
     folder = os.path.abspath(options.folder)
     build(folder)
-    return walk(folder) if options.walk else 0
+    return driven(f"{HERE}/walk.py", folder) if options.walk else 0

@@ -11,14 +11,14 @@ import sys
 import time
 from urllib.parse import unquote, urlsplit
 
-from selenium import webdriver
 from selenium.common.exceptions import TimeoutException
-from selenium.webdriver.chrome.service import Service
 from selenium.webdriver.common.by import By
 from selenium.webdriver.common.keys import Keys
 from selenium.webdriver.support.ui import WebDriverWait
 
-PHONE, DESK = (390, 844), (1280, 900)
+sys.path.append(os.path.dirname(os.path.dirname(os.path.abspath(__file__))))
+from browsers import DESK, PHONE, browser, set_size  # noqa: E402
+
 # What is searched, and the page that is found first.
 SOUGHT = {
     "decode_to_utf8": "crates/encoding_rs/Decoder.html", "whole_utf_8": "definitions/enc_stream/Decoding.html",
@@ -58,26 +58,6 @@ IN_SIGHT = """
 const place = document.getElementById(arguments[0]).getBoundingClientRect();
 return place.top > -40 && place.top < window.innerHeight;
 """
-
-
-def browser():
-    """A browser without a network, whose names of hosts lead nowhere."""
-    options = webdriver.ChromeOptions()
-    for it in ("--headless=new", "--no-sandbox", "--disable-gpu", "--disable-dev-shm-usage", "--hide-scrollbars",
-               "--host-resolver-rules=MAP * ~NOTFOUND", "--disable-background-networking"):
-        options.add_argument(it)
-    options.set_capability("goog:loggingPrefs", {"performance": "ALL"})
-    options.binary_location = "/usr/bin/chromium"
-    driver = webdriver.Chrome(service=Service("/usr/bin/chromedriver"), options=options)
-    offline = {"offline": True, "latency": 0, "downloadThroughput": 0, "uploadThroughput": 0}
-    driver.execute_cdp_cmd("Network.enable", {})
-    driver.execute_cdp_cmd("Network.emulateNetworkConditions", offline)
-    return driver
-
-
-def set_width(driver, size):
-    metrics = {"width": size[0], "height": size[1], "deviceScaleFactor": 1, "mobile": size == PHONE}
-    driver.execute_cdp_cmd("Emulation.setDeviceMetricsOverride", metrics)
 
 
 def requests(driver):
@@ -125,7 +105,7 @@ class Walk:
 
     def open_all(self):
         """Opens each page, on a phone's width."""
-        set_width(self.driver, PHONE)
+        set_size(self.driver, PHONE)
         number, away, faults = 0, 0, []
         for page in pages_of(self.folder):
             self.driver.get(self.address(page))
@@ -165,7 +145,7 @@ class Walk:
         self.report("no link is dead", faults, f"{within} links within the site; not followed: {out}")
 
     def search_all(self):
-        set_width(self.driver, DESK)
+        set_size(self.driver, DESK)
         for it in SOUGHT.items():
             self.search(*it)
 

@@ -13,6 +13,16 @@ const EXPLAINED = [
     messages: /^self\[type\] is not a constructor$/, holds: typeof Float16Array === 'undefined',
     cause: 'this Node lacks Float16Array',
   },
+  {
+    file: 'textencoder-constructor-non-utf.any.js', subtests: /^Encoding argument not considered for encode: /,
+    messages: /expected "utf-8" but got/, holds: typeof window !== 'undefined',
+    cause: 'TextEncoder of bindings/web takes a label, and encodes into its encoding',
+  },
+  {
+    file: 'replacement-encodings.any.js', subtests: /input decodes to/, messages: /no encoding has the label/,
+    holds: typeof window !== 'undefined',
+    cause: 'TextDecoder refuses replacement, as the standard says, and bindings/web has no other decoder',
+  },
 ];
 
 // These decode and encode nothing.
