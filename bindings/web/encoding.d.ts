@@ -30,8 +30,9 @@ export interface TextDecoderOptions {
   /** A byte order mark of UTF-8, UTF-16BE or UTF-16LE sets the encoding (6, "decode"), whatever `ignoreBOM` says. */
   sniffBOM?: boolean;
   /**
-   * Is called for each malformed sequence with its offset in all chunks since the first, its length, both in bytes, and
-   * where its U+FFFD stands in the text that the call returns, in code units.
+   * Is called for each malformed sequence, when its part of the chunk is decoded, with its offset in all chunks since
+   * the first and its length, both in bytes, and where its U+FFFD stands in the text that the call returns, in code
+   * units.
    */
   malformed?: (offset: number, length: number, at: number) => void;
 }

@@ -12,10 +12,10 @@
 // copies bytes and code units to the module and back, and has the options and errors of the standard's classes.
 // Nothing has to be freed: a decoder is 16 bytes of JavaScript's, which are copied into the module for a call.
 
-// Sizes in the module's memory: of the input and of the output of a call in bytes, and of a decoder's or an encoder's
-// state. A reference to a character has at most 10 code units.
+// Sizes in bytes in the module's memory: of the input and of the output of a call, of a decoder's or an encoder's state,
+// of a reference to a character, and of a page. A reference has at most 10 characters.
 const INPUT = 1 << 16, OUTPUT = 1 << 17, STATE = 64, REFERENCE = 32, PAGE = 1 << 16;
-const UNITS = OUTPUT / 2;
+const UNITS = OUTPUT / 2, LONGEST_REFERENCE = 10;
 // The numbers of no encoding, and of why a call stops.
 const NONE = 255;
 const INPUT_EMPTY = 0, OUTPUT_FULL = 1, REPORTED = 2;
@@ -44,7 +44,6 @@ class Library {
     this.bytes = new Uint8Array(memory.buffer);
     this.view = new DataView(memory.buffer);
     this.units = new Uint16Array(memory.buffer, this.output, UNITS);
-    this.text = new Uint16Array(memory.buffer, this.input, INPUT / 2);
     this.view.setBigUint64(this.handle, BigInt(this.state), true);
     this.names = Array.from({ length: 40 }, (_, encoding) => this.name(encoding));
   }
@@ -80,6 +79,12 @@ class Library {
     return this.bytes.slice(this.state, this.state + Number(size()));
   }
 
+  // Puts the code units of a text, or of a part of it, into the module's memory.
+  putText(text, to, start = 0, end = text.length) {
+    const units = new Uint16Array(this.bytes.buffer, to, end - start);
+    for (let i = start; i < end; i++) units[i - start] = text.charCodeAt(i);
+  }
+
   put(state) { this.bytes.set(state, this.state); }
   take(state) { state.set(this.bytes.subarray(this.state, this.state + state.length)); }
 
@@ -91,82 +96,85 @@ class Library {
     return { stop: at(0), report: at(4), read: at(8), written: at(16) };
   }
 
-  // Decodes a chunk, and returns its text and the number of bytes read: all, unless `report` returns false. `report`,
-  // if there is one, gets for each malformed sequence its offset in the chunk, which is negative where it begins in one
-  // before, its length in bytes, and the offset of its U+FFFD in the text.
-  decode(state, chunk, last, report) {
-    const call = report ? this.exports.encoding_c_decode_to_utf16_without_replacement
+  // Decodes a chunk, and returns its text, the number of bytes read, and whether it stopped at a malformed sequence, as
+  // it does if that is fatal. `report`, if there is one, gets the offset of each malformed sequence in the chunk, which
+  // is negative where it begins in one before, its length in bytes, and the offset of its U+FFFD in the text. It is
+  // called when the module's memory is not in use, so it may use any decoder.
+  decode(state, chunk, last, fatal, report) {
+    const call = fatal || report ? this.exports.encoding_c_decode_to_utf16_without_replacement
       : this.exports.encoding_c_decode_to_utf16;
-    let text = '', filled = 0;
-    const flush = () => {
-      text += utf16.decode(this.units.subarray(0, filled));
+    let text = '', filled = 0, isStopped = false;
+    const total = chunk.length, found = [], flush = () => {
+      if (filled) text += utf16.decode(this.units.subarray(0, filled));
       filled = 0;
     };
-    this.put(state);
     for (let start = 0, at = 0; ; start = at) {
-      const end = Math.min(start + INPUT, chunk.length);
+      const end = Math.min(start + INPUT, total);
+      this.put(state);
       this.bytes.set(chunk.subarray(start, end), this.input);
-      for (let stop; stop !== INPUT_EMPTY;) {
-        const outcome = this.convert(call, this.input + at - start, end - at,
-          this.output + 2 * filled, UNITS - 1 - filled, last && end === chunk.length);
+      for (let stop; stop !== INPUT_EMPTY && !isStopped;) {
+        const outcome = this.convert(call, this.input + at - start, end - at, this.output + 2 * filled,
+          UNITS - 1 - filled, last && end === total);
         stop = outcome.stop;
         at += outcome.read;
         filled += outcome.written;
         if (stop === REPORTED) {
-          const length = outcome.report >> 8, offset = at - (outcome.report & 255) - length;
-          if (report(offset, length, text.length + filled) === false) {
-            this.take(state);
-            return { text, read: at };
-          }
+          const length = outcome.report >> 8;
+          found.push([at - (outcome.report & 255) - length, length, text.length + filled]);
           this.units[filled++] = 0xFFFD;
+          isStopped = fatal;
         }
         if (stop === OUTPUT_FULL || filled === UNITS) flush();
       }
-      if (at === chunk.length) break;
+      this.take(state);
+      flush();
+      for (const it of found.splice(0)) report?.(...it);
+      if (isStopped || at === total) return { text, read: at, isStopped };
+      if (chunk.length !== total) throw new TypeError('the chunk has another length now');
     }
-    this.take(state);
-    flush();
-    return { text, read: chunk.length };
   }
 
   // Encodes a chunk of text, without half of a pair at its end, into `output`: `room` is the number of bytes that it
-  // takes, and `put` takes some. Returns the number of code units read: all, unless the room is too small or `report`
-  // returns false. `report`, if there is one, gets the code point and the offset of each unmappable character, before
-  // a decimal reference takes its place.
-  encode(state, chunk, last, report, output) {
-    const call = report ? this.exports.encoding_c_encode_from_utf16_without_replacement
+  // takes, and `put` takes some. Returns the number of code units read, which are all unless there is no room, and the
+  // unmappable character at which it stopped, as it does if that is fatal. `report`, if there is one, gets the code
+  // point and the offset of each unmappable character, as in `decode`. A decimal reference takes its place.
+  encode(state, chunk, last, fatal, report, output) {
+    const call = fatal || report ? this.exports.encoding_c_encode_from_utf16_without_replacement
       : this.exports.encoding_c_encode_from_utf16;
-    const write = (src, length, ends) => {
-      const room = Math.min(OUTPUT, output.room);
-      const outcome = this.convert(call, src, length, this.output, room, ends);
+    const kept = report && !fatal ? LONGEST_REFERENCE : 0, found = [];
+    const write = (src, length, ends, room) => {
+      const outcome = this.convert(call, src, length, this.output, Math.min(OUTPUT, room), ends);
       output.put(this.written(outcome.written));
-      return { ...outcome, isFull: outcome.stop === OUTPUT_FULL && room < OUTPUT };
+      return outcome;
     };
     const refer = (point) => {
       const text = `&#${point};`;
-      const units = new Uint16Array(this.bytes.buffer, this.reference, text.length);
-      for (let i = 0; i < text.length; i++) units[i] = text.charCodeAt(i);
-      write(this.reference, text.length, false);
+      this.putText(text, this.reference);
+      write(this.reference, text.length, false, output.room);
     };
-    let at = 0, isFull = false;
-    this.put(state);
-    for (let start = 0; ; start = at) {
+    let refused = null, isFull = false;
+    for (let start = 0, at = 0; ; start = at) {
       let end = Math.min(start + INPUT / 2, chunk.length);
       if (end < chunk.length && isLead(chunk.charCodeAt(end - 1))) end--;
-      for (let i = start; i < end; i++) this.text[i - start] = chunk.charCodeAt(i);
-      for (let stop; stop !== INPUT_EMPTY && !isFull;) {
-        const outcome = write(this.input + 2 * (at - start), end - at, last && end === chunk.length);
-        ({ stop, isFull } = outcome);
+      this.put(state);
+      this.putText(chunk, this.input, start, end);
+      for (let stop; stop !== INPUT_EMPTY && refused === null && !isFull;) {
+        const room = output.room - kept;
+        isFull = room < 0;
+        if (isFull) break;
+        const outcome = write(this.input + 2 * (at - start), end - at, last && end === chunk.length, room);
+        stop = outcome.stop;
         at += outcome.read;
+        isFull = stop === OUTPUT_FULL && room < OUTPUT;
         if (stop !== REPORTED) continue;
-        const point = outcome.report;
-        if (report(point, at - (point > 0xFFFF ? 2 : 1)) === false) return at;
-        refer(point);
+        found.push([outcome.report, at - (outcome.report > 0xFFFF ? 2 : 1)]);
+        if (fatal) refused = outcome.report;
+        else refer(outcome.report);
       }
-      if (isFull || at === chunk.length) break;
+      this.take(state);
+      for (const it of found.splice(0)) report?.(...it);
+      if (refused !== null || isFull || at === chunk.length) return { read: at, refused };
     }
-    this.take(state);
-    return at;
   }
 }
 
@@ -212,9 +220,9 @@ function bytesOf(source) {
 }
 
 function callback(options, name) {
-  const call = options[name];
-  if (call !== undefined && typeof call !== 'function') throw new TypeError(`${name} is no function`);
-  return call ?? null;
+  const call = options[name] ?? null;
+  if (call !== null && typeof call !== 'function') throw new TypeError(`${name} is no function`);
+  return call;
 }
 
 /** The names of all encodings, in the order of the standard's table. */
@@ -242,8 +250,8 @@ const UNKNOWN = (label) => new RangeError(`no encoding has the label ${JSON.stri
 export class TextDecoder {
   #number; #fatal; #ignoreBOM; #sniffBOM; #malformed;
   // The state of a new decoder, the state of this one, and how many bytes it has read. After a malformed sequence that
-  // is an error a call stops, and `rest` is what its chunk has left.
-  #fresh; #state; #offset = 0; #streams = false; #isStopped = false; #rest = null;
+  // is an error `rest` is what the chunk has left.
+  #fresh; #state; #offset = 0; #streams = false; #rest = null;
 
   constructor(label = 'utf-8', options = undefined) {
     label = `${label}`;
@@ -275,31 +283,20 @@ export class TextDecoder {
     let chunk = input === undefined ? new Uint8Array(0) : bytesOf(input);
     const stream = !!dictionary(options).stream;
     if (!this.#streams) this.#begin();
-    this.#streams = stream;
+    this.#streams = false; // as it stays if `malformed` throws
     if (this.#rest) chunk = joined([this.#rest, chunk]);
-    this.#rest = null;
-    const { text, read } = library.decode(this.#state, chunk, !stream, this.#reporter());
-    this.#offset += read;
-    if (!this.#isStopped) return text;
-    this.#rest = chunk.slice(read);
-    this.#isStopped = false;
-    throw new TypeError(`the bytes are not ${this.encoding}`);
+    const before = this.#offset, report = this.#malformed
+      && ((offset, length, at) => this.#malformed(before + offset, length, at));
+    const { text, read, isStopped } = library.decode(this.#state, chunk, !stream, this.#fatal, report);
+    [this.#offset, this.#streams] = [before + read, stream];
+    this.#rest = isStopped ? chunk.slice(read) : null;
+    if (isStopped) throw new TypeError(`the bytes are not ${this.encoding}`);
+    return text;
   }
 
   #begin() {
     this.#state.set(this.#fresh);
     [this.#offset, this.#rest] = [0, null];
-  }
-
-  // What is done with a malformed sequence, or null if it is replaced with nothing more.
-  #reporter() {
-    if (!this.#fatal && !this.#malformed) return null;
-    const before = this.#offset;
-    return (offset, length, at) => {
-      this.#malformed?.(before + offset, length, at);
-      this.#isStopped = this.#fatal;
-      return !this.#fatal;
-    };
   }
 
   /** A decoder that goes on from here by itself, with another `malformed` if one is given. */
@@ -337,6 +334,7 @@ export class TextEncoder {
     const number = library.encodingOf(label);
     if (number === NONE) throw UNKNOWN(label);
     this.#number = exports.encoding_c_output_encoding(number);
+    if (library.names[this.#number] === 'UTF-8') this.#unmappable = null; // which has all characters
     this.#fresh = library.made(exports.encoding_c_new_encoder, this.#number, exports.encoding_c_encoder_size);
     this.#state = this.#fresh.slice();
   }
@@ -350,12 +348,13 @@ export class TextEncoder {
   encode(input = '', options = undefined) {
     const stream = !!dictionary(options).stream, parts = [];
     if (!this.#streams) this.#begin();
-    this.#streams = stream;
+    this.#streams = false; // as it stays if there is an error
     const text = this.#lead + `${input}`;
     // half of a pair may wait for the other
     this.#lead = stream && isLead(text.charCodeAt(text.length - 1)) ? text.slice(-1) : '';
     const output = { room: Infinity, put: (bytes) => parts.push(bytes.slice()) };
     this.#run(this.#lead ? text.slice(0, -1) : text, !stream, output);
+    this.#streams = stream;
     return parts.length === 1 ? parts[0] : joined(parts);
   }
 
@@ -382,22 +381,16 @@ export class TextEncoder {
   }
 
   #run(text, last, output) {
-    const before = this.#offset;
-    let refused = null;
-    const report = this.#fatal || this.#unmappable ? (point, offset) => {
-      this.#unmappable?.(point, before + offset);
-      if (this.#fatal) refused = point;
-      return !this.#fatal;
-    } : null;
-    const read = library.encode(this.#state, text, last, report, output);
-    this.#offset += read;
+    const before = this.#offset, report = this.#unmappable
+      && ((point, offset) => this.#unmappable(point, before + offset));
+    const { read, refused } = library.encode(this.#state, text, last, this.#fatal, report, output);
+    this.#offset = before + read;
     if (refused === null) return read;
-    this.#streams = false;
     throw new TypeError(`${this.encoding} has no U+${refused.toString(16).toUpperCase().padStart(4, '0')}`);
   }
 }
 
-// What is of both classes of streams: a transform by a function of a chunk, and one of the end.
+// Both classes of streams: a transform by a function of a chunk, and one of the end.
 class Stream {
   #transform;
   constructor(convert, end) {

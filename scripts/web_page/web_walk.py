@@ -1,6 +1,6 @@
 """Tries each control of the page in headless Chromium, from a folder and with no network: web_walk.py FOLDER
 
-It says what it saw. Texts to compare with are by Python's codecs. Pictures at three widths in both schemes are kept in
+It makes the calls of bindings/web/tests too, and says what it saw. Texts to compare with are by Python's codecs. Pictures at three widths in both schemes are kept in
 FOLDER/pictures. The status is 0 only if all held.
 """
 
@@ -17,7 +17,9 @@ from selenium.webdriver.common.keys import Keys  # noqa: E402
 from selenium.webdriver.support.ui import WebDriverWait  # noqa: E402
 
 from browsers import DESK, PHONE, TABLET, browser, set_size  # noqa: E402
+from common import TOP  # noqa: E402
 from web_looks import CONTRAST, FRAMES, LOOK, WIDE, offered  # noqa: E402
+from web_server import serving  # noqa: E402
 
 KINDS = {"phone": PHONE, "tablet": TABLET, "desk": DESK}
 # The longest that the page may keep a person waiting, in milliseconds.
@@ -339,6 +341,32 @@ def lines_of(line):
     return line * (number - 1) + line[:-1].ljust((1 << 20) - (number - 1) * len(line) - 1, b".") + b"\n"
 
 
+CALLS = """<!doctype html><link rel="icon" href="data:,"><script type="module">
+import { load } from '/web/encoding.js';
+import { calls } from '/tests/calls.js';
+await load();
+window.answers = await calls().catch((it) => [['the calls', it.stack, 'answers']]);
+</script>"""
+
+
+def look_at_calls(walk, room):
+    """Makes the calls of bindings/web/tests in a page that is served."""
+    os.mkdir(f"{room}/calls")
+    with open(f"{room}/calls/index.html", "w", encoding="utf-8") as file:
+        file.write(CALLS)
+    folders = {"/": f"{room}/calls", "/web": walk.folder, "/tests": f"{TOP}/bindings/web/tests"}
+    with serving(folders) as address:
+        driver = browser(is_offline=False)
+        try:
+            driver.get(address)
+            WebDriverWait(driver, 60).until(lambda it: it.execute_script("return Boolean(window.answers);"))
+            answers = driver.execute_script("return window.answers;")
+        finally:
+            driver.quit()
+    faults = [f"{what}: {seen!r}, and should be {wanted!r}" for what, seen, wanted in answers if seen != wanted]
+    walk.report("calls of encoding.js", faults, f"{len(answers)} calls")
+
+
 def without_memory64(folder):
     """What the page says in a browser that has no memory64."""
     driver = browser()
@@ -368,6 +396,7 @@ def main(folder):
             walk.read_large("large.txt", 1024, lines_of(b"The quick brown fox jumps over the lazy dog.\n"), (), "UTF-8")
         finally:
             driver.quit()
+        look_at_calls(walk, room)
         saw = without_memory64(folder)
         says_so = "memory64" in saw["status"] and saw["isClosed"]
         walk.report("without memory64 a line says so", [] if says_so else [saw["status"]])
