@@ -296,6 +296,15 @@ class Walk:
         self.until(lambda: self.look()["status"])
         said = self.look()["status"]
         self.report("a file that is gone is an error", [] if "could not be read" in said else [said])
+        path = self.file("going.txt", b"0123456789\n" * 1_000_000)
+        self.open(path)
+        os.remove(path)
+        self.get("text").send_keys(Keys.END)
+        self.until(lambda: "could not be read" in self.look()["status"], 5)
+        said = self.look()["status"]
+        self.report("so are rows of one that is gone", [] if "could not be read" in said else [said])
+        self.open(self.file("after.txt", b"after it"))
+        self.compare("another file is read then", rows=(self.look()["rows"], ["after it"]))
 
     def look_at_sizes(self):
         """Looks at the page at three widths in both schemes."""

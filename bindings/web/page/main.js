@@ -56,8 +56,9 @@ class View {
 
   constructor(work) {
     this.#work = work;
-    this.#rows = new RowList(at('text'), ROW, (first, count) => this.#textRows(first, count));
-    this.#faults = new RowList(at('faults'), ROW, (first, count) => this.#faultRows(first, count));
+    const rows = (render) => (first, count) => render(first, count).catch((fault) => this.#say(fault));
+    this.#rows = new RowList(at('text'), ROW, rows((...it) => this.#textRows(...it)));
+    this.#faults = new RowList(at('faults'), ROW, rows((...it) => this.#faultRows(...it)));
     const all = encodings().filter((it) => it !== 'replacement');
     this.#reading = new Picker(at('encoding'), at('encodings'), all, (it) => this.#read(it, false, 'chosen'));
     const outputs = all.filter((it) => encodingForLabel(new TextEncoder(it).encoding) === it);
@@ -68,6 +69,12 @@ class View {
     at('previous').addEventListener('click', () => this.#go(this.#chosen - 1));
   }
 
+  // Says why the file could not be read. There are no rows of it then.
+  #say(fault) {
+    say(`${this.#file.name} could not be read: ${fault.message}`, true);
+    return [];
+  }
+
   async open(file) {
     this.#file = file;
     at('name').textContent = file.name;
@@ -76,9 +83,9 @@ class View {
     say('');
     try {
       const { encoding, by, sniffBOM } = await encodingOf(file);
-      await this.#read(encoding, sniffBOM, by);
+      if (file === this.#file) await this.#read(encoding, sniffBOM, by);
     } catch (fault) {
-      say(`${file.name} could not be read: ${fault.message}`, true);
+      this.#say(fault);
     }
   }
 
@@ -100,7 +107,7 @@ class View {
     try {
       await this.#work.run(`Decoding ${this.#file.name}`, (signal) => text.decode(progress, signal));
     } catch (fault) {
-      say(`${this.#file.name} could not be read: ${fault.message}`, true);
+      this.#say(fault);
     }
     if (text !== this.#text) return;
     at('save').disabled = false;
@@ -172,7 +179,7 @@ class View {
     try {
       made = await this.#work.run(`Encoding into ${label}`, (signal) => encoded(text, label, progress, signal));
     } catch (fault) {
-      say(`${name} could not be read: ${fault.message}`, true);
+      this.#say(fault);
       return;
     }
     if (!made) say('Nothing is saved.');

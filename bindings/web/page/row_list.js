@@ -84,14 +84,21 @@ export class RowList {
     this.#isStale = true;
     if (this.#isPainting) return;
     this.#isPainting = true;
-    while (this.#isStale) {
-      this.#isStale = false;
-      const top = this.#top, first = Math.floor(top);
-      const count = Math.min(Math.ceil(this.#visible) + 1, this.#count - first);
-      const rows = count > 0 ? await this.#render(first, count) : [];
-      this.#window.replaceChildren(...rows);
-      this.#window.style.transform = `translateY(${(first - top) * this.#height}px)`;
+    try {
+      while (this.#isStale) {
+        this.#isStale = false;
+        await this.#paintOnce();
+      }
+    } finally {
+      this.#isPainting = false;
     }
-    this.#isPainting = false;
+  }
+
+  async #paintOnce() {
+    const top = this.#top, first = Math.floor(top);
+    const count = Math.min(Math.ceil(this.#visible) + 1, this.#count - first);
+    const rows = count > 0 ? await this.#render(first, count) : [];
+    this.#window.replaceChildren(...rows);
+    this.#window.style.transform = `translateY(${(first - top) * this.#height}px)`;
   }
 }
