@@ -12,8 +12,8 @@
 // copies bytes and code units to the module and back, and has the options and errors of the standard's classes.
 // Nothing has to be freed: a decoder is 16 bytes of JavaScript's, which are copied into the module for a call.
 
-// Sizes in bytes in the module's memory: of the input and of the output of a call, of a decoder's or an encoder's state,
-// of a reference to a character, and of a page. A reference has at most 10 characters.
+// Sizes in bytes in the module's memory: of a call's input and output, of a decoder's or an encoder's state, of a
+// reference to a character, and of a page. A reference has at most 10 characters.
 const INPUT = 1 << 16, OUTPUT = 1 << 17, STATE = 64, REFERENCE = 32, PAGE = 1 << 16;
 const UNITS = OUTPUT / 2, LONGEST_REFERENCE = 10;
 // The numbers of no encoding, and of why a call stops.

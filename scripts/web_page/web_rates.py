@@ -1,9 +1,9 @@
 """Measures encoding.js beside the TextDecoder that is built into Chromium, and writes a table: web_rates.py
 
 Each corpus of bench/ has 8 MiB, which a decoder gets in chunks of 1 MiB, and a string is made of each. Both take turns.
-The best rate of ROUNDS counts, and the ratio in the median round. Encoding has nothing beside it: browsers encode UTF-8 alone. Then each sequence of two
-bytes and random ones of 40 are decoded by new decoders of both. Of those that differ the shortest parts that differ are
-listed.
+The best rate of ROUNDS counts, and the ratio in the median round. Encoding has nothing beside it: browsers encode UTF-8
+alone. Then each sequence of two bytes and random ones of 40 are decoded by new decoders of both. Of those that differ
+the shortest parts that differ are listed.
 """
 
 import json
@@ -52,7 +52,8 @@ window.rates = async (name, label, rounds) => {
 };
 
 // The short sequences that both decode differently: bytes, and both texts.
-const [ALPHABET, RANDOM, LENGTH] = [{ 'iso-2022-jp': [0x1B, 0x24, 0x28, 0x40, 0x42, 0x49, 0x4A, 0x21, 0x7E, 0x0E, 0xA1] }, 20_000, 40];
+const ALPHABET = { 'iso-2022-jp': [0x1B, 0x24, 0x28, 0x40, 0x42, 0x49, 0x4A, 0x21, 0x7E, 0x0E, 0xA1] };
+const [RANDOM, LENGTH] = [20_000, 40];
 window.compare = (label) => {
   const texts = (bytes) => [ours, window].map((it) => new it.TextDecoder(label).decode(Uint8Array.from(bytes)));
   const differs = (bytes) => {

@@ -1,8 +1,9 @@
-"""Serves folders to a browser on this machine."""
+"""Serves folders to a browser on this machine, and takes answers of its pages."""
 
 import contextlib
 import functools
 import http.server
+import json
 import os
 import threading
 import urllib.parse
@@ -13,9 +14,15 @@ class Handler(http.server.SimpleHTTPRequestHandler):
     extensions_map = {"": "application/octet-stream", ".html": "text/html", ".js": "text/javascript",
                       ".wasm": "application/wasm"}
 
-    def __init__(self, folders, *words):
-        self.folders = folders
+    def __init__(self, folders, answers, *words):
+        self.folders, self.answers = folders, answers
         super().__init__(*words)
+
+    def do_POST(self):
+        """Takes an answer, in JSON."""
+        self.answers.put(json.loads(self.rfile.read(int(self.headers["Content-Length"]))))
+        self.send_response(204)
+        self.end_headers()
 
     def translate_path(self, path):
         path = os.path.normpath(urllib.parse.unquote(urllib.parse.urlsplit(path).path))
@@ -34,9 +41,10 @@ class Handler(http.server.SimpleHTTPRequestHandler):
 
 
 @contextlib.contextmanager
-def serving(folders, port=0):
-    """Serves folders by the prefixes of paths, and gives the address."""
-    with http.server.ThreadingHTTPServer(("127.0.0.1", port), functools.partial(Handler, folders)) as server:
+def serving(folders, port=0, answers=None):
+    """Serves folders by the prefixes of paths, and gives the address. What pages post comes into a queue."""
+    handler = functools.partial(Handler, folders, answers)
+    with http.server.ThreadingHTTPServer(("127.0.0.1", port), handler) as server:
         threading.Thread(target=server.serve_forever, daemon=True).start()
         try:
             yield f"http://127.0.0.1:{server.server_address[1]}/"

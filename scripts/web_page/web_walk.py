@@ -1,10 +1,12 @@
 """Tries each control of the page in headless Chromium, from a folder and with no network: web_walk.py FOLDER
 
-It makes the calls of bindings/web/tests too, and says what it saw. Texts to compare with are by Python's codecs. Pictures at three widths in both schemes are kept in
-FOLDER/pictures. The status is 0 only if all held.
+It makes the calls of bindings/web/tests too, and says what it saw. Texts to compare with are by Python's codecs.
+Pictures at three widths in both schemes are kept in FOLDER/pictures. The status is 0 only if all held.
 """
 
 import os
+import queue
+import subprocess
 import sys
 import tempfile
 import time
@@ -16,7 +18,7 @@ from selenium.webdriver.common.by import By  # noqa: E402
 from selenium.webdriver.common.keys import Keys  # noqa: E402
 from selenium.webdriver.support.ui import WebDriverWait  # noqa: E402
 
-from browsers import DESK, PHONE, TABLET, browser, set_size  # noqa: E402
+from browsers import CHROMIUM, DESK, PHONE, TABLET, browser, set_size  # noqa: E402
 from common import TOP  # noqa: E402
 from web_looks import CONTRAST, FRAMES, LOOK, WIDE, offered  # noqa: E402
 from web_server import serving  # noqa: E402
@@ -353,27 +355,32 @@ def lines_of(line):
 CALLS = """<!doctype html><link rel="icon" href="data:,"><script type="module">
 import { load } from '/web/encoding.js';
 import { calls } from '/tests/calls.js';
-await load();
-window.answers = await calls().catch((it) => [['the calls', it.stack, 'answers']]);
+const answers = load().then(calls).catch((it) => [['the calls', it.stack, 'answers']]);
+fetch('/', { method: 'POST', body: JSON.stringify(await answers) });
 </script>"""
+# Browsers without a window, and the folder of a profile.
+BROWSERS = {
+    "Chromium": [CHROMIUM, "--headless=new", "--no-sandbox", "--disable-gpu", "--user-data-dir={}"],
+    "Firefox": ["firefox-esr", "--headless", "--no-remote", "--profile", "{}"],
+}
 
 
 def look_at_calls(walk, room):
-    """Makes the calls of bindings/web/tests in a page that is served."""
+    """Makes the calls of bindings/web/tests in a page that is served to each browser."""
     os.mkdir(f"{room}/calls")
     with open(f"{room}/calls/index.html", "w", encoding="utf-8") as file:
         file.write(CALLS)
     folders = {"/": f"{room}/calls", "/web": walk.folder, "/tests": f"{TOP}/bindings/web/tests"}
-    with serving(folders) as address:
-        driver = browser(is_offline=False)
-        try:
-            driver.get(address)
-            WebDriverWait(driver, 60).until(lambda it: it.execute_script("return Boolean(window.answers);"))
-            answers = driver.execute_script("return window.answers;")
-        finally:
-            driver.quit()
-    faults = [f"{what}: {seen!r}, and should be {wanted!r}" for what, seen, wanted in answers if seen != wanted]
-    walk.report("calls of encoding.js", faults, f"{len(answers)} calls")
+    for name, words in BROWSERS.items():
+        found, profile = queue.Queue(), f"{room}/{name}"
+        os.mkdir(profile)
+        with serving(folders, answers=found) as address:
+            command, quiet = [*(it.format(profile) for it in words), address], subprocess.DEVNULL
+            with subprocess.Popen(command, stdout=quiet, stderr=quiet) as ran:
+                answers = found.get(timeout=60)
+                ran.kill()
+        faults = [f"{what}: {seen!r}, and should be {wanted!r}" for what, seen, wanted in answers if seen != wanted]
+        walk.report(f"calls of encoding.js in {name}", faults, f"{len(answers)} calls")
 
 
 def without_memory64(folder):

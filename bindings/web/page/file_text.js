@@ -2,8 +2,8 @@
 // block keeps a copy of the decoder at its start, so that it can be decoded again when its rows are to be seen.
 import { TextDecoder } from '../encoding.js';
 
-// The bytes of a block, the most code units of a row, how many blocks of text are kept, and how many malformed sequences
-// are listed.
+// The bytes of a block, the most code units of a row, how many blocks of text are kept, and how many malformed
+// sequences are listed.
 export const BLOCK = 1 << 18;
 const WIDTH = 500, KEPT = 12;
 export const MOST_LISTED = 1_000_000;

@@ -1,5 +1,5 @@
-// A field with a list of encodings, which is searched as one types: by names and all labels. It is the pattern "combobox"
-// of the ARIA Authoring Practices.
+// A field with a list of encodings, which is searched as one types: by names and all labels. It is the pattern
+// "combobox" of the ARIA Authoring Practices.
 import { encodingForLabel } from '../encoding.js';
 import { LABELS } from '../labels.js';
 

@@ -1,6 +1,6 @@
-// A list of any number of rows of one height. Only those in sight are elements. Browsers limit the height of an element,
-// so a long list is less high than its rows together: then dragging the scroll bar moves by shares of the list, and all
-// else by rows.
+// A list of any number of rows of one height. Only those in sight are elements. Browsers limit the height of an
+// element, so a long list is less high than its rows together: then dragging the scroll bar moves by shares of the
+// list, and all else by rows.
 
 // The greatest height that is asked of a browser. Firefox takes 17.9 million pixels, Chromium 33.5 million.
 const MOST_PIXELS = 10_000_000;

@@ -1,7 +1,8 @@
 // Calls of encoding.js beyond web-platform-tests: what the standard's classes lack, callbacks that call, and errors.
 // `calls` returns what was called, the answer, and the answer that is wanted. Bytes are those of Python's codecs.
 import {
-  encodingForBOM, encodingForLabel, encodings, malformed, TextDecoder, TextDecoderStream, TextEncoder, TextEncoderStream,
+  encodingForBOM, encodingForLabel, encodings, malformed,
+  TextDecoder, TextDecoderStream, TextEncoder, TextEncoderStream,
 } from '/web/encoding.js';
 
 const bytes = (hex) => Uint8Array.from(hex.split(' '), (it) => parseInt(it, 16));
@@ -33,7 +34,8 @@ function* labels() {
 }
 
 function* faults() {
-  yield ['malformed sequences', malformed(bytes('61 FF E2 82 62')), [{ offset: 1, length: 1 }, { offset: 2, length: 2 }]];
+  yield ['malformed sequences', malformed(bytes('61 FF E2 82 62')),
+    [{ offset: 1, length: 1 }, { offset: 2, length: 2 }]];
   const long = new Uint8Array(300_000).fill(0x61);
   long.set(bytes('E2 82 41'), 65_535); // across two inputs of the module
   long[200_000] = 0xFF;
@@ -106,7 +108,8 @@ async function through(stream, ...parts) {
 }
 
 async function* streams() {
-  yield ['a stream of text', (await through(new TextDecoderStream('shift_jis'), bytes('93'), bytes('FA 96 7B'))).join(''), '日本'];
+  const text = await through(new TextDecoderStream('shift_jis'), bytes('93'), bytes('FA 96 7B'));
+  yield ['a stream of text', text.join(''), '日本'];
   const made = await through(new TextEncoderStream('gb18030'), '日\uD83D', '\uDE00');
   yield ['a stream of bytes', made.map(hexOf).join(' '), 'C8 D5 94 39 FC 36'];
 }
