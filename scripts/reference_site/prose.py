@@ -90,7 +90,7 @@ class Prose:
         if path in spec_files():
             return href(page, page_of_spec(path))
         if os.path.isfile(f"{TOP}/{path}"):
-            if path.endswith(".svg"):
+            if path.endswith((".svg", ".png")):
                 return posixpath.relpath(self.pages.sources.copy(path), posixpath.dirname(page))
             return href(page, self.pages.sources.page(path))
         if os.path.isdir(f"{TOP}/{path}") and path.startswith("crates/"):

@@ -13,7 +13,6 @@ from sources import end_of_group
 
 # The crates that callers link, and the last library of crates.txt.
 FOR_CALLERS = ("encoding_rs", "enc_reader", "enc_writer", "recode_engine")
-LAST_LIBRARY = "recode_engine"
 # Modules of tables, which are data.
 TABLES = re.compile(r"/src/(?:data|pages)(?:/|\.rt$)")
 
@@ -82,10 +81,9 @@ class Item:
 
 def libraries():
     """The libraries: those that callers link, and then the others, highest first."""
-    every = list(crates())
-    below = every[: every.index(LAST_LIBRARY) + 1] if LAST_LIBRARY in every else every
+    every = [it for it in crates() if is_there(f"crates/{it}/src/lib.rt") and not it.startswith("test_")]
     first = [it for it in FOR_CALLERS if it in every]
-    return [*first, *(it for it in reversed(below) if it not in first)]
+    return [*first, *(it for it in reversed(every) if it not in first)]
 
 
 def line_at(text, place):

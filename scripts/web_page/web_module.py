@@ -74,7 +74,7 @@ def prove_module():
         write(f"{room}/crates.txt", rows)
         said = patiently(f"proving and linking {CRATE} for wasm64", ["rt", "lib"], f"{room}/crates/{CRATE}")
         shutil.copy(f"{room}/crates/{CRATE}/out/{CRATE}.wasm", f"{OUT}/encoding.wasm")
-    say(f"proved: {said.strip().splitlines()[-1]}")
+    say(f"{CRATE} is proved: {re.search('^logic=proved.*', said, re.M)[0]}")
     write(f"{OUT}/stamp", made_of)
 
 

@@ -36,6 +36,11 @@ class Handler(http.server.SimpleHTTPRequestHandler):
             self.send_header(name, value)
         super().end_headers()
 
+    def copyfile(self, *files):
+        """Sends a file, unless the browser wants no more of it."""
+        with contextlib.suppress(ConnectionError):
+            super().copyfile(*files)
+
     def log_message(self, *_):
         pass
 
