@@ -10,7 +10,7 @@
 //
 // The library is encoding.wasm, which is proved: each of its calls meets its definition. This file is not proved: it
 // copies bytes and code units to the module and back, and has the options and errors of the standard's classes.
-// Nothing has to be freed: a decoder is 16 bytes of JavaScript's, which are copied into the module for a call.
+// Nothing has to be freed: a decoder is 9 bytes of JavaScript's, which are copied into the module for a call.
 
 // Sizes in bytes in the module's memory: of a call's input and output, of a decoder's or an encoder's state, of a
 // reference to a character, and of a page. A reference has at most 10 characters.
