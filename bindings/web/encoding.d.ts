@@ -32,7 +32,7 @@ export interface TextDecoderOptions {
   /**
    * Is called for each malformed sequence, when its part of the chunk is decoded, with its offset in all chunks since
    * the first and its length, both in bytes, and where its U+FFFD stands in the text that the call returns, in code
-   * units.
+   * units. It may use other decoders and encoders. If it throws, the call throws, and the next one begins anew.
    */
   malformed?: (offset: number, length: number, at: number) => void;
 }
@@ -46,8 +46,8 @@ export class TextDecoder {
   readonly ignoreBOM: boolean;
   /** Decodes a chunk. Without `stream` it is the last, and the next call begins anew. */
   decode(input?: Bytes, options?: { stream?: boolean }): string;
-  /** A decoder that goes on from here by itself, with another function for malformed sequences if one is given. */
-  clone(options?: { malformed?: TextDecoderOptions['malformed'] }): TextDecoder;
+  /** A decoder that goes on from here by itself, with another function for malformed sequences, or by null with none. */
+  clone(options?: { malformed?: TextDecoderOptions['malformed'] | null }): TextDecoder;
 }
 
 export interface TextEncoderOptions {

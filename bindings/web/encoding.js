@@ -99,39 +99,49 @@ class Library {
   // Decodes a chunk, and returns its text, the number of bytes read, and whether it stopped at a malformed sequence, as
   // it does if that is fatal. `report`, if there is one, gets the offset of each malformed sequence in the chunk, which
   // is negative where it begins in one before, its length in bytes, and the offset of its U+FFFD in the text. It is
-  // called when the module's memory is not in use, so it may use any decoder.
+  // called when the module's memory is not in use, so it may use other decoders.
   decode(state, chunk, last, fatal, report) {
     const call = fatal || report ? this.exports.encoding_c_decode_to_utf16_without_replacement
       : this.exports.encoding_c_decode_to_utf16;
-    let text = '', filled = 0, isStopped = false;
-    const total = chunk.length, found = [], flush = () => {
-      if (filled) text += utf16.decode(this.units.subarray(0, filled));
-      filled = 0;
-    };
-    for (let start = 0, at = 0; ; start = at) {
-      const end = Math.min(start + INPUT, total);
+    const run = { call, fatal, text: '', filled: 0, read: 0, found: [], isStopped: false }, total = chunk.length;
+    do {
+      if (chunk.length !== total) throw new TypeError('the chunk was taken away');
+      const end = Math.min(run.read + INPUT, total);
       this.put(state);
-      this.bytes.set(chunk.subarray(start, end), this.input);
-      for (let stop; stop !== INPUT_EMPTY && !isStopped;) {
-        const outcome = this.convert(call, this.input + at - start, end - at, this.output + 2 * filled,
-          UNITS - 1 - filled, last && end === total);
-        stop = outcome.stop;
-        at += outcome.read;
-        filled += outcome.written;
-        if (stop === REPORTED) {
-          const length = outcome.report >> 8;
-          found.push([at - (outcome.report & 255) - length, length, text.length + filled]);
-          this.units[filled++] = 0xFFFD;
-          isStopped = fatal;
-        }
-        if (stop === OUTPUT_FULL || filled === UNITS) flush();
-      }
+      this.bytes.set(chunk.subarray(run.read, end), this.input);
+      this.decodePiece(run, end, last && end === total);
       this.take(state);
-      flush();
-      for (const it of found.splice(0)) report?.(...it);
-      if (isStopped || at === total) return { text, read: at, isStopped };
-      if (chunk.length !== total) throw new TypeError('the chunk has another length now');
+      this.flush(run);
+      for (const it of run.found.splice(0)) report?.(...it);
+    } while (run.read < total && !run.isStopped);
+    return run;
+  }
+
+  // Decodes what lies at the input, up to an offset of the chunk.
+  decodePiece(run, end, ends) {
+    const start = run.read;
+    for (let stop; stop !== INPUT_EMPTY && !run.isStopped;) {
+      const outcome = this.convert(run.call, this.input + run.read - start, end - run.read,
+        this.output + 2 * run.filled, UNITS - 1 - run.filled, ends);
+      stop = outcome.stop;
+      run.read += outcome.read;
+      run.filled += outcome.written;
+      if (stop === REPORTED) this.replace(run, outcome.report >> 8, outcome.report & 255);
+      if (stop === OUTPUT_FULL || run.filled === UNITS) this.flush(run);
     }
+  }
+
+  // Writes U+FFFD for a malformed sequence, after which so many bytes are read.
+  replace(run, length, after) {
+    run.found.push([run.read - after - length, length, run.text.length + run.filled]);
+    this.units[run.filled++] = 0xFFFD;
+    run.isStopped = run.fatal;
+  }
+
+  // Makes a string of the code units at the output.
+  flush(run) {
+    if (run.filled) run.text += utf16.decode(this.units.subarray(0, run.filled));
+    run.filled = 0;
   }
 
   // Encodes a chunk of text, without half of a pair at its end, into `output`: `room` is the number of bytes that it
@@ -141,40 +151,52 @@ class Library {
   encode(state, chunk, last, fatal, report, output) {
     const call = fatal || report ? this.exports.encoding_c_encode_from_utf16_without_replacement
       : this.exports.encoding_c_encode_from_utf16;
-    const kept = report && !fatal ? LONGEST_REFERENCE : 0, found = [];
-    const write = (src, length, ends, room) => {
-      const outcome = this.convert(call, src, length, this.output, Math.min(OUTPUT, room), ends);
-      output.put(this.written(outcome.written));
-      return outcome;
-    };
-    const refer = (point) => {
-      const text = `&#${point};`;
-      this.putText(text, this.reference);
-      write(this.reference, text.length, false, output.room);
-    };
-    let refused = null, isFull = false;
-    for (let start = 0, at = 0; ; start = at) {
-      let end = Math.min(start + INPUT / 2, chunk.length);
-      if (end < chunk.length && isLead(chunk.charCodeAt(end - 1))) end--;
+    const kept = report && !fatal ? LONGEST_REFERENCE : 0, total = chunk.length;
+    const run = { call, fatal, output, kept, read: 0, found: [], refused: null, isFull: false };
+    do {
+      let end = Math.min(run.read + INPUT / 2, total);
+      if (end < total && isLead(chunk.charCodeAt(end - 1))) end--;
       this.put(state);
-      this.putText(chunk, this.input, start, end);
-      for (let stop; stop !== INPUT_EMPTY && refused === null && !isFull;) {
-        const room = output.room - kept;
-        isFull = room < 0;
-        if (isFull) break;
-        const outcome = write(this.input + 2 * (at - start), end - at, last && end === chunk.length, room);
-        stop = outcome.stop;
-        at += outcome.read;
-        isFull = stop === OUTPUT_FULL && room < OUTPUT;
-        if (stop !== REPORTED) continue;
-        found.push([outcome.report, at - (outcome.report > 0xFFFF ? 2 : 1)]);
-        if (fatal) refused = outcome.report;
-        else refer(outcome.report);
-      }
+      this.putText(chunk, this.input, run.read, end);
+      this.encodePiece(run, end, last && end === total);
       this.take(state);
-      for (const it of found.splice(0)) report?.(...it);
-      if (refused !== null || isFull || at === chunk.length) return { read: at, refused };
+      for (const it of run.found.splice(0)) report?.(...it);
+    } while (run.read < total && run.refused === null && !run.isFull);
+    return run;
+  }
+
+  // Encodes what lies at the input, up to an offset of the chunk.
+  encodePiece(run, end, ends) {
+    const start = run.read;
+    for (let stop; stop !== INPUT_EMPTY && run.refused === null && !run.isFull;) {
+      const room = run.output.room - run.kept;
+      run.isFull = room < 0;
+      if (run.isFull) return;
+      const outcome = this.write(run, this.input + 2 * (run.read - start), end - run.read, room, ends);
+      stop = outcome.stop;
+      run.read += outcome.read;
+      run.isFull = stop === OUTPUT_FULL && room < OUTPUT;
+      if (stop === REPORTED) this.refer(run, outcome.report);
     }
+  }
+
+  // Writes a reference for an unmappable character, or stops at it.
+  refer(run, point) {
+    run.found.push([point, run.read - (point > 0xFFFF ? 2 : 1)]);
+    if (run.fatal) {
+      run.refused = point;
+      return;
+    }
+    const text = `&#${point};`;
+    this.putText(text, this.reference);
+    this.write(run, this.reference, text.length, run.output.room, false);
+  }
+
+  // Makes a call that encodes, and hands out its bytes.
+  write(run, src, length, room, ends) {
+    const outcome = this.convert(run.call, src, length, this.output, Math.min(OUTPUT, room), ends);
+    run.output.put(this.written(outcome.written));
+    return outcome;
   }
 }
 
@@ -188,7 +210,7 @@ function loaded() {
 
 /** Loads the library: from an address, from bytes, or from a compiled module. */
 export async function load(source = new URL('encoding.wasm', import.meta.url)) {
-  if (!WebAssembly.validate(MEMORY_64)) {
+  if (!globalThis.WebAssembly?.validate(MEMORY_64)) {
     throw new Error('encoding.js: WebAssembly has no memory64 here. Chrome 133, Firefox 134 and Node 24 have it');
   }
   if (library) return;
@@ -211,12 +233,26 @@ function dictionary(options) {
   return options;
 }
 
+// By which a buffer is known, of any realm.
+const LENGTHS = [ArrayBuffer, globalThis.SharedArrayBuffer].filter((it) => it).map(
+  (it) => Object.getOwnPropertyDescriptor(it.prototype, 'byteLength').get);
+
+function isBuffer(source) {
+  return LENGTHS.some((length) => {
+    try {
+      length.call(source);
+      return true;
+    } catch {
+      return false;
+    }
+  });
+}
+
 function bytesOf(source) {
   const isView = ArrayBuffer.isView(source);
-  const isBuffer = / (Shared)?ArrayBuffer\]$/.test(Object.prototype.toString.call(source));
-  if (!isView && !isBuffer) throw new TypeError('neither a buffer nor a view of one');
-  if (source.byteLength === 0) return new Uint8Array(0); // as a detached buffer is
-  return isView ? new Uint8Array(source.buffer, source.byteOffset, source.byteLength) : new Uint8Array(source);
+  if (!isView && !isBuffer(source)) throw new TypeError('neither a buffer nor a view of one');
+  const { buffer = source, byteOffset = 0, byteLength } = source;
+  return byteLength ? new Uint8Array(buffer, byteOffset, byteLength) : new Uint8Array(0); // as of a detached buffer
 }
 
 function callback(options, name) {
@@ -239,19 +275,23 @@ export function encodingForBOM(source) {
 
 /** The malformed sequences of a whole input: the offset and the length of each, in bytes. */
 export function malformed(source, label = 'utf-8', options = undefined) {
-  const found = [], malformed = (offset, length) => found.push({ offset, length });
-  new TextDecoder(label, { ...dictionary(options), malformed }).decode(source);
+  const { ignoreBOM, sniffBOM } = dictionary(options), bytes = bytesOf(source), found = [];
+  const list = (offset, length) => found.push({ offset, length });
+  const decoder = new TextDecoder(label, { ignoreBOM, sniffBOM, malformed: list });
+  for (let at = 0; at < bytes.length; at += INPUT) decoder.decode(bytes.subarray(at, at + INPUT), { stream: true });
+  decoder.decode();
   return found;
 }
 
-const UNKNOWN = (label) => new RangeError(`no encoding has the label ${JSON.stringify(label)}`);
+const unknown = (label) => new RangeError(`no encoding has the label ${JSON.stringify(label)}`);
+const ownCallback = () => new Error('called by its own callback');
 
 /** The standard's TextDecoder, with more options: `sniffBOM` and `malformed`. encoding.d.ts describes them. */
 export class TextDecoder {
   #number; #fatal; #ignoreBOM; #sniffBOM; #malformed;
   // The state of a new decoder, the state of this one, and how many bytes it has read. After a malformed sequence that
   // is an error `rest` is what the chunk has left.
-  #fresh; #state; #offset = 0; #streams = false; #rest = null;
+  #fresh; #state; #offset = 0; #streams = false; #rest = null; #isBusy = false;
 
   constructor(label = 'utf-8', options = undefined) {
     label = `${label}`;
@@ -260,7 +300,7 @@ export class TextDecoder {
     [this.#fatal, this.#ignoreBOM, this.#sniffBOM] = [!!options.fatal, !!options.ignoreBOM, !!options.sniffBOM];
     this.#malformed = callback(options, 'malformed');
     this.#number = library.encodingOf(label, exports.encoding_c_for_label_no_replacement);
-    if (this.#number === NONE) throw UNKNOWN(label);
+    if (this.#number === NONE) throw unknown(label);
     let make = exports.encoding_c_new_decoder_with_bom_removal;
     if (this.#ignoreBOM) make = exports.encoding_c_new_decoder_without_bom_handling;
     if (this.#sniffBOM) make = exports.encoding_c_new_decoder;
@@ -282,16 +322,25 @@ export class TextDecoder {
   decode(input = undefined, options = undefined) {
     let chunk = input === undefined ? new Uint8Array(0) : bytesOf(input);
     const stream = !!dictionary(options).stream;
+    if (this.#isBusy) throw ownCallback();
     if (!this.#streams) this.#begin();
     this.#streams = false; // as it stays if `malformed` throws
     if (this.#rest) chunk = joined([this.#rest, chunk]);
-    const before = this.#offset, report = this.#malformed
-      && ((offset, length, at) => this.#malformed(before + offset, length, at));
-    const { text, read, isStopped } = library.decode(this.#state, chunk, !stream, this.#fatal, report);
-    [this.#offset, this.#streams] = [before + read, stream];
+    const { text, read, isStopped } = this.#run(chunk, !stream);
+    [this.#offset, this.#streams] = [this.#offset + read, stream];
     this.#rest = isStopped ? chunk.slice(read) : null;
     if (isStopped) throw new TypeError(`the bytes are not ${this.encoding}`);
     return text;
+  }
+
+  #run(chunk, last) {
+    const report = this.#malformed && ((offset, ...more) => this.#malformed(this.#offset + offset, ...more));
+    this.#isBusy = true;
+    try {
+      return library.decode(this.#state, chunk, last, this.#fatal, report);
+    } finally {
+      this.#isBusy = false;
+    }
   }
 
   #begin() {
@@ -299,13 +348,11 @@ export class TextDecoder {
     [this.#offset, this.#rest] = [0, null];
   }
 
-  /** A decoder that goes on from here by itself, with another `malformed` if one is given. */
+  /** A decoder that goes on from here by itself, with another `malformed`, or with none if that is null. */
   clone(options = undefined) {
-    const own = { fatal: this.#fatal, ignoreBOM: this.#ignoreBOM, malformed: this.#malformed };
-    const other = new TextDecoder(this.encoding, { ...own, ...dictionary(options) });
-    other.#number = this.#number;
-    other.#sniffBOM = this.#sniffBOM;
-    other.#fresh = this.#fresh;
+    const { malformed = this.#malformed } = dictionary(options);
+    const other = new TextDecoder(this.encoding, { fatal: this.#fatal, ignoreBOM: this.#ignoreBOM, malformed });
+    [other.#number, other.#sniffBOM, other.#fresh] = [this.#number, this.#sniffBOM, this.#fresh];
     other.#state.set(this.#state);
     [other.#offset, other.#streams, other.#rest] = [this.#offset, this.#streams, this.#rest];
     return other;
@@ -324,7 +371,7 @@ function joined(parts) {
 
 /** The standard's TextEncoder, of any encoding. encoding.d.ts describes its options: `fatal` and `unmappable`. */
 export class TextEncoder {
-  #number; #fatal; #unmappable; #fresh; #state; #offset = 0; #streams = false; #lead = '';
+  #number; #fatal; #unmappable; #fresh; #state; #offset = 0; #streams = false; #lead = ''; #isBusy = false;
 
   constructor(label = 'utf-8', options = undefined) {
     label = `${label}`;
@@ -332,7 +379,7 @@ export class TextEncoder {
     const { exports } = loaded();
     [this.#fatal, this.#unmappable] = [!!options.fatal, callback(options, 'unmappable')];
     const number = library.encodingOf(label);
-    if (number === NONE) throw UNKNOWN(label);
+    if (number === NONE) throw unknown(label);
     this.#number = exports.encoding_c_output_encoding(number);
     if (library.names[this.#number] === 'UTF-8') this.#unmappable = null; // which has all characters
     this.#fresh = library.made(exports.encoding_c_new_encoder, this.#number, exports.encoding_c_encoder_size);
@@ -346,10 +393,11 @@ export class TextEncoder {
 
   /** Encodes a chunk, and returns its bytes. Without `stream` it is the last. */
   encode(input = '', options = undefined) {
-    const stream = !!dictionary(options).stream, parts = [];
+    const given = `${input}`, stream = !!dictionary(options).stream, parts = [];
+    if (this.#isBusy) throw ownCallback();
     if (!this.#streams) this.#begin();
     this.#streams = false; // as it stays if there is an error
-    const text = this.#lead + `${input}`;
+    const text = this.#lead + given;
     // half of a pair may wait for the other
     this.#lead = stream && isLead(text.charCodeAt(text.length - 1)) ? text.slice(-1) : '';
     const output = { room: Infinity, put: (bytes) => parts.push(bytes.slice()) };
@@ -362,13 +410,14 @@ export class TextEncoder {
   encodeInto(source, destination) {
     source = `${source}`;
     if (Object.prototype.toString.call(destination) !== '[object Uint8Array]') throw new TypeError('no Uint8Array');
+    if (this.#isBusy) throw ownCallback();
     let written = 0;
     this.#begin();
     this.#streams = false;
     const read = this.#run(source, true, {
-      get room() { return destination.length - written; },
+      get room() { return Math.max(0, destination.length - written); }, // which may be taken away
       put(bytes) {
-        if (bytes.length) destination.set(bytes, written); // (which a detached buffer refuses)
+        if (bytes.length) destination.set(bytes, written);
         written += bytes.length;
       },
     });
@@ -381,12 +430,16 @@ export class TextEncoder {
   }
 
   #run(text, last, output) {
-    const before = this.#offset, report = this.#unmappable
-      && ((point, offset) => this.#unmappable(point, before + offset));
-    const { read, refused } = library.encode(this.#state, text, last, this.#fatal, report, output);
-    this.#offset = before + read;
-    if (refused === null) return read;
-    throw new TypeError(`${this.encoding} has no U+${refused.toString(16).toUpperCase().padStart(4, '0')}`);
+    const report = this.#unmappable && ((point, offset) => this.#unmappable(point, this.#offset + offset));
+    this.#isBusy = true;
+    try {
+      const { read, refused } = library.encode(this.#state, text, last, this.#fatal, report, output);
+      this.#offset += read;
+      if (refused === null) return read;
+      throw new TypeError(`${this.encoding} has no U+${refused.toString(16).toUpperCase().padStart(4, '0')}`);
+    } finally {
+      this.#isBusy = false;
+    }
   }
 }
 

@@ -49,7 +49,7 @@
     },
   });
 
-  // What page.js and report.js have of the outside, from strings to strings alone.
+  // The functions that page.js and report.js have of the outside, from strings to strings alone.
   const hostOf = (file, encoding) => ({
     url: new URL(file).pathname.split('/').pop(), isPage: file.endsWith('.html'), library: libraryOver(encoding),
     read: (address) => toHex(fetched(new URL(address, file)) ?? []),

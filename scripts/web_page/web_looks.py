@@ -1,4 +1,4 @@
-"""What the walk through the page looks at, in JavaScript."""
+"""Looks at the page in JavaScript, for the walk through it."""
 
 import json
 
@@ -12,9 +12,10 @@ return {
   encoding: at('encoding').value, isIdle: at('work').hidden, isOver: document.body.classList.contains('over'),
   isDialog: at('unmappable').open, isClosed: at('open').hidden && at('opened').hidden,
   rows: all('#text .row .words').map((it) => it.textContent),
+  numbers: all('#text .row .number').map((it) => it.textContent), focus: document.activeElement.className,
   marks: all('#text mark').map((it) => it.title), here: all('#text .row.here mark').map((it) => it.textContent),
   faults: all('#faults .row').map((it) => it.innerText.replace(/\\s+/g, ' ')),
-  options: all('[role=option]').map((it) => it.dataset.name),
+  options: all('[role=option][data-name]').map((it) => it.dataset.name), canSave: !at('save').disabled,
   none_found: all('.picker .none').map((it) => it.textContent)[0],
   isListOpen: all('[role=listbox]').length > 0,
   characters: [...document.querySelectorAll('#characters tr')].map(
@@ -29,7 +30,7 @@ const note = ({ duration }) => { window.longest = Math.max(window.longest, durat
 new PerformanceObserver((list) => list.getEntries().forEach(note)).observe({ type: 'longtask' });
 """
 
-# What is wider than the screen.
+# Elements that are wider than the screen.
 WIDE = """
 const right = (it) => Math.round(it.getBoundingClientRect().right);
 return [...document.querySelectorAll('body, body *')].filter(

@@ -23,7 +23,7 @@ def below(name):
 
 
 def stamp(names):
-    """What the module was made of: the sources, and the kit."""
+    """A checksum of all that the module is made of: the sources, and the kit."""
     files = [it for name in sorted(names) for part in ("src", "specs", "proofs")
              for it in sorted(glob.glob(f"crates/{name}/{part}/**/*.*t", root_dir=TOP, recursive=True))]
     kit = os.path.dirname(os.path.dirname(os.path.realpath(shutil.which("rt") or give_up("rt is not on PATH", 1))))

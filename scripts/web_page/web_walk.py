@@ -30,6 +30,9 @@ MOST_MS = 100
 BEFORE_META = "<!doctype html><meta charset=shift_jis>"
 MAIL = 'Subject: x\r\nContent-Type: text/plain;\r\n charset="koi8-r"\r\n\r\nПривет'
 XML = '<?xml version="1.0" encoding="euc-kr"?>'
+COMMENT = "<!-- <meta charset=koi8-r> --><meta data-charset=koi8-r charset=utf-8>"
+CONTENT = '<meta name=a content="charset=koi8-r"><meta http-equiv=Content-Type content="text/html; charset=big5">'
+NOTED = "<meta charset=koi8-r> é"
 KLINGON = '<meta charset="klingon">'
 FILES = {
     "plain.txt": ("héllo\n日本\n".encode(), "UTF-8", "its start is UTF-8", ["héllo", "日本"]),
@@ -40,6 +43,10 @@ FILES = {
     "mail.eml": (MAIL.encode("koi8-r"), "KOI8-R", "a mail header", MAIL.split("\r\n")),
     "marked.txt": (b"\xff\xfe" + "Текст\n".encode("utf-16-le"), "UTF-16LE", "by its byte order mark", ["Текст"]),
     "unknown.html": (KLINGON.encode() + b"caf\xe9", "windows-1252", "declares “klingon”", [f"{KLINGON}café"]),
+    "comment.html": (f"{COMMENT}é".encode(), "UTF-8", "a meta element as “utf-8”", [f"{COMMENT}é"]),
+    "content.html": (f"{CONTENT}語".encode("big5"), "Big5", "a meta element as “big5”", [f"{CONTENT}語"]),
+    "notes.md": (f"# `{NOTED}`".encode(), "UTF-8", "nothing declares it", [f"# `{NOTED}`"]),
+    "mac.txt": (b"one\rtwo\r\nthree\r", "UTF-8", "nothing declares it", ["one", "two", "three"]),
     "latin.txt": (b"caf\xe9\n", "windows-1252", "its start is not UTF-8", ["café"]),
     "empty.txt": (b"", "UTF-8", "nothing declares it", []),
 }
@@ -152,9 +159,16 @@ class Walk:
             self.driver.execute_script(offered(kind, f"{kind}ped.txt", "hé"))
             self.settle(f"{kind}ped.txt")
             self.compare(f"a file by {kind}", rows=(self.look()["rows"], ["hé"]), over=(self.look()["isOver"], False))
-        self.driver.execute_script(offered("paste", None, "текст\n2"))
+        self.driver.execute_script(offered("paste", None, "<meta charset=koi8-r>\nтекст"))
         self.settle("pasted.txt")
-        self.compare("a text by paste", rows=(self.look()["rows"], ["текст", "2"]))
+        self.compare("a text by paste", rows=(self.look()["rows"], ["<meta charset=koi8-r>", "текст"]))
+        self.driver.execute_script("window.slice = Blob.prototype.slice; Blob.prototype.slice = () => null;")
+        self.driver.execute_script(offered("drop", "refused.txt", "none"))
+        self.until(lambda: "could not be read" in self.look()["status"], 5)
+        self.driver.execute_script("Blob.prototype.slice = window.slice;")
+        saw = self.look()
+        self.compare("a file that can't be read", name=(saw["name"], "refused.txt"), rows=(saw["rows"], []),
+                     can_save=(saw["canSave"], False), said=("refused.txt could not be read" in saw["status"], True))
 
     def choose(self):
         """Searches and chooses encodings by keys and by the pointer."""
@@ -199,6 +213,41 @@ class Walk:
             is_there = f"sequence {number} of 3" in self.look()["status"]
             self.compare(f"{button} goes to {number}", status=(is_there, True))
 
+    def find_far_faults(self):
+        """Goes to malformed sequences far to the right, among many, and by the keyboard."""
+        self.open(self.file("right.txt", b"a" * 400 + b"\xff" + b"b" * 90))
+        self.pick("encoding", "utf-8", Keys.ENTER)
+        self.get("next").click()
+        self.until(lambda: self.look()["here"])
+        is_there = self.driver.execute_script(IN_SIGHT)
+        self.compare("a mark far to the right is brought into sight", is_there=(is_there, True))
+        self.open(self.file("many.txt", b"\xff\n" * 300_000))
+        self.pick("encoding", "utf-8", Keys.ENTER)
+        begun = time.time()
+        self.get("previous").click()
+        self.until(lambda: "sequence 300000 of" in self.look()["status"], 20)
+        took = time.time() - begun
+        self.report("the last of 300,000 is gone to within a second", [] if took < 1 else [f"it took {took:.1f} s"])
+        self.driver.find_elements(By.CSS_SELECTOR, "#faults .row")[2].send_keys(Keys.ENTER)
+        time.sleep(0.5)
+        self.compare("a row keeps the focus", focus=(self.look()["focus"].split()[0], "row"))
+
+    def roll(self):
+        """Rolls a list of more rows than a browser's pixels."""
+        self.open(self.file("feeds.txt", b"\n" * 20_000_000))
+        self.compare("20,000,000 lines", lines=(self.look()["lines"], ", 20,000,000 lines"))
+        self.get("text").send_keys(*[Keys.PAGE_DOWN] * 5)
+        time.sleep(0.3)
+        far = self.look()["numbers"][0]
+        self.driver.execute_script(ROLL, 60, -120)
+        time.sleep(0.3)
+        self.compare("the wheel reaches the first line", first=(self.look()["numbers"][0], "1"), far=(far != "1", True))
+        self.get("text").send_keys(Keys.END)
+        self.driver.execute_script(ROLL, 5, -120)
+        self.driver.execute_script(ROLL, 20, 120)
+        time.sleep(0.3)
+        self.compare("and the last", last=(self.look()["numbers"][-1], "20000000"))
+
     def save(self, name, encoding, *buttons):
         """Saves in an encoding, by the buttons of the dialog, and returns what was saved, or None."""
         path = f"{self.room}/saved/{name}"
@@ -230,6 +279,12 @@ class Walk:
                      listed=(self.look()["characters"], ["\u2603 U+2603 2 1", "é U+00E9 1 1"]))
         wanted = b"\x1b$BF|K\\\x1b(B &#9731; caf&#233;\n&#9731;\n"
         self.compare("saved as ISO-2022-JP", bytes=(self.save("text.txt", "csiso2022jp", "with-references"), wanted))
+        self.open(self.file("declares.html", FILES["meta.html"][0] + b"\xff"))
+        wanted = (FILES["meta.html"][3][0] + "\ufffd").encode()
+        self.compare("a file that declares an encoding", bytes=(self.save("declares.html", "utf-8"), wanted))
+        said = self.look()["status"]
+        self.report("a note says so, and of U+FFFD", [] if "still declares “shift_jis”" in said and
+                    "1 malformed sequence became U+FFFD" in said else [said])
         self.open(self.file("nothing.txt", b""))
         self.compare("an empty file is saved", bytes=(self.save("nothing.txt", "utf-8"), b""))
 
@@ -280,7 +335,7 @@ class Walk:
                     ", ".join(f"{what} {it:.0f} ms" for what, it in waits.items()))
         if faults_at:
             self.get("previous").click()
-            self.until(lambda: f"sequence {len(faults_at)} of" in self.look()["status"])
+            self.until(lambda: f"sequence {len(faults_at)} of" in self.look()["status"], 5)
             self.compare(f"{name}: the last malformed sequence is in sight", here=(self.look()["here"], ["\ufffd"]))
         os.remove(path)
 
@@ -295,7 +350,7 @@ class Walk:
         self.report("reading is stopped", [] if " in the first " in self.look()["lines"] else [self.look()["lines"]])
         os.remove(path)
         self.pick("encoding", "koi8-r", Keys.ENTER)
-        self.until(lambda: self.look()["status"])
+        self.until(lambda: "could not be read" in self.look()["status"], 5)
         said = self.look()["status"]
         self.report("a file that is gone is an error", [] if "could not be read" in said else [said])
         path = self.file("going.txt", b"0123456789\n" * 1_000_000)
@@ -328,13 +383,25 @@ class Walk:
         self.driver.save_screenshot(f"{self.folder}/pictures/{name}.png")
 
     def ends(self):
-        """What was asked for, and what the browser had to say."""
+        """Looks at the messages of the browser: of what it could not load, and of faults."""
         messages = [it["message"] for it in self.driver.get_log("browser") if it["level"] == "SEVERE"]
         self.report("nothing is asked of a network, and nothing is wrong in the console", messages)
 
 
+# Whether the mark that was gone to is within its pane.
+IN_SIGHT = """
+const pane = document.getElementById('text').getBoundingClientRect();
+const mark = document.querySelector('#text .chosen').getBoundingClientRect();
+return mark.left >= pane.left && mark.right <= pane.right;
+"""
+ROLL = """
+const [times, deltaY] = arguments;
+for (let i = 0; i < times; i++) {
+  document.getElementById('text').dispatchEvent(new WheelEvent('wheel', { deltaY, bubbles: true, cancelable: true }));
+}
+"""
 FOCUSED = "const it = document.activeElement; return it.id || it.tagName.toLowerCase();"
-# What a key changes: the time until rows are painted, in milliseconds.
+# The time from a key until rows are painted, in milliseconds.
 ANSWER = """
 const [id, key, end] = arguments, list = document.getElementById(id), begun = performance.now();
 const seen = new MutationObserver(() => {
@@ -384,7 +451,7 @@ def look_at_calls(walk, room):
 
 
 def without_memory64(folder):
-    """What the page says in a browser that has no memory64."""
+    """Looks at the page in a browser that has no memory64."""
     driver = browser()
     try:
         without = {"source": "WebAssembly.validate = () => false;"}
@@ -404,8 +471,8 @@ def main(folder):
         try:
             walk = Walk(driver, folder, room)
             walk.load()
-            for it in (walk.open_all, walk.give_otherwise, walk.choose, walk.find_faults, walk.save_all, walk.use_keys,
-                       walk.stop, walk.look_at_sizes, walk.ends):
+            for it in (walk.open_all, walk.give_otherwise, walk.choose, walk.find_faults, walk.find_far_faults,
+                       walk.roll, walk.save_all, walk.use_keys, walk.stop, walk.look_at_sizes, walk.ends):
                 it()
             walk.read_large("chinese.txt", 300, lines_of("中文 text 文字 0123456789\n".encode("gb18030")), (7, 150, 299),
                             "gb18030")

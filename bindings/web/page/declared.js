@@ -1,20 +1,24 @@
 // The encoding of a file by its first bytes: its byte order mark, or the label that it declares.
 import { TextDecoder, encodingForBOM, encodingForLabel } from '../encoding.js';
+import { prescan } from './prescan.js';
 
 // How many bytes are looked at. HTML looks at 1,024 of them for a meta element.
-export const HEAD = 4096;
+const HEAD = 4096, HEAD_OF_HTML = 1024;
 
-const META = /<meta\s[^>]*?charset\s*=\s*["']?\s*([^"'\s/>;]+)/i;
 const XML = /^\s*<\?xml\s[^>]*?encoding\s*=\s*["']([^"']+)["']/;
-const MAIL = /^content-type:[^\r\n]*(?:\r?\n[ \t][^\r\n]*)*?charset\s*=\s*"?([^"\s;]+)/im;
+const HEADERS = /^(?:From [^\r\n]*\r?\n)?[\w-]+:/;
+const MAIL = /^content-type:[^\r\n]*(?:\r?\n[ \t][^\r\n]*)*?(?<=[;\s])charset\s*=\s*"?([^"\s;]+)/im;
 
-// The label and where it stands, or null.
-function labelIn(head) {
-  const text = Array.from(head, (it) => String.fromCharCode(it)).join('');
-  const xml = XML.exec(text), meta = META.exec(text);
+const latin1 = (bytes) => Array.from(bytes, (it) => String.fromCharCode(it)).join('');
+
+// The label that is declared and where, or null. What begins with a tag, or has a name of HTML, is taken for HTML.
+function labelIn(head, name) {
+  const text = latin1(head), xml = XML.exec(text);
   if (xml) return [xml[1], 'the XML declaration'];
-  if (meta) return [meta[1], 'a meta element'];
-  const [headers] = text.split(/\r?\n\r?\n/, 1), mail = /^[\w-]+:/.test(headers) && MAIL.exec(headers);
+  const isHTML = /^\s*</.test(text) || /\.x?html?$/i.test(name);
+  const label = isHTML && prescan(text.slice(0, HEAD_OF_HTML));
+  if (label) return [label, 'a meta element'];
+  const [headers] = text.split(/\r?\n\r?\n/, 1), mail = HEADERS.test(headers) && MAIL.exec(headers);
   return mail ? [mail[1], 'a mail header'] : null;
 }
 
@@ -31,17 +35,18 @@ function isUTF8(head, isWhole) {
   }
 }
 
-/** The encoding of a file, and a few words on how it is known. */
+/** The encoding of a file, a few words on how it is known, whether a mark sets it, and the label that is declared. */
 export async function encodingOf(file) {
   const head = new Uint8Array(await file.slice(0, HEAD).arrayBuffer());
-  const mark = encodingForBOM(head);
-  if (mark) return { encoding: mark.encoding, by: 'by its byte order mark', sniffBOM: true };
-  const [label, where] = labelIn(head) ?? [], declared = label && encodingForLabel(label);
+  const mark = encodingForBOM(head), [label = null, where] = labelIn(head, file.name) ?? [];
+  if (mark) return { encoding: mark.encoding, by: 'by its byte order mark', sniffBOM: true, label };
+  const declared = label && encodingForLabel(label);
   if (declared && declared !== 'replacement') {
-    return { encoding: INSTEAD[declared] ?? declared, by: `declared in ${where} as “${label}”`, sniffBOM: false };
+    const encoding = INSTEAD[declared] ?? declared;
+    return { encoding, by: `declared in ${where} as “${label}”`, sniffBOM: false, label };
   }
   const unknown = label ? `${where} declares “${label}”, which is no encoding; ` : 'nothing declares it; ';
   return isUTF8(head, head.length === file.size)
-    ? { encoding: 'UTF-8', by: `${unknown}its start is UTF-8`, sniffBOM: false }
-    : { encoding: 'windows-1252', by: `${unknown}its start is not UTF-8`, sniffBOM: false };
+    ? { encoding: 'UTF-8', by: `${unknown}its start is UTF-8`, sniffBOM: false, label: null }
+    : { encoding: 'windows-1252', by: `${unknown}its start is not UTF-8`, sniffBOM: false, label: null };
 }

@@ -1,4 +1,4 @@
-// What scripts/web bundles: the page with the module in it.
+// The page with the module in it, as scripts/web bundles it.
 import module from '../out/encoding.wasm';
 import { begin } from './main.js';
 

@@ -25,27 +25,64 @@ class Numbers {
   at(i) { return this.#all[i]; }
 }
 
-// Cuts a text into rows: after each line feed, and after WIDTH code units.
+// Cuts a text into rows: after each line feed, carriage return or both, and after WIDTH code units.
 class Rows {
-  #text; #feed = -2;
+  #text; #next = { '\n': -2, '\r': -2 };
   constructor(text) { this.#text = text; }
 
-  // The end of the row that has `column` code units before `at`, or -1 where the text has no end of it.
-  end(at, column) {
-    if (this.#feed !== -1 && this.#feed < at) this.#feed = this.#text.indexOf('\n', at);
-    const limit = at + WIDTH - column;
-    if (this.#feed >= 0 && this.#feed <= limit) return this.#feed + 1;
-    if (limit >= this.#text.length) return -1;
-    return isTrail(this.#text.charCodeAt(limit)) ? limit + 1 : limit;
+  // The first place from `at` on that has a character, or Infinity.
+  #place(character, at) {
+    const next = this.#next;
+    if (next[character] !== -1 && next[character] < at) next[character] = this.#text.indexOf(character, at);
+    return next[character] === -1 ? Infinity : next[character];
+  }
+
+  // The end of the row that has `column` code units before `at`, and whether it ends a line. Null where the text has no
+  // end of it, as after a carriage return that a line feed may follow. `afterReturn` is whether the text before, which
+  // this one follows, ended so.
+  end(at, column, afterReturn) {
+    const text = this.#text, limit = at + WIDTH - column;
+    if (afterReturn && at === 0) return { end: text[0] === '\n' ? 1 : 0, isLine: true };
+    const place = Math.min(this.#place('\n', at), this.#place('\r', at));
+    if (place <= limit) {
+      if (text[place] === '\n') return { end: place + 1, isLine: true };
+      if (place + 1 === text.length) return null;
+      return { end: place + (text[place + 1] === '\n' ? 2 : 1), isLine: true };
+    }
+    if (limit >= text.length) return null;
+    return { end: isTrail(text.charCodeAt(limit)) ? limit + 1 : limit, isLine: false };
+  }
+}
+
+// Where a block begins: the row, how many code units it has before, whether those end in a carriage return, whether it
+// begins a line, and the line.
+class Place {
+  constructor() { Object.assign(this, { row: 0, column: 0, afterReturn: false, begins: true, line: 0 }); }
+
+  // Goes through the rows of a text, and stops where `visit` returns true. `visit` gets where a row, or the part of it
+  // that the text has, begins and ends, and whether it is whole.
+  through(text, visit) {
+    const rows = new Rows(text);
+    for (let at = 0; at < text.length;) {
+      const found = rows.end(at, this.column, this.afterReturn), end = found?.end ?? text.length;
+      if (visit(at, end, found !== null)) return true;
+      if (!found) {
+        this.column += end - at;
+        this.afterReturn = text.endsWith('\r');
+        return false;
+      }
+      Object.assign(this, { row: this.row + 1, column: 0, afterReturn: false, begins: found.isLine });
+      if (found.isLine) this.line++;
+      at = end;
+    }
+    return false;
   }
 }
 
 /** The text of a file by the encoding of a label, or by that of its byte order mark if `sniffBOM`. */
 export class FileText {
-  // Where each block begins: its decoder, and the row, its column, whether it begins a line, and the line.
-  #blocks = []; #kept = new Map();
-  // Where the next block begins.
-  #here = { row: 0, column: 0, begins: true, line: 0 };
+  // Each block's decoder at its start, and its place, and the texts that are kept. Then the place of the next block.
+  #blocks = []; #kept = new Map(); #here = new Place();
   // Of each malformed sequence that is listed.
   #offsets = new Numbers(); #lengths = new Numbers(); #lines = new Numbers();
 
@@ -80,7 +117,8 @@ export class FileText {
     const malformed = (offset, length, at) => found.push({ offset, length, at });
     const decoder = new TextDecoder(this.label, { sniffBOM: this.sniffBOM, malformed });
     for await (const { text, end } of this.#texts(decoder, signal)) {
-      this.#blocks.push({ decoder: decoder.clone({ malformed: undefined }), ...this.#here });
+      const place = Object.assign(new Place(), this.#here);
+      this.#blocks.push({ decoder: decoder.clone({ malformed: null }), place });
       this.#count(text(), found);
       found = [];
       this.encoding = decoder.encoding;
@@ -98,24 +136,11 @@ export class FileText {
 
   // Counts the rows, the lines and the malformed sequences of the next block.
   #count(text, found) {
-    const rows = new Rows(text), here = this.#here;
     let listed = 0;
-    const list = (end) => {
-      for (; listed < found.length && found[listed].at < end; listed++) this.#list(found[listed], here.line);
-    };
+    this.#here.through(text, (_, end) => {
+      for (; listed < found.length && found[listed].at < end; listed++) this.#list(found[listed], this.#here.line);
+    });
     this.malformed += found.length;
-    for (let at = 0, end; at < text.length; at = end) {
-      end = rows.end(at, here.column);
-      list(end < 0 ? text.length : end);
-      if (end < 0) {
-        here.column += text.length - at;
-        return;
-      }
-      here.begins = text.charCodeAt(end - 1) === 10;
-      here.row++;
-      here.column = 0;
-      if (here.begins) here.line++;
-    }
   }
 
   #list({ offset, length }, line) {
@@ -149,60 +174,46 @@ export class FileText {
   #blockOf(row) {
     let [low, high] = [0, this.#blocks.length];
     while (high - low > 1) {
-      const middle = (low + high) >> 1, block = this.#blocks[middle];
-      if (block.row + (block.column > 0 ? 1 : 0) <= row) low = middle;
+      const middle = (low + high) >> 1, { place } = this.#blocks[middle];
+      if (place.row + (place.column > 0 ? 1 : 0) <= row) low = middle;
       else high = middle;
     }
     return low;
   }
 
-  // Walks through the rows from a block on, until `visit` returns true. `visit` gets where a row or a part of it is.
-  async #walk(i, visit) {
-    let { row, column, begins, line } = this.#blocks[i];
-    for (; i < this.#blocks.length; i++) {
-      const { text, faults } = await this.#decoded(i), rows = new Rows(text);
-      for (let at = 0, end; at < text.length; at = end) {
-        const found = rows.end(at, column);
-        end = found < 0 ? text.length : found;
-        if (visit({ row, line, begins: begins && column === 0, text, faults, at, end, isEnded: found >= 0 })) return;
-        column = found < 0 ? column + end - at : 0;
-        if (found < 0) continue;
-        begins = text.charCodeAt(end - 1) === 10;
-        row++;
-        if (begins) line++;
-      }
-    }
-  }
-
   /** Rows, each with its line, whether it begins that line, and its parts: texts, and malformed sequences. */
   async rowsFrom(first, count) {
     const rows = [];
-    if (this.#blocks.length === 0) return rows;
-    await this.#walk(this.#blockOf(first), (it) => {
-      if (it.row < first) return false;
-      const row = rows[it.row - first] ??= { line: it.line, begins: it.begins, parts: [] };
-      row.parts.push(...partsOf(it));
-      return it.isEnded && rows.length === count;
-    });
+    for (let i = this.#blockOf(first), isDone = false; i < this.#blocks.length && !isDone; i++) {
+      const { text, faults } = await this.#decoded(i), place = Object.assign(new Place(), this.#blocks[i].place);
+      isDone = place.through(text, (at, end, isWhole) => {
+        if (place.row < first) return false;
+        const row = rows[place.row - first] ??= { line: place.line, begins: place.begins, parts: [] };
+        row.parts.push(...partsOf(text, faults, at, end));
+        return isWhole && rows.length === count;
+      });
+    }
     return rows;
   }
 
-  /** The row in which a malformed sequence stands. */
+  /** The row in which a malformed sequence stands. Its U+FFFD is in the block of its first byte, or in a later one. */
   async rowOf({ offset }) {
-    let found = 0;
-    await this.#walk(Math.min(Math.floor(offset / BLOCK), this.#blocks.length - 1), ({ row, faults, at, end }) => {
-      found = row;
-      return faults.some((it) => it.offset === offset && it.at >= at && it.at < end);
-    });
-    return found;
+    for (let i = Math.min(Math.floor(offset / BLOCK), this.#blocks.length - 1); i < this.#blocks.length; i++) {
+      const { text, faults } = await this.#decoded(i), fault = faults[firstFrom(faults, offset, 'offset')];
+      if (fault?.offset !== offset) continue;
+      const place = Object.assign(new Place(), this.#blocks[i].place);
+      place.through(text, (_, end) => end > fault.at);
+      return place.row;
+    }
+    return 0;
   }
 }
 
 // The parts of a row: pieces of text, and malformed sequences in the place of their U+FFFD.
-function partsOf({ text, faults, at, end }) {
+function partsOf(text, faults, at, end) {
   const parts = [];
   let start = at;
-  for (let i = firstFrom(faults, at); i < faults.length && faults[i].at < end; i++) {
+  for (let i = firstFrom(faults, at, 'at'); i < faults.length && faults[i].at < end; i++) {
     if (faults[i].at > start) parts.push(text.slice(start, faults[i].at));
     parts.push(faults[i]);
     start = faults[i].at + 1;
@@ -211,12 +222,12 @@ function partsOf({ text, faults, at, end }) {
   return parts;
 }
 
-// The number of the first malformed sequence that stands at a place of the text or after it.
-function firstFrom(faults, at) {
+// The number of the first malformed sequence whose `at` or `offset` is that number or more.
+function firstFrom(faults, number, name) {
   let [low, high] = [0, faults.length];
   while (low < high) {
     const middle = (low + high) >> 1;
-    if (faults[middle].at < at) low = middle + 1;
+    if (faults[middle][name] < number) low = middle + 1;
     else high = middle;
   }
   return low;

@@ -1,4 +1,4 @@
-// The page: what is opened, shown and saved, and by which control.
+// The page: opens, shows and saves a file, by its controls.
 import { encodingForLabel, encodings, load, TextEncoder } from '../encoding.js';
 import { encodingOf } from './declared.js';
 import { FileText, MOST_LISTED } from './file_text.js';
@@ -6,8 +6,10 @@ import { Picker } from './picker.js';
 import { RowList } from './row_list.js';
 import { encoded, save } from './save.js';
 
-// The height of a row in pixels (page.css), and the least time between two counts that are shown, in milliseconds.
-const ROW = 22, OFTEN = 100;
+// The least time between two counts that are shown, in milliseconds.
+const OFTEN = 100;
+// The height of a row in pixels: page.css has it in the unit of the page's font.
+const ROW = 1.5 * parseFloat(getComputedStyle(document.documentElement).fontSize);
 
 const at = (id) => document.getElementById(id);
 const counted = (number, one, many = `${one}s`) => `${number.toLocaleString('en')} ${number === 1 ? one : many}`;
@@ -25,7 +27,7 @@ function say(text, isFault = false) {
   at('status').classList.toggle('fault', isFault);
 }
 
-// What takes long: its progress is shown, and it can be stopped.
+// Work that takes long: its progress is shown, and it can be stopped.
 class Work {
   #control = null;
   constructor() { at('stop').addEventListener('click', () => this.stop()); }
@@ -42,8 +44,14 @@ class Work {
     try {
       return await task(control.signal);
     } finally {
-      if (this.#control === control) at('work').hidden = true;
+      if (this.#control === control) this.#end();
     }
+  }
+
+  #end() {
+    const hadFocus = document.activeElement === at('stop');
+    at('work').hidden = true;
+    if (hadFocus) at('text').focus();
   }
 
   set share(share) { at('progress').value = share; }
@@ -51,14 +59,14 @@ class Work {
 
 // A file that is open: its text, and its malformed sequences.
 class View {
-  #work; #file; #text = null; #here = null; #chosen = -1;
-  #rows; #faults; #reading; #saving;
+  // The file, its text if it has one yet, the label that it declares, and the malformed sequence that was gone to.
+  #file; #text = null; #label = null; #chosen = -1;
+  #work; #rows; #faults; #reading; #saving;
 
   constructor(work) {
     this.#work = work;
-    const rows = (render) => (first, count) => render(first, count).catch((fault) => this.#say(fault));
-    this.#rows = new RowList(at('text'), ROW, rows((...it) => this.#textRows(...it)));
-    this.#faults = new RowList(at('faults'), ROW, rows((...it) => this.#faultRows(...it)));
+    this.#rows = new RowList(at('text'), ROW, this.#guarded((first, count) => this.#textRows(first, count)));
+    this.#faults = new RowList(at('faults'), ROW, this.#guarded((first, count) => this.#faultRows(first, count)));
     const all = encodings().filter((it) => it !== 'replacement');
     this.#reading = new Picker(at('encoding'), at('encodings'), all, (it) => this.#read(it, false, 'chosen'));
     const outputs = all.filter((it) => encodingForLabel(new TextEncoder(it).encoding) === it);
@@ -66,52 +74,65 @@ class View {
     this.#saving.value = 'UTF-8';
     at('save').addEventListener('click', () => this.#save());
     at('next').addEventListener('click', () => this.#go(this.#chosen + 1));
-    at('previous').addEventListener('click', () => this.#go(this.#chosen - 1));
+    at('previous').addEventListener('click', () => this.#go(Math.max(this.#chosen, 0) - 1));
   }
 
-  // Says why the file could not be read. There are no rows of it then.
-  #say(fault) {
-    say(`${this.#file.name} could not be read: ${fault.message}`, true);
-    return [];
+  // Has a task say why the file could not be read, if it still is the one that is open. There are no rows then.
+  #guarded(task) {
+    return async (...words) => {
+      const file = this.#file;
+      try {
+        return await task(...words);
+      } catch (fault) {
+        if (file === this.#file) say(`${file.name} could not be read: ${fault.message}`, true);
+        return [];
+      }
+    };
   }
 
-  async open(file) {
-    this.#file = file;
+  // Opens a file, of which the encoding may be known. `more` is how many others there were.
+  async open(file, known = null, more = 0) {
+    this.#work.stop();
+    [this.#file, this.#text, this.#label, this.#chosen] = [file, null, null, -1];
+    this.#rows.count = this.#faults.count = 0;
+    for (const it of ['save', 'next', 'previous']) at(it).disabled = true;
+    for (const it of ['by', 'lines', 'malformed']) at(it).textContent = '';
+    this.#reading.value = '';
     at('name').textContent = file.name;
-    at('size').textContent = counted(file.size, 'byte');
+    at('size').textContent = counted(file.size, 'byte') + (more ? `, the first of ${more + 1} files` : '');
     at('opened').hidden = false;
     say('');
-    try {
-      const { encoding, by, sniffBOM } = await encodingOf(file);
-      if (file === this.#file) await this.#read(encoding, sniffBOM, by);
-    } catch (fault) {
-      this.#say(fault);
-    }
+    await this.#guarded(async () => {
+      const { encoding, by, sniffBOM, label } = known ?? await encodingOf(file);
+      if (file !== this.#file) return;
+      this.#label = label;
+      await this.#read(encoding, sniffBOM, by);
+    })();
   }
 
   // Decodes the whole file by an encoding, and shows what is there meanwhile.
   async #read(encoding, sniffBOM, by) {
     const text = this.#text = new FileText(this.#file, encoding, sniffBOM);
-    [this.#here, this.#chosen] = [null, -1];
+    this.#chosen = -1;
     this.#reading.value = encoding;
     at('by').textContent = by;
     this.#rows.count = this.#faults.count = 0;
     at('save').disabled = true;
+    say('');
     let shown = 0;
     const progress = () => {
-      this.#work.share = text.read / Math.max(1, this.#file.size);
-      if (text !== this.#text || performance.now() - shown < OFTEN) return;
+      if (text !== this.#text) return;
+      this.#work.share = text.read / Math.max(1, text.file.size);
+      if (performance.now() - shown < OFTEN) return;
       shown = performance.now();
       this.#count();
     };
-    try {
-      await this.#work.run(`Decoding ${this.#file.name}`, (signal) => text.decode(progress, signal));
-    } catch (fault) {
-      this.#say(fault);
-    }
+    const doing = `Decoding ${text.file.name}`;
+    await this.#guarded(() => this.#work.run(doing, (signal) => text.decode(progress, signal)))();
     if (text !== this.#text) return;
     at('save').disabled = false;
     this.#count();
+    if (text.isWhole) say(`Decoded ${counted(text.lines, 'line')}, ${counted(text.malformed, 'malformed sequence')}.`);
   }
 
   #count() {
@@ -133,14 +154,15 @@ class View {
   }
 
   #textRow({ line, begins, parts }) {
-    const words = parts.map((it) => (typeof it === 'string' ? it.replace(/\r?\n$/, '') : this.#mark(it)));
-    const isHere = parts.some((it) => this.#here !== null && it.offset === this.#here);
+    const words = parts.map((it) => (typeof it === 'string' ? it.replace(/(?:\r\n|\n|\r)$/, '') : this.#mark(it)));
+    const isHere = words.some((it) => it.className === 'chosen');
     const number = element('span', 'number', begins ? `${line + 1}` : '');
     return element('div', isHere ? 'row here' : 'row', number, element('span', 'words', ...words));
   }
 
   #mark({ offset, length }) {
-    const mark = element('mark', '', '\uFFFD');
+    const isChosen = this.#chosen >= 0 && this.#text.fault(this.#chosen).offset === offset;
+    const mark = element('mark', isChosen ? 'chosen' : '', '\uFFFD');
     mark.title = `${counted(length, 'malformed byte')} at offset ${offset.toLocaleString('en')}`;
     return mark;
   }
@@ -159,41 +181,48 @@ class View {
     return row;
   }
 
-  // Goes to a malformed sequence: to the row in which it stands.
+  // Goes to a malformed sequence: shows its row, and its mark in the row.
   async #go(number) {
-    const { listed } = this.#text;
-    if (listed === 0) return;
-    this.#chosen = (number + listed) % listed;
-    const text = this.#text, fault = text.fault(this.#chosen), row = await text.rowOf(fault);
-    if (text !== this.#text) return;
-    this.#here = fault.offset;
-    this.#rows.show(row);
-    this.#faults.show(this.#chosen);
-    say(`Malformed sequence ${this.#chosen + 1} of ${listed}: offset ${fault.offset}, line ${fault.line + 1}`);
+    const text = this.#text, chosen = this.#chosen = (number + text.listed) % text.listed, fault = text.fault(chosen);
+    await this.#guarded(async () => {
+      const row = await text.rowOf(fault);
+      if (text !== this.#text || chosen !== this.#chosen) return;
+      await Promise.all([this.#rows.show(row), this.#faults.show(chosen)]);
+      at('text').querySelector('.chosen')?.scrollIntoView({ block: 'nearest', inline: 'center' });
+      const place = `offset ${fault.offset}, line ${fault.line + 1}`;
+      say(`Malformed sequence ${chosen + 1} of ${text.listed}: ${place}`);
+    })();
   }
 
   async #save() {
-    const label = this.#saving.value, text = this.#text, name = this.#file.name;
-    const progress = (end) => { this.#work.share = end / Math.max(1, this.#file.size); };
-    let made = null;
-    try {
-      made = await this.#work.run(`Encoding into ${label}`, (signal) => encoded(text, label, progress, signal));
-    } catch (fault) {
-      this.#say(fault);
+    const encoding = this.#saving.value, text = this.#text, { name, size } = text.file;
+    const progress = (end) => { this.#work.share = end / Math.max(1, size); };
+    const encode = (signal) => encoded(text, encoding, progress, signal);
+    const made = await this.#guarded(() => this.#work.run(`Encoding into ${encoding}`, encode))();
+    if (text !== this.#text || made?.length === 0) return; // another is open, or there was a fault
+    if (!made || made.unmappable > 0 && !await confirmed(made, encoding)) {
+      say('Nothing is saved.');
       return;
     }
-    if (!made) say('Nothing is saved.');
-    else if (made.unmappable === 0 || await confirmed(made, label)) {
-      save(made.blob, name);
-      say(`Saved ${name} as ${label}: ${counted(made.blob.size, 'byte')}.`);
-    } else say('Nothing is saved.');
+    save(made.blob, name);
+    say([`Saved ${name} as ${encoding}: ${counted(made.blob.size, 'byte')}.`, ...this.#notes(encoding)].join(' '));
+  }
+
+  // Notes on a text that is saved: its U+FFFD, and a label in it that names another encoding.
+  #notes(encoding) {
+    const notes = [], { malformed } = this.#text;
+    if (malformed) notes.push(`${counted(malformed, 'malformed sequence')} became U+FFFD.`);
+    const label = this.#label;
+    if (label && encodingForLabel(label) !== encoding) notes.push(`The text still declares “${label}”.`);
+    return notes;
   }
 }
 
 // Shows the unmappable characters, and asks whether the text is to be saved with references.
-function confirmed({ unmappable, characters }, label) {
+function confirmed({ unmappable, characters, areAllListed }, encoding) {
   const dialog = at('unmappable'), stands = unmappable === 1 ? 'is' : 'are';
-  at('unmappable-title').textContent = `${counted(unmappable, 'character')} ${stands} not in ${label}`;
+  at('unmappable-title').textContent = `${counted(unmappable, 'character')} ${stands} not in ${encoding}`;
+  at('not-listed').hidden = areAllListed;
   at('characters').replaceChildren(...characters.map(({ point, count, line }) => {
     const code = `U+${point.toString(16).toUpperCase().padStart(4, '0')}`;
     const cells = [String.fromCodePoint(point), code, count.toLocaleString('en'), (line + 1).toLocaleString('en')];
@@ -208,11 +237,14 @@ function confirmed({ unmappable, characters }, label) {
   });
 }
 
-// What is dropped or pasted, as a file.
-function fileOf(data) {
-  if (data.files.length) return data.files[0];
-  const text = data.getData('text/plain');
-  return text ? new File([text], 'pasted.txt') : null;
+// A text has no other encoding here, whatever it declares.
+const OF_TEXT = { encoding: 'UTF-8', by: 'it is a text', sniffBOM: false, label: null };
+
+// Opens the first file that is dropped or pasted, or a text.
+function openData(data, open) {
+  const [file] = data.files, text = data.getData('text/plain');
+  if (file) open(file, null, data.files.length - 1);
+  else if (text) open(new File([text], 'pasted.txt'), OF_TEXT);
 }
 
 function listen(open) {
@@ -220,10 +252,7 @@ function listen(open) {
     if (event.target.files.length) open(event.target.files[0]);
     event.target.value = ''; // so that the same file can be opened again
   });
-  addEventListener('paste', (event) => {
-    const file = event.target.closest?.('input') ? null : fileOf(event.clipboardData);
-    if (file) open(file);
-  });
+  addEventListener('paste', (event) => { if (!event.target.closest?.('input')) openData(event.clipboardData, open); });
   addEventListener('dragover', (event) => {
     event.preventDefault();
     document.body.classList.add('over');
@@ -232,8 +261,7 @@ function listen(open) {
   addEventListener('drop', (event) => {
     event.preventDefault();
     document.body.classList.remove('over');
-    const file = fileOf(event.dataTransfer);
-    if (file) open(file);
+    openData(event.dataTransfer, open);
   });
 }
 
@@ -247,5 +275,5 @@ export async function begin(module) {
     return;
   }
   const view = new View(new Work());
-  listen((file) => view.open(file));
+  listen((...words) => view.open(...words));
 }

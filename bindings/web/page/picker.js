@@ -4,25 +4,22 @@ import { encodingForLabel } from '../encoding.js';
 import { LABELS } from '../labels.js';
 
 export class Picker {
-  #input; #list; #names; #chosen; #pick; #active = -1;
+  #input; #list; #names; #chosen = ''; #pick; #active = -1;
 
   // `input` and `list` are elements of the page, `names` the encodings that there are, and `pick` gets the one chosen.
   constructor(input, list, names, pick) {
     [this.#input, this.#list, this.#names, this.#pick] = [input, list, names, pick];
     input.addEventListener('focus', () => input.select());
     input.addEventListener('click', () => {
+      if (!list.hidden) return;
       input.select();
       this.#open('');
     });
     input.addEventListener('input', () => this.#open(input.value));
     input.addEventListener('blur', () => this.#close());
     input.addEventListener('keydown', (event) => this.#press(event));
-    // (before the field loses the focus)
-    list.addEventListener('pointerdown', (event) => {
-      event.preventDefault();
-      const option = event.target.closest('[role=option]');
-      if (option) this.#choose(option.dataset.name);
-    });
+    list.addEventListener('mousedown', (event) => event.preventDefault()); // so that the field keeps the focus
+    list.addEventListener('click', (event) => this.#choose(event.target.closest('[role=option]')?.dataset.name));
   }
 
   get value() { return this.#chosen; }
@@ -38,11 +35,11 @@ export class Picker {
     const text = sought.trim().toLowerCase();
     const found = this.#names.map((name) => [name, LABELS[name].filter((it) => it.includes(text))])
       .filter(([name, labels]) => name.toLowerCase().includes(text) || labels.length);
-    this.#list.replaceChildren(...(found.length ? found.map((it, i) => this.#option(i, ...it)) : [none()]));
+    this.#list.replaceChildren(...(found.length ? found.map((it, i) => this.#option(i, ...it)) : [this.#none()]));
     this.#list.hidden = false;
     this.#input.setAttribute('aria-expanded', 'true');
     const exact = found.findIndex(([name]) => name === (text ? encodingForLabel(text) : this.#chosen));
-    this.#activate(found.length ? Math.max(exact, 0) : -1);
+    this.#activate(Math.max(exact, 0));
   }
 
   #option(i, name, labels) {
@@ -55,9 +52,20 @@ export class Picker {
     return option;
   }
 
+  // An option that can't be chosen.
+  #none() {
+    const option = document.createElement('li');
+    option.id = `${this.#list.id}-none`;
+    option.className = 'none';
+    option.setAttribute('role', 'option');
+    option.setAttribute('aria-disabled', 'true');
+    option.textContent = 'No encoding has such a label';
+    return option;
+  }
+
   #activate(i) {
     const options = this.#options;
-    this.#active = options.length ? (i + options.length) % options.length : -1;
+    this.#active = (i + options.length) % options.length;
     options.forEach((it, at) => it.setAttribute('aria-selected', `${at === this.#active}`));
     this.#input.setAttribute('aria-activedescendant', options[this.#active]?.id ?? '');
     options[this.#active]?.scrollIntoView({ block: 'nearest' });
@@ -91,11 +99,4 @@ export class Picker {
     this.#input.setAttribute('aria-activedescendant', '');
     this.#input.value = this.#chosen;
   }
-}
-
-function none() {
-  const item = document.createElement('li');
-  item.className = 'none';
-  item.textContent = 'No encoding has such a label';
-  return item;
 }

@@ -6,7 +6,7 @@ const MOST_LISTED = 1000;
 
 /**
  * Encodes a text, with a decimal reference for each unmappable character. Returns a blob and the unmappable characters:
- * how many there are, and each with its number and its first line. Returns null if it is stopped.
+ * how many there are, and up to some number each with its number and its first line. Returns null if it is stopped.
  */
 export async function encoded(text, label, progress, signal) {
   const parts = [], found = new Map();
@@ -15,27 +15,30 @@ export async function encoded(text, label, progress, signal) {
     unmappable++;
     const it = found.get(point);
     if (it) it.count++;
-    else if (found.size < MOST_LISTED) found.set(point, { count: 1, line: lines + feedsIn(chunk, offset - before) });
+    else if (found.size < MOST_LISTED) found.set(point, { count: 1, line: lines + endsIn(chunk, offset - before) });
   };
   const encoder = new TextEncoder(label, { unmappable: report });
   for await (const { text: next, end } of text.texts(signal)) {
+    // (of a carriage return at the end of a chunk the next one says whether a line feed follows)
+    if (chunk.endsWith('\r') && !next.startsWith('\n')) lines++;
     chunk = next;
     // (a blob of each part, which the browser may keep on a disk)
     parts.push(new Blob([encoder.encode(chunk, { stream: true })]));
-    lines += feedsIn(chunk, chunk.length);
+    lines += endsIn(chunk, chunk.length);
     before += chunk.length;
     progress(end);
   }
   parts.push(new Blob([encoder.encode()]));
   if (signal.aborted) return null;
   const characters = [...found].map(([point, it]) => ({ point, ...it })).sort((a, b) => b.count - a.count);
-  return { blob: new Blob(parts), unmappable, characters };
+  return { blob: new Blob(parts), unmappable, characters, areAllListed: found.size < MOST_LISTED };
 }
 
-// The number of line feeds before a place.
-function feedsIn(text, end) {
+// The number of lines that end before a place: by a line feed, or by a carriage return that another character follows.
+function endsIn(text, end) {
+  const ends = /\n|\r(?!\n|$)/g;
   let number = 0;
-  for (let at = text.indexOf('\n'); at >= 0 && at < end; at = text.indexOf('\n', at + 1)) number++;
+  while (ends.test(text) && ends.lastIndex <= end) number++;
   return number;
 }
 

@@ -51,6 +51,10 @@ function* faults() {
   const throwing = new TextDecoder('utf-8', { malformed: () => { throw new SyntaxError(); } });
   yield ['a callback that throws', tried(() => throwing.decode(bytes('61 E2'), { stream: false })), 'SyntaxError'];
   yield ['after it', throwing.decode(bytes('62')), 'b'];
+  let times = 0;
+  const own = new TextDecoder('utf-8', { malformed: () => { if (!times++) own.decode(bytes('61')); } });
+  yield ['a callback that calls its own decoder', tried(() => own.decode(new Uint8Array(70_000).fill(0xFF))), 'Error'];
+  yield ['after that', own.decode(bytes('62')), 'b'];
   const taken = new Uint8Array(200_000).fill(0xFF);
   const taking = new TextDecoder('utf-8', {
     malformed: () => { if (taken.length) structuredClone(taken.buffer, { transfer: [taken.buffer] }); },
@@ -73,6 +77,12 @@ function* decoders() {
     ['windows-1252', 'utf-16le', 'b']];
   yield ['no bytes', new TextDecoder('gb18030').decode(), ''];
   yield ['no buffer', tried(() => new TextDecoder().decode('text')), 'TypeError'];
+  const named = { [Symbol.toStringTag]: 'ArrayBuffer', byteLength: 1 };
+  yield ['what only has the name of one', tried(() => new TextDecoder().decode(named)), 'TypeError'];
+  const long = new ArrayBuffer(100_000, { maxByteLength: 200_000 });
+  new Uint8Array(long).fill(0xFF);
+  const growing = new TextDecoder('utf-8', { malformed: () => long.resize(200_000) });
+  yield ['a buffer that grows meanwhile', growing.decode(long).length, 100_000];
 }
 
 function* encoders() {
@@ -87,6 +97,10 @@ function* encoders() {
   yield ['a long text', [long.length, found.length, found.at(-1)], [450_000, 50_000, 99_999]];
   yield ['the same with no callback', hexOf(new TextEncoder('euc-jp').encode(text)) === hexOf(long), true];
   yield ['fatal', tried(() => new TextEncoder('shift_jis', { fatal: true }).encode('é')), 'TypeError'];
+  const state = new TextEncoder('iso-2022-jp');
+  const begun = hexOf(state.encode('日', { stream: true }));
+  yield ['input that is no string', tried(() => state.encode(Symbol('s'), { stream: true })), 'TypeError'];
+  yield ['it changes nothing', [begun, hexOf(state.encode('本'))], ['1B 24 42 46 7C', '4B 5C 1B 28 42']];
   yield ['half of a pair', hexOf(new TextEncoder('utf-8').encode('a\uD83D')), '61 EF BF BD'];
   for (const options of [{}, { unmappable() {} }]) {
     const into = new Uint8Array(12), encoder = new TextEncoder('shift_jis', options);
