@@ -107,7 +107,7 @@ def faults_of_rust():
 
 
 def faults_of_pages():
-    """What the module for pages calls beside the exports, and the numbers that it has otherwise."""
+    """The calls of the module for pages that are no exports, and its numbers that are not theirs."""
     text, known = read(FOR_PAGES), {name.replace("NO_ENCODING", "NONE"): value for name, value in numbers()}
     calls = set(re.findall(r"\bencoding_c_\w+", text)) - {name for name, _, _ in exports()}
     own = [it for it in re.findall(r"\b([A-Z_]+) = (\d+)[,;]", text) if known.get(it[0], it[1]) != it[1]]

@@ -131,7 +131,7 @@ class Library {
     }
   }
 
-  // Writes U+FFFD for a malformed sequence, after which so many bytes are read.
+  // Writes U+FFFD for a malformed sequence of `length` bytes, which lies before the last `after` bytes read.
   replace(run, length, after) {
     run.found.push([run.read - after - length, length, run.text.length + run.filled]);
     this.units[run.filled++] = 0xFFFD;

@@ -36,7 +36,7 @@ from surface import FOR_CALLERS, NOT_READ, libraries
 
 HERE = os.path.dirname(os.path.abspath(__file__))
 FOLDER = f"{TOP}/out/reference"
-# What the site needs of Debian's Python, with its packages.
+# The modules that the site needs of Debian's Python, with their packages.
 SPHINX = {"sphinx": "python3-sphinx", "myst_parser": "python3-myst-parser", "furo": "furo"}
 CONFIGURATION = """
 import sys

@@ -195,27 +195,27 @@ class View {
   }
 
   async #save() {
-    const encoding = this.#saving.value, text = this.#text, { name, size } = text.file;
+    const encoding = this.#saving.value, text = this.#text, label = this.#label, { name, size } = text.file;
     const progress = (end) => { this.#work.share = end / Math.max(1, size); };
     const encode = (signal) => encoded(text, encoding, progress, signal);
     const made = await this.#guarded(() => this.#work.run(`Encoding into ${encoding}`, encode))();
-    if (text !== this.#text || made?.length === 0) return; // another is open, or there was a fault
+    if (text !== this.#text || Array.isArray(made)) return; // another is open, or there was a fault
     if (!made || made.unmappable > 0 && !await confirmed(made, encoding)) {
       say('Nothing is saved.');
       return;
     }
     save(made.blob, name);
-    say([`Saved ${name} as ${encoding}: ${counted(made.blob.size, 'byte')}.`, ...this.#notes(encoding)].join(' '));
+    const saved = `Saved ${name} as ${encoding}: ${counted(made.blob.size, 'byte')}.`;
+    say([saved, ...notesOn(text, label, encoding)].join(' '));
   }
+}
 
-  // Notes on a text that is saved: its U+FFFD, and a label in it that names another encoding.
-  #notes(encoding) {
-    const notes = [], { malformed } = this.#text;
-    if (malformed) notes.push(`${counted(malformed, 'malformed sequence')} became U+FFFD.`);
-    const label = this.#label;
-    if (label && encodingForLabel(label) !== encoding) notes.push(`The text still declares “${label}”.`);
-    return notes;
-  }
+// Notes on a text that is saved in an encoding: its U+FFFD, and a label in it that names another encoding.
+function notesOn({ malformed }, label, encoding) {
+  const notes = [];
+  if (malformed) notes.push(`${counted(malformed, 'malformed sequence')} became U+FFFD.`);
+  if (label && encodingForLabel(label) !== encoding) notes.push(`The text still declares “${label}”.`);
+  return notes;
 }
 
 // Shows the unmappable characters, and asks whether the text is to be saved with references.
