@@ -55,6 +55,17 @@ def bare(path):
     return re.sub(r"^ *(?:///|//!)? *", "", read(path), flags=re.M)
 
 
+def misnumbered():
+    """The records of docs/DECISIONS.md that don't stand in the order of their numbers, or in no theme."""
+    themes, records = read("docs/DECISIONS.md").split("\n## Records\n")
+    numbers = [int(it) for it in re.findall(r"^(\d+)\. \*\*", records, re.M)]
+    found = [f"{it} stands where {at} should" for at, it in enumerate(numbers, 1) if it != at]
+    spans = re.findall(r"(\d+)(?: to (\d+))?(?=,|$)", themes, re.M)
+    listed = {it for first, last in spans for it in range(int(first), int(last or first) + 1)}
+    found += [f"no theme has {it}" for it in sorted({*numbers} ^ listed)]
+    return [f"docs/DECISIONS.md: {it}" for it in found]
+
+
 def untested_code():
     """The code in the documentation of crates that no test and no example has."""
     examples = "".join(bare(it) for pattern in EXAMPLES for it in paths(pattern))
