@@ -12,7 +12,6 @@ import types
 import calls
 import corpora
 from clients_of_rust import PACKAGE, environment, ripgreps
-from common import TOP
 from programs import CACHE, build_peer
 
 # The word that ripgrep looks for: it is in the text of each language, and ASCII.

@@ -9,8 +9,6 @@ from lists import encodings, label_of, lists
 LIST = "data/texts.txt"
 ENGLISH = "The quick brown fox jumps over the lazy dog, 1234567890 times."
 ASCII = {chr(it): bytes([it]) for it in range(0x80)}
-# Python's codec of ISO-2022-JP has symbols that the Encoding Standard has at other code points, as cp932 does.
-ALSO = {"iso-2022-jp": "cp932"}
 
 
 class Text(NamedTuple):
@@ -41,12 +39,3 @@ for pairs in lists().pairs:
 
 def encode(label, text):
     return b"".join(BYTES[label][it] for it in text) if label in BYTES else text.encode(TEXTS[label].codec)
-
-
-def has(label, character):
-    """Whether an encoding has a character, and Python's codecs read it back."""
-    codecs = [] if label in BYTES else [TEXTS[label].codec, ALSO.get(label, TEXTS[label].codec)]
-    try:
-        return bool(encode(label, character)) and all(character.encode(it).decode(it) == character for it in codecs)
-    except (KeyError, UnicodeError):
-        return False

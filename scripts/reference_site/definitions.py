@@ -5,7 +5,7 @@ import re
 from dataclasses import dataclass, field
 
 from common import paths, read
-from sources import HEAD, headline
+from sources import HEAD
 from surface import libraries
 
 FIELD = re.compile(r"^ +(?:pub )?([^\s:({]+) :(?= |$)")
@@ -66,7 +66,3 @@ def head_of(path):
     """The comment that heads a spec file, but for what a script says of itself."""
     lines = re.match(r"(?:--.*\n)*", read(path))[0].splitlines()
     return re.sub(r"\n*Written by scripts/make-sources [^\n]*(?:\n[^\n]+)*", "", comment_of(lines)).strip()
-
-
-def is_headed(path):
-    return bool(headline(path))

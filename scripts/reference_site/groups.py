@@ -2,7 +2,6 @@
 
 import re
 
-TYPES = "Types"
 OTHERS = "Others"
 # Each group by the files of its functions and by their names.
 GROUPS = (

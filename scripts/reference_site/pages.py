@@ -36,10 +36,6 @@ def folded(title, content, number, opened=False):
     return f'<details class="fold"{" open" if opened else ""}>{summary}{content}</details>'
 
 
-def escaped_cells(text):
-    return text.replace("|", "&#124;")
-
-
 def trait_of(name, path):
     """The trait of a name in a file, or in another file of the crate."""
     name, files = name.split("::")[-1], [path, *files_of(path.split("/")[1])]

@@ -1,7 +1,6 @@
 """The items of the libraries: what they export, with signature, documentation, conditions and clauses."""
 
 import functools
-import os
 import re
 from dataclasses import dataclass, field
 
@@ -21,7 +20,6 @@ NOT_READ = []
 
 TYPE = re.compile(
     r"^(?P<vis>pub(?:\([a-z]+\))? )?(?P<kind>struct|enum|trait|type|const|static) (?P<name>\w+)", re.M)
-IMPL = re.compile(r"^(?:unsafe )?impl\b[^{\n]*\{\n", re.M)
 USE = re.compile(r"^(?P<pub>pub )?(?:pub\([a-z]+\) )?use (?P<tree>[^;]*);", re.M)
 MODULE = re.compile(r"^(pub )?mod (\w+);", re.M)
 MEMBER = re.compile(r"^    ghost (\w+): (\{.*?\});\n", re.M | re.S)
@@ -328,7 +326,3 @@ def head_comment(path):
     lines = re.match(r"(?://!.*\n)*", read(path))[0].splitlines()
     text = "\n".join(it[3:].removeprefix(" ") for it in lines)
     return re.sub(r"\n*Written by scripts/make-sources [^\n]*(?:\n[^\n]+)*", "", text).strip()
-
-
-def name_of_file(path):
-    return os.path.basename(path).split(".")[0]
