@@ -147,12 +147,17 @@ class Claims:
                     self.wrong += [f"{it} of {function} has no {name}" for name in sorted(lacking)]
 
 
-def unknown(text):
-    """The names in a text that no source and no spec has, and no crate."""
+@functools.cache
+def words():
+    """What can be named: crates, and the words of sources and specs."""
     files = paths("crates/*/src/**/*.rt") + paths("crates/*/specs/*.antt")
-    known = set(crates()).union(*(re.findall(r"\w+", read(it)) for it in files))
-    names = re.findall(r"`([A-Za-z_]\w*(?:::\w+)*)`", text)
-    return [it for it in dict.fromkeys(names) if not known.issuperset(it.split("::"))]
+    return set(crates()).union(*(re.findall(r"\w+", read(it)) for it in files))
+
+
+def unknown(text, more=frozenset()):
+    """The names in a text that nothing has: words in backticks, with `::`, dots, dashes or blanks between."""
+    known, names = words() | more, re.findall(r"`([A-Za-z_]\w*(?:(?:::|[. -])\w+)*)`", text)
+    return [it for it in dict.fromkeys(names) if not known.issuperset(re.findall(r"\w+", it))]
 
 
 def out_of_date():

@@ -3,6 +3,7 @@
 import os
 import re
 
+import claims
 from common import crates, paths, read
 from edit_list import file_of_test
 
@@ -12,6 +13,10 @@ BELOW = re.compile(r"\b((?:enc|recode|example|test)\w*/(?:src|specs|proofs|must-
 # Code that is shown, and the sources that have it: tests, examples and their proofs.
 CODE = re.compile(r"^```(?:rust|antt)\n(.*?)^```$", re.M | re.S)
 EXAMPLES = ("crates/test_*/src/doc_examples.rt", "crates/example_*/src/*.rt", "crates/example_*/proofs/**/*.antt")
+# The documents whose names have to be those of sources, beside docs/PROVED.md.
+NAMING = ("ARCHITECTURE.md", "docs/PROOFS.md", "docs/STANDARD.md")
+# A line of a walk: a file, and the functions in it.
+PLACED = re.compile(r"^(\w+/src/[\w/]+\.rt) +([\w, ]+)$", re.M)
 # What stands for any name.
 ANY = re.compile(r"NAME|Name|WHAT|\bname(?![a-z])")
 
@@ -72,6 +77,16 @@ def untested_code():
     documents = paths("crates/*/src/**/*.rt") + paths("crates/*/CALLING.md")
     shown = [(it, code) for it in documents for code in CODE.findall(bare(it))]
     return [f"{it}: no example has: {code.splitlines()[0]}" for it, code in shown if code not in examples]
+
+
+def unknown_names():
+    """The names in documents that no source, no spec and no proof has, and the functions of walks that are elsewhere."""
+    proofs = paths("crates/*/proofs/**/*.antt")
+    words = {os.path.basename(it)[:-5] for it in proofs}.union(*(re.findall(r"\w+", read(it)) for it in proofs))
+    found = [f"{it}: nothing is named {name}" for it in NAMING for name in claims.unknown(read(it), words)]
+    placed = [(path, name) for path, names in PLACED.findall(read(NAMING[0])) for name in names.split(", ")]
+    return found + [f"{NAMING[0]}: no {name} in crates/{path}" for path, name in placed
+                    if f"fn {name}" not in re.findall(r"\bfn \w+", read(f"crates/{path}"))]
 
 
 def crates_without_an_item():
