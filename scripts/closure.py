@@ -158,11 +158,10 @@ def listed():
     """The list of docs/VERIFY.md: of each part the files with their definitions, lowest crate first, code last."""
     said, order = "", list(crates())
     for part, items in parts().items():
-        lines, types = size(items)
-        said += item(f"{part}: {lines} lines{f', and {types} of types' if types else ''}")
+        said += item(part)
         files = dict.fromkeys(it.path for it in items)
         for path in sorted(files, key=lambda path: (path.endswith(".rt"), order.index(path.split("/")[1]))):
             those = [it for it in items if it.path == path]
-            link = f"[{os.path.basename(path).removesuffix('.antt')}](../{path}), {sum(it.lines for it in those)} lines"
+            link = f"[{os.path.basename(path).removesuffix('.antt')}](../{path})"
             said += item(f"{link}: {', '.join(f'`{it.name}`' for it in those)}", 1)
     return said
