@@ -8,7 +8,7 @@ type Bytes = ArrayBufferView | ArrayBuffer | SharedArrayBuffer;
  */
 export function load(source?: URL | string | BufferSource | WebAssembly.Module): Promise<void>;
 
-/** The names of all 40 encodings, in the order of the standard's table (4.2). */
+/** The names of all encodings, in the order of the standard's table (4.2). */
 export function encodings(): string[];
 
 /** The name of the encoding that a label names (4.2, "get an encoding"), or null. */
