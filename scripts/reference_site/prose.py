@@ -109,8 +109,10 @@ class Prose:
                 self.dead.append(f"{document}: {match['picture']}")
             return f'<img class="picture" src="{at}" alt="{html.escape(match["alt"])}">'
         if target := match["target"]:
-            is_address = "://" in target or target.startswith("#")
-            at = target if is_address else self.file_address(os.path.join(folder, target), page)
+            path, *anchor = re.split("(?=#)", target)
+            is_address = "://" in target or not path
+            at = target if is_address else self.file_address(os.path.join(folder, path), page)
+            at = at and at + "".join(anchor) * (not is_address)
             if not at:
                 self.dead.append(f"{document}: {target}")
             self.links += 1
