@@ -78,7 +78,7 @@ def of_theorem():
     whole = [*map(sum, zip(*(size for part, size in sizes.items() if part != "labels")))]
     less = [of_all - of_run for of_all, of_run in zip(whole, sizes["clause `run`"])]
     every = {"under `decode_run`": whole, "the same without clause `run`": less, **sizes,
-             "under `encode_run`, of which some are in the list": closure.sizes_under(closure.ENCODE_RUN, "encode_run")}
+             "under `encode_run`, some of them in the list": closure.sizes_under(closure.ENCODE_RUN, "encode_run")}
     return "".join(item(f"{part}: {lines} lines{f', and {types} of types' if types else ''}")
                    for part, (lines, types) in every.items())
 

@@ -79,11 +79,17 @@ def untested_code():
     return [f"{it}: no example has: {code.splitlines()[0]}" for it, code in shown if code not in examples]
 
 
+def pictured(text):
+    """A document in which the names of pictures, those with `_` or a capital within, are in backticks too."""
+    names = re.findall(r"[A-Za-z]\w*(?:_|[a-z](?=[A-Z]))\w*[a-z0-9]", "".join(re.findall(r"```text\n(.*?)```", text, re.S)))
+    return text + "".join(f"`{it}`" for it in names)
+
+
 def unknown_names():
     """The names in documents that no source, no spec and no proof has, and the functions of walks that are elsewhere."""
     proofs = paths("crates/*/proofs/**/*.antt")
     words = {os.path.basename(it)[:-5] for it in proofs}.union(*(re.findall(r"\w+", read(it)) for it in proofs))
-    found = [f"{it}: nothing is named {name}" for it in NAMING for name in claims.unknown(read(it), words)]
+    found = [f"{it}: nothing is named {name}" for it in NAMING for name in claims.unknown(pictured(read(it)), words)]
     placed = [(path, name) for path, names in PLACED.findall(read(NAMING[0])) for name in names.split(", ")]
     return found + [f"{NAMING[0]}: no {name} in crates/{path}" for path, name in placed
                     if f"fn {name}" not in re.findall(r"\bfn \w+", read(f"crates/{path}"))]
