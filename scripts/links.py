@@ -12,6 +12,7 @@ ROOTS = ("crates/", "docs/", "scripts/", "data/", "bench/", "bindings/", "comple
 BELOW = re.compile(r"\b((?:enc|recode|example|test)\w*/(?:src|specs|proofs|must-fail|edits|equal)/[\w./-]*\w)")
 # Code that is shown, and the sources that have it: tests, examples and their proofs.
 CODE = re.compile(r"^```(?:rust|antt)\n(.*?)^```$", re.M | re.S)
+ANY_CODE = re.compile(r"^```.*?^```$", re.M | re.S)
 EXAMPLES = ("crates/test_*/src/doc_examples.rt", "crates/example_*/src/*.rt", "crates/example_*/proofs/**/*.antt")
 # The documents whose names have to be those of sources, beside docs/PROVED.md.
 NAMING = ("ARCHITECTURE.md", "docs/PROOFS.md", "docs/STANDARD.md")
@@ -35,10 +36,26 @@ def documents():
     return sorted(paths("*.md") + paths("*/*.md") + paths("crates/*/*.md"))
 
 
-def wide_rows():
-    """The rows of tables that are wider than an editor shows: 160 columns."""
-    rows = [(it, *row) for it in documents() for row in enumerate(read(it).splitlines(), 1)]
-    return [f"{it}:{at}: a row of more than 160 columns" for it, at, row in rows if re.match(r"\|.{160}", row)]
+def wide_lines():
+    """The rows of tables that have more than 160 columns, and the lines outside code that have more than 120."""
+    found = []
+    for it in (it for it in documents() if not it.startswith("crates/")):
+        text = ANY_CODE.sub(lambda code: "\n" * code[0].count("\n"), read(it))
+        lines = enumerate(text.splitlines(), 1)
+        found += [f"{it}:{at}: too many columns" for at, line in lines if re.match(r"\|.{160}|(?!\|).{121}", line)]
+    return found
+
+
+def anchors(document):
+    """The anchors of the headings of a document."""
+    return {re.sub(r"[^\w -]", "", it.lower()).replace(" ", "-") for it in re.findall(r"^#+ (.*)$", read(document), re.M)}
+
+
+def dead_anchors():
+    """The headings that links of documents lead to and that are not there."""
+    linked = [(it, *link) for it in documents() for link in re.findall(r"\]\(([\w./-]*\.md)?#([\w-]+)\)", read(it))]
+    linked = [(it, os.path.join(os.path.dirname(it), path) if path else it, anchor) for it, path, anchor in linked]
+    return [f"{it}: {path} has no heading {anchor}" for it, path, anchor in linked if anchor not in anchors(path)]
 
 
 def dead_paths():
