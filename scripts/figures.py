@@ -49,6 +49,7 @@ def of_tree():
     single, calls = sum("/must-fail/" in it.path for it in edits), sum(bool(it.call) for it in edits)
     shown, equal = sum(bool(it.shown) for it in edits), sum(len(equal_of(it)) for it in crates())
     files = rows.files_of([])
+    count = sum(bool(row.name) for it in files for row in rows.rows_of(it))
     codecs, by_crate = sum(len(it.codecs) for it in decoders()), {it: len(those) for it, those in every.items()}
     clauses = [len(it.clauses) for it in claims.functions() if it.clauses]
     by_hand = [it for it in paths("crates/*/src/**/*.rt") if not is_written(it) and not is_of_tests(it)]
@@ -68,7 +69,7 @@ def of_tree():
         ("shown by a run", shown,
          f"{len(edits) - shown} edits say why no run shows them; {equal} changes in `equal/` mean the same"),
         ("tests", sum(tests.values()), f"{listed(tests)}; the crates of tests have {lines_in('src', True)[0]} lines"),
-        ("rows of conformance", sum(bool(it.name) for file in files for it in rows.rows_of(file)), f"{len(files)} files"),
+        ("rows of conformance", count, f"{len(files)} files"),
     ])
 
 

@@ -48,7 +48,8 @@ def wide_lines():
 
 def anchors(document):
     """The anchors of the headings of a document."""
-    return {re.sub(r"[^\w -]", "", it.lower()).replace(" ", "-") for it in re.findall(r"^#+ (.*)$", read(document), re.M)}
+    headings = re.findall(r"^#+ (.*)$", read(document), re.M)
+    return {re.sub(r"[^\w -]", "", it.lower()).replace(" ", "-") for it in headings}
 
 
 def dead_anchors():
@@ -98,12 +99,12 @@ def untested_code():
 
 def pictured(text):
     """A document in which the names of pictures, those with `_` or a capital within, are in backticks too."""
-    names = re.findall(r"[A-Za-z]\w*(?:_|[a-z](?=[A-Z]))\w*[a-z0-9]", "".join(re.findall(r"```text\n(.*?)```", text, re.S)))
-    return text + "".join(f"`{it}`" for it in names)
+    pictures = " ".join(re.findall(r"```text\n(.*?)```", text, re.S))
+    return text + re.sub(r"([A-Za-z]\w*(?:_|[a-z](?=[A-Z]))\w*[a-z0-9])", r"`\1`", pictures)
 
 
 def unknown_names():
-    """The names in documents that no source, no spec and no proof has, and the functions of walks that are elsewhere."""
+    """The names in documents that no source, spec or proof has, and the functions of walks that are elsewhere."""
     proofs = paths("crates/*/proofs/**/*.antt")
     words = {os.path.basename(it)[:-5] for it in proofs}.union(*(re.findall(r"\w+", read(it)) for it in proofs))
     found = [f"{it}: nothing is named {name}" for it in NAMING for name in claims.unknown(pictured(read(it)), words)]
