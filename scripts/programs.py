@@ -57,32 +57,29 @@ def field(folder, name):
     return re.search(f"^{name}: (.*)$", read(f"{folder}/control"), re.M)[1]
 
 
-def install(command, package):
-    """Installs what holds a command, if the command is missing."""
-    for step in (f"apt-get install -y {package}", f"apt-get update && apt-get install -y {package}"):
-        if not shutil.which(command):
-            run(step, shell=True)
-    if not shutil.which(command):
-        give_up(f"lacks {command}, and apt-get could not install {package}")
-
-
-def lacking(modules, files):
-    """The packages of modules of Debian's Python and of files that are missing."""
+def lacking(modules, others):
+    """The packages of modules of Debian's Python, and of files and commands, that are missing."""
     look = "import importlib.util as it, sys; print(*(name for name in sys.argv[1:] if not it.find_spec(name)))"
     python = "/usr/bin/python3"
     missing = run_quietly([python, "-c", look, *modules]).split() if os.access(python, os.X_OK) else [*modules]
-    return [modules[it] for it in missing] + [files[it] for it in files if not os.path.exists(it)]
+    return [modules[it] for it in missing] + [
+        others[it] for it in others if not (os.path.exists(it) if "/" in it else shutil.which(it))]
 
 
-def install_all(modules, files):
-    """Installs Debian's packages, by sudo or as root, where a module or a file is missing."""
+def install(command, package):
+    """Installs what holds a command, if the command is missing."""
+    install_all({}, {command: package})
+
+
+def install_all(modules, others):
+    """Installs Debian's packages, by sudo or as root, where a module, a file or a command is missing."""
     sudo = ["sudo", "-n"] if os.geteuid() and shutil.which("sudo") else []
     for updates in (False, True):
-        if packages := lacking(modules, files):
+        if packages := lacking(modules, others):
             if updates:
                 run([*sudo, "apt-get", "update"])
             run([*sudo, "apt-get", "install", "-y", "--no-install-recommends", *packages])
-    if packages := lacking(modules, files):
+    if packages := lacking(modules, others):
         give_up(f"lacks {', '.join(packages)}, and apt-get could not install that")
 
 
