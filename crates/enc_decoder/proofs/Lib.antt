@@ -24,7 +24,6 @@ pub mod LeavesLemmas
 pub mod StateLeavesLemmas
 pub mod SettledCallLemmas
 pub mod TwoCallsLemmas
-pub mod DroppedPrefixLemmas
 pub mod OutputStageLemmas
 pub mod TakenRunLemmas
 pub mod EventLeavesLemmas

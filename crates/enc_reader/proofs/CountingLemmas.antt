@@ -1,24 +1,25 @@
 -- The count of the bytes given, and the malformed sequences passed, over several steps.
 use Rattle.std.proofs.Common.{◌≡◌, ℕ, ◌+◌, ◌-◌, ◌^◌, ◌≤◌, min, Bool, true, false, List, [], ◌++◌, length}
-use Rattle.std.proofs.Common.{take, drop}
-use Rattle.std.proofs.Common.{Option, refl, ap, ◌∙◌, sym, arith, append-nil, length-append, nat_eq, ◌||◌}
+use Rattle.std.proofs.Common.{take, drop, Option, None, inl, inr, refl, ap, ◌∙◌, sym, arith, append-nil, length-append}
+use Rattle.std.proofs.Common.{nat_eq, ◌||◌}
 use Rattle.std.proofs.Math.ListN.{length-drop}
 use Rattle.std.proofs.lemmas.List.{length-take}
 use Rattle.enc_decoder.specs.Sequence.{sequence_bytes}
-use Rattle.enc_decoder.proofs.SegmentationLemmas.{all_bytes}
+use Rattle.enc_decoder.specs.Segmentation.{sequences_of}
+use Rattle.enc_decoder.specs.Remainder.{IsUndetermined}
+use Rattle.enc_decoder.proofs.FirstSequenceLemmas.{true_or_false}
+use Rattle.enc_decoder.proofs.SegmentationLemmas.{sequences_of-nil}
 use Rattle.enc_decoder.proofs.SequenceLemmas.{sequence_bytes-append}
 use Rattle.enc_stream.specs.declared.encoding.Encoding.{Encoding}
 use Rattle.enc_stream.specs.declared.bom.BomHandling.{BomHandling}
 use Rattle.enc_stream.specs.Encodings.{rule_of}
-use Rattle.enc_stream.specs.Bom.{find_mark, marks_looked_for, sequences_by_mark}
-use Rattle.enc_stream.specs.LifeCycle.{Phase, InFront, Within, Ended, phase_of, mark_bytes, sequences_in}
-use Rattle.enc_decoder.specs.Remainder.{IsUndetermined}
-use Rattle.enc_stream.specs.Decoding.{DecoderState, has_finished, remaining_sequences, whole_sequences}
-use Rattle.enc_stream.proofs.RemainingRuleLemmas.{by_rule, none_without_bytes}
-use Rattle.enc_stream.specs.Faults.{faults_from, whole_faults, whole_start}
-use Rattle.enc_stream.proofs.FoundMarkLemmas.{found_is}
-use Rattle.enc_stream.proofs.WholeInputLemmas.{joined, joined_by}
-use Rattle.enc_stream.proofs.EndOfInputLemmas.{fresh_sequences}
+use Rattle.enc_stream.specs.Bom.{find_mark, marks_looked_for}
+use Rattle.enc_stream.specs.Decoding.{DecoderState, has_finished, remaining_sequences}
+use Rattle.enc_stream.specs.Faults.{faults_from, whole_faults}
+use Rattle.enc_stream.proofs.FoundMarkLemmas.{looked_for_have}
+use Rattle.enc_stream.proofs.RemainingRuleLemmas.{unmarked_remaining}
+use Rattle.enc_stream.proofs.WholeInputLemmas.{joined, remaining_bytes}
+use Rattle.enc_stream.proofs.EndOfInputLemmas.{none_left}
 use Rattle.enc_stream.proofs.FaultLemmas.{no_faults, faults-append}
 use Rattle.enc_reader.specs.Source.{ConsumesRemaining, IsExhausted}
 use Rattle.enc_reader.specs.Reading.{ReaderState, ReadsOwed, HandsOut, fresh_reader, owed_sequences}
@@ -30,45 +31,40 @@ use Rattle.enc_reader.proofs.ReadingLemmas.{PullsChunk-after}
 
 -- The sequences owed are made of bytes pending, unread and still to come.
 
-in_phase : (p : Phase) (e : Encoding) (set : ℕ) (bytes : List ℕ)
-    → length (sequence_bytes (sequences_in p e set bytes)) ≤ length bytes
-in_phase (InFront looked_for) e set bytes =
-    let found = find_mark looked_for bytes in
-    omega (
-      arith,
-      ap length (joined_by found e bytes (found_is looked_for bytes)),
-      length-append (mark_bytes found) (sequence_bytes (sequences_by_mark found e bytes)),
-    )
-in_phase Within e set bytes = omega (arith, ap length (all_bytes (rule_of e) set bytes))
-in_phase Ended e set bytes = omega arith
-
 owed_bytes : (s : ReaderState) (z : List ℕ) → length (sequence_bytes (owed_sequences s z))
     ≤ length s.unread + length s.decoder.pending + length z
-owed_bytes s z = omega (
-  arith,
-  in_phase (phase_of s.decoder.life) s.decoder.encoding s.decoder.set
-      (s.decoder.pending ++ (s.unread ++ z)),
-  length-append s.decoder.pending (s.unread ++ z),
-  length-append s.unread z,
-)
+owed_bytes s z = elim (true_or_false (has_finished s.decoder)) [
+  | inl finished ↦ omega (
+    arith,
+    ap (λ ss. length (sequence_bytes ss)) (none_left s.decoder (s.unread ++ z) finished),
+  )
+  | inr going ↦ omega (
+    arith,
+    ap length (remaining_bytes s.decoder (s.unread ++ z) going),
+    length-append s.decoder.pending (s.unread ++ z),
+    length-append s.unread z,
+  )
+]
 
 -- A decoder without pending bytes has no sequence to put out.
-pub nothing_remains : (d : DecoderState) → d.pending ≡ [] → remaining_sequences d [] ≡ []
-nothing_remains d none_pending =
-    let by_its_rule = by_rule (λ _. Unit {0}) tt tt tt d [] tt in
-    none_without_bytes by_its_rule.rule by_its_rule.set by_its_rule.bytes (remaining_sequences d [])
-    [] (sym by_its_rule.same ∙ sym (append-nil (remaining_sequences d [])))
-    (omega (
-      arith,
-      owed_bytes (record { decoder = d; unread = []; ended = false }) [],
-      ap length none_pending,
-    ))
+nothing_remains : (d : DecoderState) → d.pending ≡ [] → find_mark d.marks [] ≡ None
+    → remaining_sequences d [] ≡ []
+nothing_remains d none_pending unmarked = elim (true_or_false (has_finished d)) [
+  | inl finished ↦ none_left d [] finished
+  | inr going ↦ unmarked_remaining d [] going (rw none_pending unmarked)
+      ∙ ap (λ x. sequences_of (rule_of d.encoding) d.set (x ++ [])) none_pending
+      ∙ sequences_of-nil (rule_of d.encoding) d.set
+]
 
-pub nothing_undetermined : (d : DecoderState) → d.pending ≡ []
+pub nothing_undetermined : (d : DecoderState) → d.pending ≡ [] → find_mark d.marks [] ≡ None
     → IsUndetermined (remaining_sequences d)
-nothing_undetermined d none_pending next determined =
+nothing_undetermined d none_pending unmarked next determined =
     let first = determined [] tt in
-    let is = sym (nothing_remains d none_pending) ∙ first.1 in cc
+    let is = sym (nothing_remains d none_pending unmarked) ∙ first.1 in cc
+
+pub none_found_at_start : (handling : BomHandling) (e : Encoding)
+    → find_mark (marks_looked_for handling e) [] ≡ None
+none_found_at_start = looked_for_have (λ marks. find_mark marks [] ≡ None) refl refl refl refl refl
 
 -- The faults passed are those of the sequences done.
 module _ {k₀ k₁ : Option (List ℕ)} {old new : ReaderState} {bytes wrote : List ℕ}
@@ -169,16 +165,9 @@ HasGiven-fresh handling e = record { counted = refl; among = omega arith }
 pub fresh_faults : (handling : BomHandling) (e : Encoding) (z : List ℕ)
     → owed_faults 0 (fresh_reader handling e) z ≡ whole_faults handling e z
 fresh_faults handling e z =
-    let mark = mark_bytes (find_mark (marks_looked_for handling e) z) in
     let start : 0 + length z - length (sequence_bytes (owed_sequences (fresh_reader handling e) z))
-    ≡ whole_start handling e z = omega (
-      arith,
-      ap length (joined handling e z),
-      length-append mark (sequence_bytes (whole_sequences handling e z)),
-      ap (λ ss. length (sequence_bytes ss)) (fresh_sequences handling e z),
-    ) in
+    ≡ 0 = omega (arith, ap length (joined handling e z)) in
     ap (λ n. faults_from n (owed_sequences (fresh_reader handling e) z)) start
-    ∙ ap (faults_from (whole_start handling e z)) (sym (fresh_sequences handling e z))
 
 -- a chunk that is pulled, by places in the buffer
 module _ {t₀ t₁ : Option (List ℕ)} {d : DecoderState} {ended : Bool} {xs : List ℕ} {n₀ n₁ : ℕ}

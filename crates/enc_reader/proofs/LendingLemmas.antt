@@ -14,12 +14,13 @@ use Rattle.enc_decoder_utf.specs.Utf8.{utf_8_rule, is_incomplete_sequence}
 use Rattle.enc_decoder_utf.proofs.Utf8Undetermined.{undetermined, incomplete_begun}
 use Rattle.enc_stream.specs.declared.constants.TheConstants.{UTF_8}
 use Rattle.enc_decoder.proofs.SequenceLemmas.{or_false}
-use Rattle.enc_stream.specs.LifeCycle.{phase_of, mark_in, encoding_of_mark_or, sequences_in}
+use Rattle.enc_stream.specs.Bom.{find_mark, encoding_of_mark_or}
 use Rattle.enc_stream.specs.Encodings.{rule_of}
-use Rattle.enc_stream.specs.Decoding.{DecoderState, has_finished, has_ended, remaining_sequences}
+use Rattle.enc_stream.specs.Decoding.{DecoderState, has_finished, remaining_sequences}
 use Rattle.enc_stream.specs.Latin1.{DecoderMayBeLatin1}
 use Rattle.enc_stream.specs.OwnText.{AreTheirOwnText}
 use Rattle.enc_stream.proofs.PropertyLemmas.{shows_ascii_compatible}
+use Rattle.enc_stream.proofs.RemainingRuleLemmas.{unmarked_remaining}
 use Rattle.enc_stream.proofs.OwnTextLemmas.{HasOwnText, has_own_text, own, own_first, own_text, own_utf_8, own_valid}
 use Rattle.enc_reader.specs.Source.{IsExhausted}
 use Rattle.enc_reader.specs.Reading.{ReaderState, ReadsOwed, HandsOut, FailsToRead, owed_sequences}
@@ -46,16 +47,15 @@ module _ (d : DecoderState) (may_be_latin1 : DecoderMayBeLatin1 d) where
   pub between_sequences : (y : List ℕ)
       → remaining_sequences d y ≡ sequences_of (rule_of d.encoding) 0 y
   between_sequences y =
-      ap (λ l. sequences_in (phase_of l) d.encoding d.set (d.pending ++ y)) may_be_latin1.converting
+      unmarked_remaining d y may_be_latin1.going (rw may_be_latin1.no_mark refl)
       ∙ ap (λ p. sequences_of (rule_of d.encoding) d.set (p ++ y)) may_be_latin1.none_pending
       ∙ ap (λ s. sequences_of (rule_of d.encoding) s y) may_be_latin1.at_start
 
-  no_mark : (y : List ℕ) → encoding_of_mark_or (mark_in (phase_of d.life) y) d.encoding ≡ d.encoding
-  no_mark y = ap (λ l. encoding_of_mark_or (mark_in (phase_of l) y) d.encoding)
-      may_be_latin1.converting
+  no_mark : (y : List ℕ) → encoding_of_mark_or (find_mark d.marks y) d.encoding ≡ d.encoding
+  no_mark y = rw may_be_latin1.no_mark refl
 
   unfinished : has_finished d ≡ false
-  unfinished = ap has_ended may_be_latin1.converting
+  unfinished = may_be_latin1.going
 
 -- Unread bytes that are an incomplete sequence of UTF-8 determine nothing.
 pub incomplete_determines_none : (s : ReaderState) → DecoderMayBeLatin1 s.decoder

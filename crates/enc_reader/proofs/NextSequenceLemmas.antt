@@ -8,19 +8,18 @@ use Rattle.std.specs.Char.{encode_utf8}
 use Rattle.enc_units.specs.Output.{units_of_text}
 use Rattle.enc_units.specs.declared.decoder_result.DecoderResult.{DecoderResult}
 use Rattle.enc_units.specs.declared.decoder_result.DecoderResult.TheVariants.{InputEmpty, OutputFull, Malformed}
-use Rattle.enc_decoder.specs.Sequence.{Sequence, sequence_text}
+use Rattle.enc_decoder.specs.Sequence.{Sequence, sequence_text, any_malformed}
 use Rattle.enc_decoder.specs.Remainder.{AreBytes, AreFirstSequences, Determines, AreDetermined, IsUndetermined}
 use Rattle.enc_decoder.specs.CallRecord.{Call}
-use Rattle.enc_decoder.specs.RuleLaws.{ReplacesMalformed}
 use Rattle.enc_decoder.proofs.DeterminedLemmas.{determined_after}
 use Rattle.enc_decoder.proofs.RuleLemmas.{none_malformed}
 use Rattle.enc_decoder.proofs.SequenceLemmas.{sequence_text-append}
 use Rattle.enc_units.proofs.UnitsLemmas.{utf_8_determines}
 use Rattle.enc_stream.specs.Decoding.{DecoderState, DecodesChunk, remaining_sequences}
-use Rattle.enc_stream.specs.Bom.{utf_8_mark, utf_16be_mark, utf_16le_mark}
+use Rattle.enc_stream.specs.Encodings.{rule_of}
 use Rattle.enc_stream.proofs.EncodingLemmas.{replacements}
-use Rattle.enc_stream.proofs.RemainingRuleLemmas.{by_rule}
-use Rattle.enc_reader.specs.Reading.{ReaderState, ReadsOwed, NoneDetermined, NoTextDetermined}
+use Rattle.enc_stream.proofs.RemainingRuleLemmas.{remaining_have}
+use Rattle.enc_reader.specs.Reading.{ReaderState, ReadsOwed, NoneDetermined, NoTextDetermined, owed_sequences}
 use Rattle.enc_reader.specs.Turn.{IsWaiting}
 use Rattle.enc_reader.specs.Reporting.{lens_of_result}
 
@@ -238,12 +237,14 @@ no_text_before {a = a} {b = b} {bytes = bytes} reads none_given waiting ss deter
         ∙ ap (λ x. reads.done ++ remaining_sequences b.decoder (x ++ z)) waiting.unread
 
 -- Without a text nothing malformed is passed.
+abbrev NoneMalformedIfNoText : List Sequence → Type 0
+NoneMalformedIfNoText ss = sequence_text ss ≡ [] → any_malformed ss ≡ false
+
 pub unreplaced : {t₀ t₁ : Option (List ℕ)} {a b : ReaderState} {bytes : List ℕ} {m : Bool}
     → ReadsOwed t₀ t₁ a b bytes [] m → m ≡ false
-unreplaced {a = a} {bytes = bytes} reads =
-    let by_its_rule = by_rule ReplacesMalformed (replacements utf_8_mark.encoding)
-    (replacements utf_16be_mark.encoding) (replacements utf_16le_mark.encoding) a.decoder
-    (a.unread ++ (bytes ++ [])) (replacements a.decoder.encoding) in
+unreplaced {a = a} {b = b} {bytes = bytes} reads =
     reads.flag
-    ∙ none_malformed by_its_rule.rule by_its_rule.holds by_its_rule.set by_its_rule.bytes reads.done
-    _ (sym by_its_rule.same ∙ reads.residual [] (λ _. refl)) (no_text_handed reads)
+    ∙ remaining_have NoneMalformedIfNoText (λ no_text. refl)
+    (λ e set x. none_malformed (rule_of e) (replacements e) set x) (λ m ss none. none) a.decoder
+    (a.unread ++ (bytes ++ [])) reads.done (owed_sequences b [])
+    (reads.residual [] (λ _. refl)) (no_text_handed reads)

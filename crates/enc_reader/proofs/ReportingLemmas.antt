@@ -9,14 +9,12 @@ use Rattle.enc_units.specs.declared.decoder_result.DecoderResult.{DecoderResult}
 use Rattle.enc_units.specs.declared.decoder_result.DecoderResult.TheVariants.{InputEmpty, OutputFull, Malformed}
 use Rattle.enc_decoder.specs.Sequence.{sequence_bytes, any_malformed}
 use Rattle.enc_decoder.specs.Call.{Fatal}
-use Rattle.enc_decoder.proofs.InnerInputLemmas.{sequence_at_end}
 use Rattle.enc_decoder.proofs.SequenceLemmas.{sequence_bytes-one, scalars_of-one, units-one, any_malformed-one}
 use Rattle.enc_decoder.proofs.SequenceLemmas.{or_true}
-use Rattle.enc_stream.specs.LifeCycle.{Within, phase_of, life_after}
 use Rattle.enc_stream.specs.Decoding.{DecoderState, has_finished, DecodesChunk}
 use Rattle.enc_stream.specs.Faults.{faults_from}
 use Rattle.enc_stream.proofs.DecoderCallLemmas.{bytes_done}
-use Rattle.enc_stream.proofs.WholeEncodingLemmas.{within_after, within_bytes}
+use Rattle.enc_stream.proofs.WholeInputLemmas.{remaining_bytes}
 use Rattle.enc_stream.proofs.FaultLemmas.{no_faults, last_fault}
 use Rattle.enc_units.proofs.LengthLemmas.{lengths}
 use Rattle.enc_reader.specs.declared.decode_reader.reporting.MalformedLens.{MalformedLens}
@@ -77,20 +75,12 @@ module _ (before : ReaderState) {new : DecoderState} {room : ℕ} {result : Deco
       (reports_malformed (lens_of_result result))
   hands_out = hands_out_by result decodes
 
-  -- Once a sequence is done no byte order mark may come, so the bytes pending and unread are those
-  -- of the sequences owed.
+  -- The bytes pending and unread are those of the sequences owed.
   within_by : (l a : ℕ) (made : Made (Malformed l a)) (z : List ℕ)
       → length (sequence_bytes (owed_sequences after z))
       ≡ length new.pending + length after.unread + length z
   within_by l a made z =
-      let first = sequence_at_end made.call.put made.call.stops.next in
-      let is_within : phase_of new.life ≡ Within =
-      ap phase_of (made.life
-      ∙ ap (life_after before.decoder.life false
-      (before.decoder.pending ++ take read before.unread))
-      (made.call.stops.then_next ∙ first.2))
-      ∙ within_after _ first.0 first.1 in
-      omega (arith, ap length (within_bytes new (after.unread ++ z) is_within), lengths)
+      omega (arith, ap length (remaining_bytes new (after.unread ++ z) made.finished), lengths)
 
   module _ (given : ℕ) (among : length before.unread + length before.decoder.pending ≤ given)
       (z : List ℕ) (ends : after.ended ≡ true → z ≡ []) where

@@ -22,7 +22,6 @@ use Rattle.enc_decoder.specs.Remainder.{AreDetermined, IsUndetermined}
 use Rattle.enc_stream.proofs.WholeEncodingLemmas.{still_ahead}
 use Rattle.enc_stream.proofs.DecoderProgressLemmas.{nearer, ends_read}
 use Rattle.enc_stream.proofs.DecoderCallLemmas.{bytes_done, only_put}
-use Rattle.enc_stream.proofs.EndOfInputLemmas.{finishes}
 use Rattle.enc_stream.proofs.OutputFullLemmas.{four_bytes, some_written}
 use Rattle.enc_reader.specs.Reading.{ReaderState, ReadsOwed, FillsRoom}
 use Rattle.enc_reader.specs.Reading.{distance_to_end}
@@ -115,10 +114,10 @@ module _ (before : ReaderState) {new : DecoderState} {mode : DecodeErrorMode} {r
           unread = ap (λ n. drop n before.unread) at_empty.call.stops.all_read
               ∙ drop-length before.unread;
           undetermined =
-              let not_last = sym (finishes at_empty) ∙ going in
+              let not_last = sym at_empty.finished ∙ going in
               call_settles (unread_call before mode room InputEmpty read wrote replaced) at_empty
               not_last at_empty.call.stops.all_read (can_decode.some not_last);
-          not_ended = sym (finishes at_empty) ∙ going;
+          not_ended = sym at_empty.finished ∙ going;
           going = going;
         }
         by_result OutputFull at_full said =

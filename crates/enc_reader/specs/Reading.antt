@@ -9,7 +9,7 @@ use Rattle.enc_decoder.specs.Remainder.{AreDetermined}
 use Rattle.enc_stream.specs.declared.bom.BomHandling.{BomHandling}
 use Rattle.enc_stream.specs.declared.bom.BomHandling.TheVariants.{Sniff}
 use Rattle.enc_stream.specs.declared.encoding.Encoding.{Encoding}
-use Rattle.enc_stream.specs.LifeCycle.{phase_of, mark_in, encoding_of_mark_or}
+use Rattle.enc_stream.specs.Bom.{find_mark, encoding_of_mark_or}
 use Rattle.enc_stream.specs.Decoding.{DecoderState, has_finished, fresh_decoder, remaining_sequences}
 use Rattle.enc_reader.specs.Source.{ConsumesRemaining, IsExhausted}
 
@@ -43,7 +43,7 @@ AreNext s ss = AreDetermined s.ended (remaining_sequences s.decoder) s.unread ss
 abbrev pub NoneDetermined : ReaderState → Type 0
 NoneDetermined s = (next : Sequence) → AreNext s (next ∷ []) → ⊥
 
--- No text is determined: at most sequences without one, as escape sequences.
+-- No text is determined: at most sequences without one, as escape sequences and byte order marks.
 abbrev pub NoTextDetermined : ReaderState → Type 0
 NoTextDetermined s = (ss : List Sequence) → AreNext s ss → sequence_text ss ≡ []
 
@@ -57,7 +57,7 @@ FillsRoom room written s = (next : Sequence) → AreNext s (next ∷ [])
 -- come, or else the decoder's.
 abbrev pub owed_encoding : ReaderState → List ℕ → Encoding
 owed_encoding s z = encoding_of_mark_or
-    (mark_in (phase_of s.decoder.life) (s.decoder.pending ++ (s.unread ++ z))) s.decoder.encoding
+    (find_mark s.decoder.marks (s.decoder.pending ++ (s.unread ++ z))) s.decoder.encoding
 
 -- The distance of a reader from the end: two for each undecoded byte, one for each pending byte,
 -- and one for the end.

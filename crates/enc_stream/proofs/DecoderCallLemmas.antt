@@ -15,7 +15,7 @@ use Rattle.enc_units.proofs.LengthLemmas.{lengths}
 
 module _ {units_of : ℕ → List ℕ} {old new : DecoderState} (c : Call)
     (decodes : DecodesChunk units_of old new c) where
-  -- The bytes pending and read are those of a byte order mark, those done, and those pending then.
+  -- The bytes pending and read are those done, and those pending then.
   pub bytes_done : length (sequence_bytes decodes.call.done) + length new.pending
       ≤ length old.pending + c.read
   bytes_done = omega (arith, lengths, ap length decodes.accounted)

@@ -10,14 +10,13 @@ use Rattle.enc_decoder.proofs.FirstSequenceLemmas.{true_or_false}
 use Rattle.enc_stream.proofs.DecoderCallLemmas.{bytes_done}
 use Rattle.enc_stream.specs.Decoding.{DecodesChunk}
 use Rattle.enc_stream.proofs.OutputFullLemmas.{less_left}
-use Rattle.enc_stream.proofs.EndOfInputLemmas.{finishes}
 
 -- a call that came to the end has read everything
 pub ends_read : {units_of : ℕ → List ℕ} {old new : DecoderState} (c : Call)
     → DecodesChunk units_of old new c → has_finished new ≡ true
     → (c.last ≡ true) × (c.read ≡ length c.src)
 ends_read c decodes finished =
-    let ends = at_end c.last c.result (sym (finishes decodes) ∙ finished) in
+    let ends = at_end c.last c.result (sym decodes.finished ∙ finished) in
     let at_empty = rw ends.1 at decodes in (ends.0, at_empty.call.stops.all_read)
 
 -- Bytes unread count twice, and those pending once: where a call doesn't end the input, fewer are
@@ -33,7 +32,7 @@ nearer {units_of} takes {old} {new} c roomy decodes some = by_result c.result de
         → (has_finished new ≡ true)
         ⊎ (2 * (length c.src - c.read) + length new.pending < 2 * length c.src + length old.pending)
     by_result InputEmpty made = elim (true_or_false c.last) [
-      | inl is_last ↦ inl (finishes made ∙ is_last)
+      | inl is_last ↦ inl (made.finished ∙ is_last)
       | inr more ↦ inr (omega (
         arith,
         some more,

@@ -12,8 +12,9 @@ use Rattle.enc_stream.specs.Bom.{Mark, find_mark, marks_looked_for}
 use Rattle.enc_stream.specs.Decoding.{whole_sequences, whole_encoding}
 use Rattle.enc_stream.specs.Division.{ByteDivides}
 use Rattle.enc_stream.specs.Encodings.{rule_of}
+use Rattle.enc_stream.specs.Bom.{mark_sequences}
 use Rattle.enc_stream.specs.MarkLaws.{MayBeginMark, bytes_after_mark}
-use Rattle.enc_stream.proofs.FoundMarkLemmas.{EachMark, at_start, found_is, found_has, by_mark}
+use Rattle.enc_stream.proofs.FoundMarkLemmas.{EachMark, looked_for_have, found_is, found_has, by_mark}
 use Rattle.enc_stream.proofs.MarkFirstLemmas.{same_sequences}
 
 -- none of these bytes is an ASCII digit, or below
@@ -31,7 +32,7 @@ marks_are_high =
     (omega arith, (omega arith, (omega arith, tt))) in
     let big_endian : AreHigh (0xFE ∷ 0xFF ∷ []) = (omega arith, (omega arith, tt)) in
     let little_endian : AreHigh (0xFF ∷ 0xFE ∷ []) = (omega arith, (omega arith, tt)) in
-    at_start (λ life looked_for. EachMark HasHighBytes looked_for) tt
+    looked_for_have (EachMark HasHighBytes) tt
     (utf_8, (big_endian, (little_endian, tt))) (utf_8, tt) (big_endian, tt) (little_endian, tt)
 
 none_below : (bytes front rest : List ℕ) (c : ℕ) → AreHigh bytes → c < 0x30
@@ -99,10 +100,13 @@ module _ (handling : BomHandling) (e : Encoding) (c : ℕ) (low : c < 0x30) (fro
   first_part_divides divides back =
       let sequences = sequences_of (rule_of (whole_encoding handling e first)) 0 in
       let rest = bytes_after_mark found front in
+      let mark = mark_sequences found in
       ap (whole_sequences handling e) (sym (append_assoc front (c ∷ []) back))
       ∙ same_sequences (marks_looked_for handling e) e first back
       (none_goes_on (marks_looked_for handling e) front c high low)
-      ∙ ap sequences (ap (λ x. x ++ back) rest_is ∙ append_assoc rest (c ∷ []) back)
-      ∙ divides rest back
+      ∙ ap (λ ss. mark ++ ss)
+      (ap sequences (ap (λ x. x ++ back) rest_is ∙ append_assoc rest (c ∷ []) back)
+      ∙ divides rest back)
+      ∙ sym (append_assoc mark (sequences (rest ++ c ∷ [])) (sequences back))
       ∙ ap (λ (ss : List Sequence). ss ++ sequences back)
-      (ap sequences (sym rest_is) ∙ sym (by_mark found e first))
+      (ap (λ x. mark ++ sequences x) (sym rest_is) ∙ sym (by_mark found e first))

@@ -13,19 +13,17 @@ use Rattle.enc_names.specs.declared.encoding_id.EncodingId.TheVariants.{Utf8, Ut
 use Rattle.enc_stream.specs.declared.bom.BomHandling.{BomHandling}
 use Rattle.enc_stream.specs.declared.bom.BomHandling.TheVariants.{Off, Sniff, Remove}
 use Rattle.enc_stream.specs.declared.encoding.Encoding.{Encoding}
-use Rattle.enc_stream.specs.declared.life_cycle.LifeCycle.{LifeCycle}
-use Rattle.enc_stream.specs.declared.life_cycle.LifeCycle.TheVariants.{AtStart, AtUtf8Start, AtUtf16BeStart}
-use Rattle.enc_stream.specs.declared.life_cycle.LifeCycle.TheVariants.{AtUtf16LeStart, Converting}
 use Rattle.enc_stream.specs.Bom.{Mark, find_mark, marks, marks_of_encoding, marks_looked_for}
 use Rattle.enc_stream.specs.Bom.{utf_8_mark, utf_16be_mark, utf_16le_mark}
-use Rattle.enc_stream.specs.Decoding.{start_life, removal_start}
 use Rattle.std.proofs.Common.{sym}
 use Rattle.enc_stream.specs.Encodings.{rule_of}
-use Rattle.enc_stream.specs.Bom.{sequences_by_mark}
-use Rattle.enc_stream.specs.LifeCycle.{encoding_of_mark_or}
+use Rattle.enc_stream.specs.Bom.{sequences_by_mark, encoding_of_mark_or}
+use Rattle.enc_stream.specs.Bom.{mark_sequences}
 use Rattle.enc_stream.specs.MarkLaws.{bytes_after_mark}
 use Rattle.enc_decoder.specs.Segmentation.{sequences_of}
-use Rattle.std.proofs.Common.{None}
+use Rattle.enc_decoder.specs.Sequence.{sequence_bytes, sequence_text, any_malformed}
+use Rattle.enc_decoder.proofs.SegmentationLemmas.{all_bytes}
+use Rattle.std.proofs.Common.{None, ◌∙◌}
 
 -- these byte order marks all have a property
 abbrev pub EachMark : (Mark → Type 0) → List Mark → Type 0
@@ -77,25 +75,53 @@ pub found_fits : (looked_for : List Mark) (x : List ℕ) (m : Mark) → find_mar
     → length m.bytes ≤ length x
 found_fits looked_for x m found = start_fits m.bytes x (found_starts looked_for x m found)
 
--- What holds of each start of the life cycle, with the byte order marks that it looks for, holds of
--- that of each decoder.
-pub at_start : (Has : LifeCycle → List Mark → Type 0) → Has Converting [] → Has AtStart marks
-    → Has AtUtf8Start (utf_8_mark ∷ []) → Has AtUtf16BeStart (utf_16be_mark ∷ [])
-    → Has AtUtf16LeStart (utf_16le_mark ∷ []) → (handling : BomHandling) (e : Encoding)
-    → Has (start_life handling e.id) (marks_looked_for handling e)
-at_start Has off sniff utf_8 utf_16be utf_16le Off e = off
-at_start Has off sniff utf_8 utf_16be utf_16le Sniff e = sniff
-at_start Has off sniff utf_8 utf_16be utf_16le Remove e = by_id e.id
+-- What holds of each of these lists of byte order marks holds of those that a decoder looks for.
+pub looked_for_have : (Has : List Mark → Type 0) → Has [] → Has marks → Has (utf_8_mark ∷ [])
+    → Has (utf_16be_mark ∷ []) → Has (utf_16le_mark ∷ []) → (handling : BomHandling) (e : Encoding)
+    → Has (marks_looked_for handling e)
+looked_for_have Has none all utf_8 utf_16be utf_16le Off e = none
+looked_for_have Has none all utf_8 utf_16be utf_16le Sniff e = all
+looked_for_have Has none all utf_8 utf_16be utf_16le Remove e = by_id e.id
   where
-    by_id : (id : EncodingId) → Has (removal_start id) (marks_of_encoding id)
+    by_id : (id : EncodingId) → Has (marks_of_encoding id)
     by_id Utf8 = utf_8
     by_id Utf16be = utf_16be
     by_id Utf16le = utf_16le
-    by_id _ = off
+    by_id _ = none
 
--- The sequences after a mark, if there is one, are those of its encoding.
+-- The sequences: a mark, if there is one, and those of its encoding after it.
 pub by_mark : (found : Option Mark) (e : Encoding) (bytes : List ℕ)
-    → sequences_by_mark found e bytes
-    ≡ sequences_of (rule_of (encoding_of_mark_or found e)) 0 (bytes_after_mark found bytes)
+    → sequences_by_mark found e 0 bytes
+    ≡ mark_sequences found
+    ++ sequences_of (rule_of (encoding_of_mark_or found e)) 0 (bytes_after_mark found bytes)
 by_mark None e bytes = refl
 by_mark (Some m) e bytes = refl
+
+-- A mark has no text, and is not malformed.
+pub unmarked_text : (found : Option Mark) (e : Encoding) (bytes : List ℕ)
+    → sequence_text (sequences_by_mark found e 0 bytes)
+    ≡ sequence_text (sequences_of (rule_of (encoding_of_mark_or found e)) 0
+    (bytes_after_mark found bytes))
+unmarked_text None e bytes = refl
+unmarked_text (Some m) e bytes = refl
+
+pub unmarked_flag : (found : Option Mark) (e : Encoding) (bytes : List ℕ)
+    → any_malformed (sequences_by_mark found e 0 bytes)
+    ≡ any_malformed (sequences_of (rule_of (encoding_of_mark_or found e)) 0
+    (bytes_after_mark found bytes))
+unmarked_flag None e bytes = refl
+unmarked_flag (Some m) e bytes = refl
+
+-- Joined, they are the bytes.
+joined_by : (found : Option Mark) (e : Encoding) (set : ℕ) (x : List ℕ)
+    → ((m : Mark) → found ≡ Some m → m.bytes ++ drop (length m.bytes) x ≡ x)
+    → sequence_bytes (sequences_by_mark found e set x) ≡ x
+joined_by None e set x starts = all_bytes (rule_of e) set x
+joined_by (Some m) e set x starts =
+    ap (λ z. m.bytes ++ z) (all_bytes (rule_of m.encoding) 0 (drop (length m.bytes) x))
+    ∙ starts m refl
+
+pub joined_marked : (looked_for : List Mark) (e : Encoding) (set : ℕ) (x : List ℕ)
+    → sequence_bytes (sequences_by_mark (find_mark looked_for x) e set x) ≡ x
+joined_marked looked_for e set x =
+    joined_by (find_mark looked_for x) e set x (found_is looked_for x)

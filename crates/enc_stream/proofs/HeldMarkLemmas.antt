@@ -1,13 +1,12 @@
 -- A codec's call over the bytes held and the chunk, as a call of the decoder over the chunk.
-use Rattle.std.proofs.Common.{◌≡◌, ℕ, ◌+◌, ◌-◌, ◌<◌, ◌≤◌, zero, suc, Bool, true, false, ◌&&◌, eqb, List, [], ◌∷◌}
-use Rattle.std.proofs.Common.{◌++◌, length, take, drop, refl, ap, ◌∙◌, sym, arith, append_assoc, inl, inr, ◌⊎◌, None}
-use Rattle.std.proofs.lemmas.Bool.Decides.{nat_tests}
+use Rattle.std.proofs.Common.{◌≡◌, ℕ, ◌+◌, ◌-◌, ◌<◌, ◌≤◌, Bool, true, false, List, [], ◌∷◌}
+use Rattle.std.proofs.Common.{◌++◌, length, take, drop, refl, ap, ◌∙◌, sym, arith, append_assoc, inl, inr, ◌⊎◌}
+use Rattle.std.proofs.Common.{None}
 use Rattle.std.proofs.lemmas.List.{append-nil, length-append}
 use Rattle.std.proofs.Math.ListN.{drop_of_length-le}
-use Rattle.std.proofs.Math.Seq.{take-append-add, drop-append-add}
+use Rattle.std.proofs.Math.Seq.{take-append-add, drop-append-add, take-length}
 use Rattle.enc_stream.specs.declared.encoding.Encoding.{Encoding}
 use Rattle.enc_stream.specs.declared.life_cycle.LifeCycle.{LifeCycle}
-use Rattle.enc_stream.specs.declared.life_cycle.LifeCycle.TheVariants.{SeenUtf8Second}
 use Rattle.enc_stream.specs.declared.life_cycle.LifeCycle.TheVariants.{ConvertingWithPendingBb, Converting, Finished}
 use Rattle.enc_units.specs.declared.decoder_result.DecoderResult.{DecoderResult}
 use Rattle.enc_units.specs.declared.decoder_result.DecoderResult.TheVariants.{Malformed}
@@ -15,26 +14,31 @@ use Rattle.enc_units.specs.Output.{Output}
 use Rattle.enc_decoder.specs.Sequence.{Sequence, sequence_bytes, set_after}
 use Rattle.enc_decoder.specs.Segmentation.{Rule, sequences_of}
 use Rattle.enc_decoder.specs.CodecState.{CodecState, remainder_of}
+use Rattle.enc_decoder.specs.Remainder.{AreFirstSequences}
 use Rattle.enc_decoder.specs.Call.{DecodeErrorMode, reaches_end}
-use Rattle.enc_decoder.proofs.ByteLemmas.{bytes-append}
-use Rattle.enc_stream.specs.Encodings.{rule_of}
-use Rattle.enc_stream.specs.LifeCycle.{phase_of, awaits_mark, held_mark_bytes}
-use Rattle.enc_stream.specs.LifeCycle.{mark_prefixes, life_at_prefix, life_after_sequences}
-use Rattle.enc_stream.specs.LifeCycle.{life_after, mark_in}
 use Rattle.enc_decoder.specs.Converting.{PrefixedCallInto, ReadsHeldFirst, shifted_result}
-use Rattle.enc_stream.specs.Decoding.{DecoderState, remaining_sequences, decoder_remainder}
-use Rattle.enc_stream.specs.Decoding.{held_or_pending_bytes, decoder_state_of, unread_bytes}
-use Rattle.enc_stream.specs.Decoding.{DecodesInto}
 use Rattle.enc_decoder.specs.CallRecord.{Call}
+use Rattle.enc_decoder.proofs.ByteLemmas.{bytes-append}
+use Rattle.enc_decoder.proofs.FirstSequenceLemmas.{true_or_false}
 use Rattle.enc_decoder.proofs.StageLemmas.{start_stage, nothing_written, same_mode}
 use Rattle.enc_decoder.proofs.InnerInputLemmas.{most_or_more}
+use Rattle.enc_decoder.proofs.JoinedCallLemmas.{no_bytes}
 use Rattle.enc_decoder.proofs.InnerCallLemmas.{MatchesState, AreAllRead, reports_escape, call_outside}
+use Rattle.enc_stream.specs.Encodings.{rule_of}
+use Rattle.enc_stream.specs.Bom.{find_mark, marks_begun}
+use Rattle.enc_stream.specs.LifeCycle.{marks_of, awaits_mark, held_mark_bytes, holds_bytes, has_ended}
+use Rattle.enc_stream.specs.LifeCycle.{held_or_pending_bytes, decoder_state_of, unread_bytes}
+use Rattle.enc_stream.specs.Decoding.{DecoderState, remaining_sequences, decoder_remainder, marks_after}
+use Rattle.enc_stream.specs.Decoding.{are_still_held, held_after}
+use Rattle.enc_stream.specs.Decoding.{DecodesInto}
+use Rattle.enc_stream.proofs.BegunMarkLemmas.{none_once_done, none_of, held_by, not_begun_any}
 use Rattle.enc_stream.proofs.EndOfInputLemmas.{end_placed, at_end, not_at_end}
-use Rattle.enc_stream.proofs.PendingBytesLemmas.{few_unread, bytes_unread, held_or_pending, shows_held, own_state}
-use Rattle.enc_stream.proofs.PendingBytesLemmas.{converts, no_front_at}
-use Rattle.enc_stream.proofs.PendingBbLemmas.{LeavesBb, leaves_bb, bb_state}
-use Rattle.enc_stream.proofs.UnmarkedTextLemmas.{ReadsText, settled_from, awaited_unless_settled, shifts, reads_on}
-use Rattle.enc_stream.proofs.UnmarkedTextLemmas.{unmarked_read, by_codec, unmarked_all, at_hand, first_byte}
+use Rattle.enc_stream.proofs.LifeCycleLemmas.{second_if_two, held_are_few, none_awaited, holds_marks}
+use Rattle.enc_stream.proofs.PendingBytesLemmas.{few_unread, bytes_unread, held_or_pending, pending_if_held}
+use Rattle.enc_stream.proofs.PendingBbLemmas.{LeavesBb, leaves_bb, none_of_held}
+use Rattle.enc_stream.proofs.UnmarkedTextLemmas.{ReadsText, settled_from, awaited_unless_settled}
+use Rattle.enc_stream.proofs.UnmarkedTextLemmas.{shifts, reads_on, unmarked_read, pending_in_front, text_goes_on}
+use Rattle.enc_stream.proofs.UnmarkedTextLemmas.{length_at_hand, begun_no_more, by_codec, unmarked_all, at_hand}
 use Rattle.enc_units.proofs.LengthLemmas.{lengths}
 use Rattle.enc_stream.proofs.RemainingRuleLemmas.{none_without_bytes}
 
@@ -49,9 +53,6 @@ module _ {e : Encoding} {life : LifeCycle} {v : CodecState} {src : List ℕ} {la
 
   abbrev total : ℕ
   total = length held - left + read
-
-  length_pending : length pending ≡ length v.pending + length held
-  length_pending = ap length text.holds.held ∙ length-append v.pending held
 
   -- all bytes held are read
   all_and_read : left ≡ 0 → total ≡ length held + read
@@ -118,26 +119,47 @@ module _ {e : Encoding} {life : LifeCycle} {v : CodecState} {src : List ℕ} {la
         ∙ made.accounted
 
     -- unless it is settled that no mark comes, few bytes are read
-    escape : (reports_escape call made.call ≡ true → settled_from (phase_of life) ≤ read)
+    escape : (reports_escape call made.call ≡ true → settled_from life ≤ read)
         ⊎ ((total ≤ 5) × AreAllRead (remainder_of v) (remainder_of w) call done)
-    escape = elim (most_or_more (settled_from (phase_of life)) read) [
+    escape = elim (most_or_more (settled_from life) read) [
       | inl settled ↦ inl (λ _. settled)
-      | inr unsettled ↦ let awaited = awaited_unless_settled (phase_of life) read unsettled in
+      | inr unsettled ↦ let awaited = awaited_unless_settled life read unsettled in
           inr (
             omega (arith, few_unread life (length v.pending), awaited.0),
             ((text.holds.unread awaited.1).1, made.accounted),
           )
     ]
 
+    -- the decoder before the call
+    abbrev old : DecoderState
+    old = decoder_state_of e life v
+
+    -- The sequences of a state after the bytes read are those left once those done come first.
+    abbrev GoesOn : DecoderState → Type 0
+    GoesOn new = (y : List ℕ) → (reaches_end last stop ≡ true → y ≡ [])
+        → AreFirstSequences done (remaining_sequences old (take read src ++ y))
+        → remaining_sequences old (take read src ++ y) ≡ done ++ remaining_sequences new y
+
+    -- whether the bytes that are left pending are held
+    abbrev still_held : Bool
+    still_held = are_still_held (holds_bytes (held_mark_bytes life)) (marks_of life) bytes_read read
+
     -- the decoder's call, by its state after it
     into : (next : LifeCycle) (state : CodecState)
         → MatchesState (shifts text call) made.call
         (decoder_remainder (decoder_state_of e next state)) read left
         → bytes_read ≡ sequence_bytes done ++ (decoder_state_of e next state).pending
-        → next ≡ life_after life (reaches_end last stop) bytes_read done
+        → (((z : List ℕ) → (last ≡ true → z ≡ []) → remaining_sequences old (src ++ z)
+        ≡ done ++ remaining_sequences (decoder_state_of e next state) (drop read src ++ z))
+        → GoesOn (decoder_state_of e next state))
+        → marks_of next ≡ marks_after (marks_of life) (reaches_end last stop) done
+        (decoder_state_of e next state).pending
+        → holds_bytes (held_mark_bytes next)
+        ≡ held_after still_held (decoder_state_of e next state).pending
+        → has_ended next ≡ reaches_end last stop
         → Leaves (decoder_state_of e next state)
-    into next state matches all_accounted next_life =
-        let none : mark_in (phase_of life) bytes_read ≡ None =
+    into next state matches all_accounted goes_on next_marks next_held next_ended =
+        let none : find_mark (marks_of life) bytes_read ≡ None =
         unmarked_read text read reads_held.within in
         let called =
         call_outside
@@ -145,14 +167,19 @@ module _ {e : Encoding} {life : LifeCycle} {v : CodecState} {src : List ℕ} {la
         (shifts text call) nothing_written
         (same_mode (start_stage src last mode before.room) call stop (omega arith) made.call)
         (reads_on text call reads_held refl) made.call matches in
+        let placed = end_placed last stop left in
         record {
           wrote = made.wrote;
           onto = made.onto;
           decodes = record {
             call = called.0;
-            accounted = rw (none, called.1) all_accounted;
+            accounted = rw called.1 all_accounted;
+            goes_on = rw (called.1, placed) (goes_on (rw called.1 at called.0.residual));
+            mark = rw none (called.0.done, refl);
             encoding = rw none refl;
-            life = rw (called.1, end_placed last stop left) next_life;
+            marks = rw (called.1, placed) next_marks;
+            held = next_held;
+            finished = rw placed next_ended;
           };
         }
 
@@ -163,6 +190,12 @@ module _ {e : Encoding} {life : LifeCycle} {v : CodecState} {src : List ℕ} {la
         let stops = rw (at_end last stop at_end_now).1 at made.call.stops in
         let none_left : left ≡ 0 =
         omega (arith, lengths, stops.all_read, reads_held.within, reads_held.most) in
+        let whole : take read src ≡ src =
+        ap (λ k. take k src)
+        (let all_read : read ≡ length src =
+        omega (arith, lengths, stops.all_read, reads_held.within, reads_held.most) in all_read)
+        ∙ take-length src in
+        let none_pending : w.pending ≡ [] = stops.none_pending is_last in
         into Finished w (record {
           after =
               λ z nothing. ap (remainder_of w).sequences
@@ -175,7 +208,10 @@ module _ {e : Encoding} {life : LifeCycle} {v : CodecState} {src : List ℕ} {la
           escape = escape;
           held = λ l a _. inl none_left;
         }) (accounted_all none_left)
-        (ap (λ end. life_after life end bytes_read done) (sym at_end_now))
+        (λ residual y ends first. ap (λ z. remaining_sequences old (take read src ++ z))
+        (ends at_end_now)
+        ∙ ap (λ x. remaining_sequences old (x ++ [])) whole ∙ residual [] (λ _. refl))
+        (rw at_end_now refl) (rw none_pending refl) (sym at_end_now)
 
     -- Nothing is done, and none of the chunk is read: all is as it was.
     pub stays : reaches_end last stop ≡ false → read ≡ 0
@@ -186,7 +222,7 @@ module _ {e : Encoding} {life : LifeCycle} {v : CodecState} {src : List ℕ} {la
         none_done (omega (arith, done_len, reads_held.most, nothing_read, untouched)) in
         let none_read : bytes_read ≡ pending =
         ap (λ k. pending ++ take k src) nothing_read ∙ append-nil pending in
-        let are_held = shows_held e life v text.holds in
+        let are_held = holds_marks e life v text.holds in
         into life v (record {
           after = λ y ends.
               sym (ap (λ d. d ++ (remainder_of w).sequences (drop total (held ++ src) ++ y))
@@ -197,15 +233,18 @@ module _ {e : Encoding} {life : LifeCycle} {v : CodecState} {src : List ℕ} {la
               ∙ ap (λ k. remaining_sequences (decoder_state_of e life v) (drop k src ++ y))
               (sym nothing_read);
           set = sym (ap (set_after v.set) nothing);
-          pending = length_pending ∙ sym untouched;
+          pending = length_at_hand text ∙ sym untouched;
           none_pending = λ is_last is_empty.
               absurd (not_at_end last stop not_ended is_last is_empty);
           same = inr (inl nothing_read);
           escape = escape;
           held = λ l a is_malformed. absurd (none_reported nothing l a is_malformed);
         }) (rw (none_read, nothing) refl)
-        (rw (not_ended, none_read, nothing)
-        (sym (own_state life pending text.going are_held.in_front are_held.held)))
+        (λ residual y ends first. ap (λ k. remaining_sequences old (take k src ++ y)) nothing_read
+        ∙ ap (λ ss. ss ++ remaining_sequences old y) (sym nothing))
+        (rw (not_ended, nothing) (sym are_held.begun))
+        (rw (none_read, nothing_read) (sym are_held.held))
+        (text.going ∙ sym not_ended)
 
     -- Text goes on.
     module _ (not_ended : reaches_end last stop ≡ false)
@@ -238,31 +277,48 @@ module _ {e : Encoding} {life : LifeCycle} {v : CodecState} {src : List ℕ} {la
           let no_byte = ap (λ ss. length (sequence_bytes ss)) nothing in
           touched nothing_read (omega (arith, no_byte, done_len, none_left, nothing_read))
 
-      not_ef : read ≡ 0 → life ≡ SeenUtf8Second → length (sequence_bytes done) ≡ 1 → ⊥
-      not_ef nothing_read is_second one_byte =
-          let awaits = ap (λ l. awaits_mark (phase_of l)) is_second in
-          let none_pending = ap length (text.holds.unread awaits).1 in
-          let two_held : length held ≡ 2 = rw (none_pending, is_second) refl in
-          let all_done = done_len in
-          let none = none_left in
-          no_bb nothing_read two_held (omega arith)
+      -- no byte order mark may come
+      none_awaited_now : (ss : List Sequence) → ss ≡ done
+          → marks_after (marks_of life) false ss w.pending ≡ []
+      none_awaited_now (s ∷ ss) is_done = refl
+      none_awaited_now [] is_done = elim (true_or_false (awaits_mark life)) [
+        | inr none ↦ ap (λ ms. marks_begun ms w.pending) (none_awaited life none)
+        | inl awaits ↦
+            let some_read : 0 < read = elim (most_or_more read 0) [
+              | inl none ↦ absurd (some_done (omega (arith, none)) (sym is_done))
+              | inr some ↦ some
+            ] in
+            ap (marks_begun (marks_of life))
+            (ap (λ ts. sequence_bytes ts ++ w.pending) is_done ∙ sym (accounted_all none_left))
+            ∙ begun_no_more text read some_read reads_held.within awaits
+      ]
 
-      state_on : (n : ℕ) → n ≡ read
-          → life_after_sequences (life_at_prefix (mark_prefixes life) (pending ++ take n src)) done
-          ≡ Converting
-      state_on zero n_is_read =
-          ap (λ x. life_after_sequences (life_at_prefix (mark_prefixes life) x) done)
-          (append-nil pending)
-          ∙ converts e life v text.going text.holds done (some_done (sym n_is_read))
-          (not_ef (sym n_is_read))
-      state_on (suc n) n_is_read =
-          let first = first_byte (suc n) src [] (omega arith)
-          (omega (arith, reads_held.within, n_is_read)) in
-          ap (λ o. life_after_sequences o done)
-          (ap (λ x. life_at_prefix (mark_prefixes life) (pending ++ x))
-          (sym (append-nil (take (suc n) src)) ∙ first.4)
-          ∙ no_front_at e life v text.going text.holds (first.0 ∷ first.2)
-          ((text.no_mark.rules_out first.0 first.1 first.3).no_front first.2))
+      -- nor is a byte held: if none is read, and bytes were held, none is left pending
+      none_pending_now : read ≡ 0 → pending ≡ held_mark_bytes life → w.pending ≡ []
+      none_pending_now nothing_read are_held =
+          let some_bytes : 0 < length (sequence_bytes done) =
+          elim (most_or_more (length (sequence_bytes done)) 0) [
+            | inl no_byte ↦ absurd (some_done nothing_read (none_done (omega (arith, no_byte))))
+            | inr some ↦ some
+          ] in
+          no_bytes w.pending (none_of_held life v text.holds (length w.pending)
+          (omega (arith, some_bytes, done_len, length_at_hand text, none_left, ap length are_held,
+          nothing_read)) (λ two one. no_bb nothing_read two (omega (arith, one, none_left))))
+
+      none_held_now : held_after still_held w.pending ≡ false
+      none_held_now = elim (true_or_false (awaits_mark life)) [
+        | inr none ↦ rw (none_awaited life none)
+            (held_by (holds_bytes (held_mark_bytes life)) read w.pending (λ holds nothing_read.
+            none_pending_now nothing_read
+            (pending_if_held (held_mark_bytes life) v.pending holds)))
+        | inl awaits ↦ elim (most_or_more read 0) [
+          | inl none_read ↦ rw (none_pending_now (omega (arith, none_read))
+              (pending_in_front text awaits)) refl
+          | inr some_read ↦ rw (not_begun_any (marks_of life) _ bytes_read read
+              (begun_no_more text read some_read reads_held.within awaits) some_read)
+              (none_of w.pending)
+        ]
+      ]
 
       pub goes_on : Leaves (decoder_state_of e Converting w)
       goes_on =
@@ -278,7 +334,12 @@ module _ {e : Encoding} {life : LifeCycle} {v : CodecState} {src : List ℕ} {la
             same = inl refl;
             escape = escape;
             held = λ l a _. inl none_left;
-          }) (accounted_all none_left) (rw not_ended (sym (state_on read refl)))
+          }) (accounted_all none_left)
+          (λ _ y _. text_goes_on text reads_held.within done (decoder_state_of e Converting w)
+          some_done made.call.set (accounted_all none_left) (λ y. refl) y)
+          (rw not_ended (sym (none_awaited_now done refl)))
+          (sym none_held_now)
+          (sym not_ended)
 
     -- BB stays after EF.
     pub stays_bb : reaches_end last stop ≡ false → read ≡ 0 → length held ≡ 2
@@ -290,6 +351,15 @@ module _ {e : Encoding} {life : LifeCycle} {v : CodecState} {src : List ℕ} {la
         let all_read : bytes_read ≡ 0xEF ∷ 0xBB ∷ [] =
         ap (λ k. pending ++ take k src) nothing_read ∙ append-nil pending
         ∙ text.holds.held ∙ ap (λ x. x ++ held) leaves.none ∙ leaves.unread in
+        let some : done ≡ [] → ⊥ =
+        λ nothing. omega (
+          arith,
+          ap length leaves.done_bytes,
+          ap (λ ss. length (sequence_bytes ss))
+              nothing,
+        ) in
+        let accounted : bytes_read ≡ sequence_bytes done ++ 0xBB ∷ [] =
+        rw (all_read, leaves.done_bytes) refl in
         into ConvertingWithPendingBb w (record {
           after = λ y _.
               ap (λ x. sequences_of w.rule w.set x)
@@ -307,30 +377,15 @@ module _ {e : Encoding} {life : LifeCycle} {v : CodecState} {src : List ℕ} {la
           escape = escape;
           held = λ l a _. elim (most_or_more left 0) [
             | inl none ↦ inl (omega (arith, none))
-            | inr some ↦ inr (
-              omega (arith, one, some),
-              omega (arith, one, some, two, nothing_read),
+            | inr some_left ↦ inr (
+              omega (arith, one, some_left),
+              omega (arith, one, some_left, two, nothing_read),
               (leaves.none, made.accounted),
             )
           ];
-        }) (rw (all_read, leaves.done_bytes) refl)
-        (rw (not_ended, all_read) (sym (bb_state done leaves.done_bytes)
-        ∙ ap (λ l. life_after_sequences (life_at_prefix (mark_prefixes l) (0xEF ∷ 0xBB ∷ [])) done)
-        (sym leaves.state)))
-
--- The two tests of the code, as facts.
-
-pub both_equal : (read x y : ℕ) → (eqb read 0 && eqb x y) ≡ true → (read ≡ 0) × (x ≡ y)
-both_equal read x y equal = (grind (arith, nat_tests), grind (arith, nat_tests))
-
-pub not_both_equal : (read x y : ℕ) → (eqb read 0 && eqb x y) ≡ false → read ≡ 0 → x ≡ y → ⊥
-not_both_equal read x y differ none_read same = grind (arith, nat_tests)
-
-pub all_equal : (read x y m n : ℕ) → (eqb read 0 && (eqb x m && eqb y n)) ≡ true
-    → (read ≡ 0) × (x ≡ m) × (y ≡ n)
-all_equal read x y m n equal =
-    (grind (arith, nat_tests), grind (arith, nat_tests), grind (arith, nat_tests))
-
-pub not_all_equal : (read x y m n : ℕ) → (eqb read 0 && (eqb x m && eqb y n)) ≡ false
-    → read ≡ 0 → x ≡ m → y ≡ n → ⊥
-not_all_equal read x y m n differ none_read same also = grind (arith, nat_tests)
+        }) accounted
+        (λ _ y _. text_goes_on text reads_held.within done
+        (decoder_state_of e ConvertingWithPendingBb w) (λ _. some) made.call.set accounted
+        (λ y. refl) y)
+        (rw not_ended (sym (none_once_done (marks_of life) done (0xBB ∷ []) some)))
+        (rw (nothing_read, leaves.state) refl) (sym not_ended)

@@ -7,9 +7,10 @@ use Rattle.enc_decoder.specs.Latin1.{IsLatin1Prefix, HasNoByteSequences, CodecMa
 use Rattle.enc_decoder.specs.Latin1.{AnswersCodecLatin1 as CodecAnswers}
 use Rattle.enc_stream.specs.declared.encoding.Encoding.{Encoding}
 use Rattle.enc_stream.specs.declared.life_cycle.LifeCycle.{LifeCycle}
-use Rattle.enc_stream.specs.declared.life_cycle.LifeCycle.TheVariants.{Converting}
+use Rattle.enc_stream.specs.declared.life_cycle.LifeCycle.TheVariants.{AtStart, ConvertingWithPendingBb, Converting}
+use Rattle.enc_stream.specs.declared.life_cycle.LifeCycle.TheVariants.{Finished}
 use Rattle.enc_stream.specs.Encodings.{rule_of}
-use Rattle.enc_stream.specs.Decoding.{decoder_state_of}
+use Rattle.enc_stream.specs.LifeCycle.{decoder_state_of}
 use Rattle.enc_stream.specs.Latin1.{has_byte_characters, DecoderMayBeLatin1, AnswersDecoderLatin1}
 use Rattle.enc_codec.specs.CodecLaws.{DecidesBytes}
 use Rattle.enc_stream.proofs.EncodingLemmas.{laws_of}
@@ -33,7 +34,8 @@ module _ (e : Encoding) (codec : CodecState) (same_rule : rule_of e ≡ codec.ru
 
   as_decoder : CodecMay codec → DecoderMayBeLatin1 (decoder_state_of e Converting codec)
   as_decoder may_be_latin1 = record {
-    converting = refl;
+    going = refl;
+    no_mark = refl;
     none_pending = may_be_latin1.none_pending;
     at_start = may_be_latin1.at_start;
     encoding = (has_some _ _ by_bytes).1 may_be_latin1.has_bytes;
@@ -55,3 +57,13 @@ module _ (e : Encoding) (codec : CodecState) (same_rule : rule_of e ≡ codec.ru
       → AnswersDecoderLatin1 (decoder_state_of e life codec) bytes answer
   shows_latin1 life is_converting bytes answer counted =
       rw is_converting (converting_shows bytes answer counted)
+
+-- In no other of its states does the decoder have such bytes.
+pub only_converting : (e : Encoding) (life : LifeCycle) (codec : CodecState)
+    → DecoderMayBeLatin1 (decoder_state_of e life codec) → life ≡ Converting
+only_converting e Converting codec may_be = refl
+only_converting e Finished codec may_be = absurd (false≢true (sym may_be.going))
+only_converting e ConvertingWithPendingBb codec may_be =
+    let none = may_be.none_pending in absurd (cc)
+only_converting e AtStart codec may_be = let none = may_be.no_mark in absurd (cc)
+only_converting e _ codec may_be = let none = may_be.no_mark in absurd (cc)

@@ -1,5 +1,6 @@
 pub mod FoundMarkLemmas
 pub mod MarkFirstLemmas
+pub mod BegunMarkLemmas
 pub mod LifeCycleLemmas
 pub mod EndOfInputLemmas
 pub mod PendingBytesLemmas

@@ -1,41 +1,28 @@
--- What each state of the life cycle holds, and which byte order marks may still come in it.
-use Rattle.std.proofs.Common.{◌≡◌, ℕ, ◌≤◌, true, false, List, [], ◌∷◌, ◌++◌, length, refl, sym, arith, inl}
-use Rattle.std.proofs.Common.{inr, ◌⊎◌, None, Some, subst}
+-- What each of the decoder's own states holds, and which byte order marks may still come in it.
+use Rattle.std.proofs.Common.{◌≡◌, ℕ, ◌≤◌, Bool, true, false, List, [], ◌∷◌, length, refl, sym, arith, inl, None, rules}
 use Rattle.std.proofs.lemmas.Bool.{false≢true}
 use Rattle.enc_stream.specs.declared.life_cycle.LifeCycle.{LifeCycle}
 use Rattle.enc_stream.specs.declared.life_cycle.LifeCycle.TheVariants.{AtStart, AtUtf8Start, AtUtf16BeStart}
-use Rattle.enc_stream.specs.declared.life_cycle.LifeCycle.TheVariants.{AtUtf16LeStart, SeenUtf8Second}
+use Rattle.enc_stream.specs.declared.life_cycle.LifeCycle.TheVariants.{AtUtf16LeStart, SeenUtf8First, SeenUtf8Second}
 use Rattle.enc_stream.specs.declared.life_cycle.LifeCycle.TheVariants.{SeenUtf16BeFirst}
 use Rattle.enc_stream.specs.declared.life_cycle.LifeCycle.TheVariants.{SeenUtf16LeFirst, Converting, Finished}
 use Rattle.enc_stream.specs.declared.life_cycle.LifeCycle.TheVariants.{ConvertingWithPendingBb}
-use Rattle.enc_decoder.specs.Remainder.{AreBytes}
-use Rattle.enc_stream.specs.LifeCycle.{Phase, InFront, Within, Ended, phase_of, awaits_mark, mark_in, held_mark_bytes}
-use Rattle.enc_stream.specs.LifeCycle.{mark_prefixes, life_at_prefix}
+use Rattle.enc_stream.specs.declared.encoding.Encoding.{Encoding}
+use Rattle.enc_stream.specs.declared.bom.BomHandling.{BomHandling}
+use Rattle.enc_stream.specs.declared.bom.BomHandling.TheVariants.{Off, Sniff, Remove}
 use Rattle.enc_names.specs.declared.encoding_id.EncodingId.{EncodingId}
 use Rattle.enc_names.specs.declared.encoding_id.EncodingId.TheVariants.{Utf8, Utf16be, Utf16le}
+use Rattle.enc_decoder.specs.Remainder.{AreBytes}
+use Rattle.enc_decoder.specs.CodecState.{CodecState}
+use Rattle.enc_stream.specs.Bom.{Mark, find_mark, marks_begun, marks_looked_for}
+use Rattle.enc_stream.specs.LifeCycle.{marks_of, awaits_mark, held_mark_bytes, has_ended, start_life}
+use Rattle.enc_stream.specs.LifeCycle.{decoder_state_of, HeldBytesMatchCodec}
 use Rattle.enc_stream.specs.MarkLaws.{MayBeginMark}
-use Rattle.enc_stream.specs.Sniffing.{ExtendsHeldMark}
-use Rattle.enc_stream.specs.Decoding.{has_ended, LooksForOwnMark}
-use Rattle.enc_stream.proofs.MarkFirstLemmas.{AreFound, found_all, found_own}
-use Rattle.enc_decoder.proofs.FirstSequenceLemmas.{true_or_false}
-use Rattle.enc_stream.specs.LifeCycle.{life_after_bytes}
-use Rattle.std.proofs.lemmas.Bool.{cond_both}
-use Rattle.std.specs.Prelude.{bytes_eq}
-use Rattle.std.proofs.lemmas.Slice.Eq.{bytes_eq-Decides}
-use Rattle.std.proofs.Common.{rules}
-
-abbrev pub IsOpen : Phase → Type 0
-IsOpen (InFront looked_for) = Unit {0}
-IsOpen Within = Unit {0}
-IsOpen Ended = ⊥
-
-pub open_phase : (life : LifeCycle) → has_ended life ≡ false → IsOpen (phase_of life)
-open_phase Finished going = absurd (false≢true (sym going))
-open_phase AtStart going = tt
-open_phase _ going = tt
+use Rattle.enc_stream.specs.Decoding.{DecoderState, are_still_held, held_after}
+use Rattle.enc_stream.proofs.MarkFirstLemmas.{AreFound, found_all, found_utf_8, found_utf_16be, found_utf_16le}
 
 -- the bytes held are no whole mark
-pub held_unmarked : (life : LifeCycle) → mark_in (phase_of life) (held_mark_bytes life ++ []) ≡ None
+pub held_unmarked : (life : LifeCycle) → find_mark (marks_of life) (held_mark_bytes life) ≡ None
 held_unmarked AtStart = refl
 held_unmarked _ = refl
 
@@ -52,83 +39,105 @@ second_if_two SeenUtf8Second two = refl
 second_if_two AtStart two = absurd (omega arith)
 second_if_two _ two = absurd (omega arith)
 
--- While a byte order mark may come, the bytes held may begin one of those looked for.
-abbrev pub MayBegin : Phase → List ℕ → Type 0
-MayBegin (InFront looked_for) held = AreFound looked_for looked_for × MayBeginMark looked_for held
-MayBegin Within held = ⊥
-MayBegin Ended held = ⊥
+-- While a byte order mark may come, the bytes held begin one of those that may.
+pub may_begin : (life : LifeCycle) → awaits_mark life ≡ true
+    → AreFound (marks_of life) (marks_of life) × MayBeginMark (marks_of life) (held_mark_bytes life)
+may_begin AtStart awaits = (found_all, inl (_, _, refl))
+may_begin AtUtf8Start awaits = (found_utf_8, inl (_, _, refl))
+may_begin AtUtf16BeStart awaits = (found_utf_16be, inl (_, _, refl))
+may_begin AtUtf16LeStart awaits = (found_utf_16le, inl (_, _, refl))
+may_begin SeenUtf8First awaits = (found_utf_8, inl (_, _, refl))
+may_begin SeenUtf8Second awaits = (found_utf_8, inl (_, _, refl))
+may_begin SeenUtf16BeFirst awaits = (found_utf_16be, inl (_, _, refl))
+may_begin SeenUtf16LeFirst awaits = (found_utf_16le, inl (_, _, refl))
+may_begin _ awaits = absurd (false≢true awaits)
 
-pub may_begin : (life : LifeCycle) → awaits_mark (phase_of life) ≡ true
-    → MayBegin (phase_of life) (held_mark_bytes life)
-may_begin AtUtf8Start awaits = (found_own Utf8, inl (_, _, refl))
-may_begin AtUtf16BeStart awaits = (found_own Utf16be, inl (_, _, refl))
-may_begin AtUtf16LeStart awaits = (found_own Utf16le, inl (_, _, refl))
-may_begin SeenUtf16BeFirst awaits = (found_all, inr (inl (_, _, refl)))
-may_begin SeenUtf16LeFirst awaits = (found_all, inr (inr (inl (_, _, refl))))
-may_begin ConvertingWithPendingBb awaits = absurd (false≢true awaits)
-may_begin Converting awaits = absurd (false≢true awaits)
-may_begin Finished awaits = absurd (false≢true awaits)
-may_begin _ awaits = (found_all, inl (_, _, refl))
+-- otherwise none may come
+pub none_awaited : (life : LifeCycle) → awaits_mark life ≡ false → marks_of life ≡ []
+none_awaited ConvertingWithPendingBb none = refl
+none_awaited Converting none = refl
+none_awaited Finished none = refl
+none_awaited _ none = absurd (false≢true (sym none))
 
--- A state that is not the end has nothing to hold, or it is the one of the bytes that it holds.
-pub own_prefix : (life : LifeCycle) (pending : List ℕ) → has_ended life ≡ false
-    → (awaits_mark (phase_of life) ≡ true → pending ≡ held_mark_bytes life)
-    → ((b : ℕ) (rest : List ℕ) → held_mark_bytes life ≡ b ∷ rest → pending ≡ held_mark_bytes life)
-    → (life ≡ Converting) ⊎ ((pending ≡ held_mark_bytes life)
-    × (life_at_prefix (mark_prefixes life) (held_mark_bytes life) ≡ Some life))
-own_prefix Converting pending going in_front held = inl refl
-own_prefix Finished pending going in_front held = absurd (false≢true (sym going))
-own_prefix ConvertingWithPendingBb pending going in_front held = inr (held _ _ refl, refl)
-own_prefix AtStart pending going in_front held = inr (in_front refl, refl)
-own_prefix _ pending going in_front held = inr (in_front refl, refl)
-
-pub awaiting_goes_on : (life : LifeCycle) → awaits_mark (phase_of life) ≡ true
-    → has_ended life ≡ false
+pub awaiting_goes_on : (life : LifeCycle) → awaits_mark life ≡ true → has_ended life ≡ false
 awaiting_goes_on Finished awaits = absurd (false≢true awaits)
 awaiting_goes_on AtStart awaits = refl
 awaiting_goes_on _ awaits = refl
 
--- a state that has read nothing changes to no other one without a byte
-stays_at_front : (life now : LifeCycle) → life_at_prefix (mark_prefixes life) [] ≡ Some now
-    → life ≡ now
-stays_at_front AtStart now at_front = cc
-stays_at_front _ now at_front = cc
+-- The marks that may still come are those that the held bytes begin.
+pub held_begin : (life : LifeCycle) → marks_begun (marks_of life) (held_mark_bytes life)
+    ≡ marks_of life
+held_begin AtStart = refl
+held_begin _ = refl
 
--- the bytes that a search holds do not change which byte order mark is looked for
-pub own_stays : (id : EncodingId) (life now : LifeCycle) {x : List ℕ} → ExtendsHeldMark life now x
-    → LooksForOwnMark id life → LooksForOwnMark id now
-own_stays id life AtUtf8Start extends own =
-    subst (LooksForOwnMark id) (stays_at_front life AtUtf8Start (extends.states [])) own
-own_stays id life AtUtf16BeStart extends own =
-    subst (LooksForOwnMark id) (stays_at_front life AtUtf16BeStart (extends.states [])) own
-own_stays id life AtUtf16LeStart extends own =
-    subst (LooksForOwnMark id) (stays_at_front life AtUtf16LeStart (extends.states [])) own
-own_stays id life AtStart extends own = tt
-own_stays id life _ extends own = tt
+-- A state as its caller knows it: the byte order marks that may come are those that the pending
+-- bytes begin, and these are then held.
+pub record HoldsMarks (d : DecoderState) : Type 0 where
+  pub begun : marks_begun d.marks d.pending ≡ d.marks
+  pub held : held_after (are_still_held d.held d.marks d.pending 0) d.pending ≡ d.held
+  pub unmarked : find_mark d.marks d.pending ≡ None
 
--- What holds of each of these states, with its bytes, holds of the one that is found.
+none_held : (pending : List ℕ) → held_after false pending ≡ false
+none_held [] = refl
+none_held (b ∷ pending) = refl
 
-abbrev pub EachState : (List ℕ → LifeCycle → Type 0) → List (List ℕ × LifeCycle) → Type 0
-EachState Has [] = Unit {0}
-EachState Has (state ∷ others) = Has state.0 state.1 × EachState Has others
+-- with nothing pending, and in text
+module _ (e : Encoding) (set : ℕ) (pending : List ℕ) where
+  at_front : (marks : List Mark) → pending ≡ [] → marks_begun marks [] ≡ marks
+      → find_mark marks [] ≡ None → HoldsMarks (record {
+        encoding = e;
+        marks = marks;
+        set = set;
+        pending = pending;
+        held = false;
+        finished = false;
+      })
+  at_front marks none begun unmarked =
+      record { begun = rw none begun; held = rw none refl; unmarked = rw none unmarked }
 
-pub state_has : (Has : List ℕ → LifeCycle → Type 0) (states : List (List ℕ × LifeCycle))
-    (bytes : List ℕ) (life : LifeCycle) → EachState Has states
-    → life_at_prefix states bytes ≡ Some life → Has bytes life
-state_has Has [] bytes life each found = absurd (let none : ⊥ = cc in none)
-state_has Has (state ∷ others) bytes life each found =
-    elim (true_or_false (bytes_eq state.0 bytes)) [
-      | inl equal ↦
-          let is_found : Some state.1 ≡ Some life = rw equal at found in
-          let same : state.1 ≡ life = cc in
-          subst (Has bytes) same
-          (subst (λ x. Has x state.1) ((bytes_eq-Decides state.0 bytes).0 equal) each.0)
-      | inr differs ↦ state_has Has others bytes life each.1 (rw differs at found)
-    ]
+  in_text : (finished : Bool) → HoldsMarks (record {
+    encoding = e;
+    marks = [];
+    set = set;
+    pending = pending;
+    held = false;
+    finished = finished;
+  })
+  in_text finished = record { begun = refl; held = none_held pending; unmarked = refl }
 
--- What holds of text, also with a held BB, holds of the state after some of the held bytes.
-pub left_has : (Has : LifeCycle → Type 0) → Has Converting → Has ConvertingWithPendingBb
-    → (life : LifeCycle) (done : List ℕ) → Has (life_after_bytes life done)
-left_has Has text with_bb SeenUtf8Second done =
-    cond_both (bytes_eq (0xEF ∷ []) done) _ _ Has (λ _. with_bb) (λ _. text)
-left_has Has text with_bb _ done = text
+pub holds_marks : (e : Encoding) (life : LifeCycle) (v : CodecState) → HeldBytesMatchCodec life v
+    → HoldsMarks (decoder_state_of e life v)
+holds_marks e AtStart v holds =
+    at_front e v.set v.pending (marks_of AtStart) (holds.unread refl).1 refl refl
+holds_marks e AtUtf8Start v holds =
+    at_front e v.set v.pending (marks_of AtUtf8Start) (holds.unread refl).1 refl refl
+holds_marks e AtUtf16BeStart v holds =
+    at_front e v.set v.pending (marks_of AtUtf16BeStart) (holds.unread refl).1 refl refl
+holds_marks e AtUtf16LeStart v holds =
+    at_front e v.set v.pending (marks_of AtUtf16LeStart) (holds.unread refl).1 refl refl
+holds_marks e Converting v holds = in_text e v.set v.pending false
+holds_marks e Finished v holds = in_text e v.set v.pending true
+holds_marks e SeenUtf8First v holds = record { begun = refl; held = refl; unmarked = refl }
+holds_marks e SeenUtf8Second v holds = record { begun = refl; held = refl; unmarked = refl }
+holds_marks e SeenUtf16BeFirst v holds = record { begun = refl; held = refl; unmarked = refl }
+holds_marks e SeenUtf16LeFirst v holds = record { begun = refl; held = refl; unmarked = refl }
+holds_marks e ConvertingWithPendingBb v holds =
+    record { begun = refl; held = refl; unmarked = refl }
+
+-- At the start no byte of a byte order mark is held, the end is not reached, and the byte order
+-- marks that may come are those looked for.
+pub record Starts (handling : BomHandling) (e : Encoding) : Type 0 where
+  pub marks : marks_of (start_life handling e.id) ≡ marks_looked_for handling e
+  pub none_held : held_mark_bytes (start_life handling e.id) ≡ []
+  pub going : has_ended (start_life handling e.id) ≡ false
+
+on_removal : (id : EncodingId) → Starts Remove (record { id = id })
+on_removal Utf8 = record { marks = refl; none_held = refl; going = refl }
+on_removal Utf16be = record { marks = refl; none_held = refl; going = refl }
+on_removal Utf16le = record { marks = refl; none_held = refl; going = refl }
+on_removal _ = record { marks = refl; none_held = refl; going = refl }
+
+pub starts : (handling : BomHandling) (e : Encoding) → Starts handling e
+starts Off e = record { marks = refl; none_held = refl; going = refl }
+starts Sniff e = record { marks = refl; none_held = refl; going = refl }
+starts Remove e = on_removal e.id

@@ -1,12 +1,11 @@
 -- How many bytes a call of an encoder has to write, and which lengths are enough for it.
-use Rattle.std.proofs.Common.{◌≡◌, ℕ, ◌≤◌, Bool, Option, Some, None, List, length, IfSome, refl, ap, ◌∙◌, sym, subst}
-use Rattle.std.proofs.Common.{arith, length-take}
+use Rattle.std.proofs.Common.{◌≡◌, ℕ, Option, Some, None, List, length, IfSome, ap, ◌∙◌, sym, subst}
+use Rattle.std.proofs.Common.{arith}
 use Rattle.std.specs.Char.{encode_utf8}
 use Rattle.std.specs.Char.Escape.{encode_utf16}
 use Rattle.enc_units.specs.Checked.{checked_add}
 use Rattle.enc_index.specs.declared.codec.Codec.{Codec}
 use Rattle.enc_encoder.specs.declared.byte_lengths.ByteLengths.{ByteLengths}
-use Rattle.enc_units.specs.declared.encoder_result.EncoderResult.{EncoderResult}
 use Rattle.enc_encoder.specs.EncoderRule.{EncoderRule, RawEncoderState}
 use Rattle.enc_encoder.specs.Lengths.{from_utf_8_length, from_utf_16_length}
 use Rattle.enc_encoder.specs.Need.{AreEnoughForEncoder}

@@ -14,28 +14,29 @@ use Rattle.enc_units.specs.declared.coder_result.CoderResult.TheVariants as code
 use Rattle.enc_units.specs.Results.{decoder_result_of}
 use Rattle.enc_units.specs.Output.{units_of_text}
 use Rattle.enc_decoder.specs.Sequence.{Sequence, sequence_text, is_malformed, any_malformed}
-use Rattle.enc_decoder.specs.Call.{DecodeErrorMode, Fatal, reaches_end}
-use Rattle.enc_decoder.specs.Remainder.{AreBytes}
+use Rattle.enc_decoder.specs.Call.{DecodeErrorMode, reaches_end}
+use Rattle.enc_decoder.specs.Remainder.{Remainder, AreBytes}
 use Rattle.enc_decoder.proofs.SequenceLemmas.{units-append, any_malformed-append}
 use Rattle.enc_decoder.proofs.SegmentationLemmas.{sequences_of-nil}
 use Rattle.enc_stream.specs.Encodings.{rule_of}
 use Rattle.enc_stream.specs.Bom.{Mark, find_mark, sequences_by_mark}
-use Rattle.enc_stream.specs.LifeCycle.{encoding_of_mark_or}
-use Rattle.enc_stream.specs.Decoding.{DecoderState, has_finished, fresh_decoder, decoder_remainder, remaining_sequences}
+use Rattle.enc_stream.specs.Bom.{encoding_of_mark_or}
+use Rattle.enc_stream.specs.Decoding.{DecoderState, has_finished, fresh_decoder, remaining_sequences}
 use Rattle.enc_stream.specs.Decoding.{whole_sequences, whole_malformed, DecodesChunk}
 use Rattle.enc_stream.specs.Decoding.{replacing_call, reporting_call}
 use Rattle.enc_stream.specs.Decoding.{AnswersDecode, HasDecoded}
 use Rattle.enc_units.specs.Checked.{checked_add}
 use Rattle.enc_stream.specs.declared.lengths.Query.TheVariants as query
 use Rattle.enc_stream.specs.declared.lengths.Query.TheVariants.{Utf8Reporting}
-use Rattle.enc_stream.specs.Lengths.{max_length, IsEnoughRoom}
+use Rattle.enc_stream.specs.Lengths.{max_length}
+use Rattle.enc_stream.proofs.EnoughLemmas.{IsEnough}
 use Rattle.enc_stream.specs.OneShot.{utf_8_without_replacement, HasRoomFor, HasRoomExactlyFor}
 use Rattle.enc_stream.specs.OneShot.{first_length, IsTooLongAfterFull, MayLackMemory}
 use Rattle.enc_decoder.specs.Need.{NeedExceeds}
-use Rattle.enc_stream.proofs.EndOfInputLemmas.{fresh_sequences, finishes, whole_text, whole_flag}
+use Rattle.enc_stream.proofs.EndOfInputLemmas.{whole_text, whole_flag}
 use Rattle.std.proofs.lemmas.List.{nil_from_length}
 use Rattle.std.proofs.Common.{eqb-true}
-use Rattle.enc_stream.proofs.FoundMarkLemmas.{at_start}
+use Rattle.enc_stream.proofs.FoundMarkLemmas.{looked_for_have}
 use Rattle.std.proofs.Math.Bool.{or-true}
 
 pub nothing : (bytes : List ℕ) → true ≡ (length bytes == 0) → bytes ≡ []
@@ -51,8 +52,8 @@ pub none_whole : (handling : BomHandling) (e : Encoding) (bytes : List ℕ) → 
 none_whole handling e bytes is_empty =
     let none = sequences_of-nil (rule_of e) 0 in
     ap (whole_sequences handling e) is_empty
-    ∙ at_start (λ _ looked_for. sequences_by_mark (find_mark looked_for []) e [] ≡ []) none none
-    none none none handling e
+    ∙ looked_for_have (λ looked_for. sequences_by_mark (find_mark looked_for []) e 0 [] ≡ []) none
+    none none none none handling e
 
 -- no call
 pub none_decoded : (handling : BomHandling) (e : Encoding) (bytes : List ℕ)
@@ -60,7 +61,7 @@ pub none_decoded : (handling : BomHandling) (e : Encoding) (bytes : List ℕ)
     (fresh_decoder handling e) [] false
 none_decoded handling e bytes = record {
   done = [];
-  whole = λ z h. fresh_sequences handling e (bytes ++ z);
+  whole = λ z h. refl;
   text = refl;
   flag = refl;
 }
@@ -141,14 +142,14 @@ pub still_open : (result : CoderResult) {old new : DecoderState} {src : List ℕ
     {read : ℕ} {wrote : List ℕ} {replaced : Bool}
     → DecodesChunk encode_utf8 old new (replacing_call src true room result read wrote replaced)
     → ¬ (result ≡ coder.InputEmpty) → has_finished new ≡ false
-still_open result decodes goes_on = finishes decodes ∙ not_at_end result goes_on
+still_open result decodes goes_on = decodes.finished ∙ not_at_end result goes_on
 
 -- with enough room a call is never full
 pub never_full : {units_of : ℕ → List ℕ} {mode : DecodeErrorMode} (length_answered : Option ℕ)
-    (old : DecoderState) {src : List ℕ} {room : ℕ}
-    → IfSome length_answered (IsEnoughRoom units_of mode old (length src))
+    (old : Remainder) {src : List ℕ} {room : ℕ}
+    → IfSome length_answered (IsEnough units_of mode old (length src))
     → HasRoomFor length_answered room → AreBytes src
-    → NeedExceeds units_of mode (decoder_remainder old) src true room → ⊥
+    → NeedExceeds units_of mode old src true room → ⊥
 never_full None old enough has_room bytes exceeds = has_room
 never_full (Some answer) old {src} enough has_room bytes exceeds =
     enough src true bytes refl (record {
@@ -250,7 +251,7 @@ module _ {e : Encoding} {old new : DecoderState} (is_fresh : old ≡ fresh_decod
       none_so_far is_fresh none_before in
       let ends = rw at_end at decodes in
       let decoded = goes_on none ends keeps (sym ends.call.stops.only_put) in
-      let finished = finishes ends in
+      let finished = ends.finished in
       rw (← whole_flag decoded finished, ← whole_text decoded finished) refl
 
   pub strict_report : (result : DecoderResult) {l a : ℕ} {bytes wrote : List ℕ} {room read : ℕ}
@@ -261,7 +262,7 @@ module _ {e : Encoding} {old new : DecoderState} (is_fresh : old ≡ fresh_decod
       let stops = call.stops in
       let rest = remaining_sequences new (drop read bytes ++ []) in
       let sequences : whole_sequences Off e bytes ≡ (call.put ++ stops.next ∷ []) ++ rest =
-      ap (whole_sequences Off e) (sym (append-nil bytes)) ∙ fresh_sequences Off e (bytes ++ [])
+      ap (whole_sequences Off e) (sym (append-nil bytes))
       ∙ rw (is_fresh, stops.then_next) at (call.residual [] (λ _. refl)) in
       let is_malformed_now : whole_malformed Off e bytes ≡ true =
       ap any_malformed sequences ∙ any_of_last call.put rest stops.next stops.malformed in

@@ -7,9 +7,8 @@ use Rattle.enc_names.specs.declared.encoding_id.EncodingId.TheVariants.{Utf8, Ut
 use Rattle.enc_stream.specs.declared.bom.BomHandling.TheVariants.{Sniff, Remove}
 use Rattle.enc_stream.specs.declared.encoding.Encoding.{Encoding}
 use Rattle.enc_stream.specs.Bom.{Mark, marks, marks_of_encoding, find_mark}
-use Rattle.enc_stream.specs.Bom.{bom_of, sequences_by_mark}
+use Rattle.enc_stream.specs.Bom.{bom_of, sequences_by_mark, encoding_of_mark_or}
 use Rattle.enc_stream.specs.Decoding.{whole_sequences, whole_encoding}
-use Rattle.enc_stream.specs.LifeCycle.{encoding_of_mark_or}
 use Rattle.enc_stream.specs.MarkLaws.{bytes_after_mark}
 use Rattle.enc_stream.specs.OwnText.{mark_looked_for}
 use Rattle.enc_stream.proofs.FoundMarkLemmas.{EachMark, found_has, found_is, found_starts}
@@ -54,7 +53,7 @@ pub sniffed_is_removed : (e : Encoding) (bytes : List ℕ)
 sniffed_is_removed e bytes = by_found (find_mark marks bytes) refl
   where
     by_found : (found : Option Mark) → find_mark marks bytes ≡ found
-        → sequences_by_mark found e bytes
+        → sequences_by_mark found e 0 bytes
         ≡ whole_sequences Remove (encoding_of_mark_or found e) bytes
     by_found None at_front =
         let none : find_mark (marks_of_encoding e.id) bytes ≡ None =

@@ -37,7 +37,7 @@ use Rattle.enc_stream.specs.OwnText.{AreTheirOwnText, IsItsOwnText, unmarked_byt
 use Rattle.enc_stream.specs.Properties.{is_ascii_compatible}
 use Rattle.enc_stream.proofs.OneShotDecodeLemmas.{none_whole}
 use Rattle.enc_stream.proofs.PropertyLemmas.{shows_ascii_compatible}
-use Rattle.enc_stream.proofs.FoundMarkLemmas.{by_mark}
+use Rattle.enc_stream.proofs.FoundMarkLemmas.{unmarked_text, unmarked_flag}
 use Rattle.std.proofs.Math.Seq.{take-length}
 
 -- Each character of a text, in UTF-8, is a sequence, whatever follows.
@@ -186,13 +186,13 @@ module _ (handling : BomHandling) (e : Encoding) (bytes : List ℕ)
   pub whole_own_text : unmarked_bytes handling e bytes ≡ whole_utf_8 handling e bytes
   whole_own_text =
       sym (same_text whole_has)
-      ∙ ap (λ ss. units_of_text encode_utf8 (sequence_text ss))
-      (sym (by_mark (find_mark (marks_looked_for handling e) bytes) e bytes))
+      ∙ ap (units_of_text encode_utf8)
+      (sym (unmarked_text (find_mark (marks_looked_for handling e) bytes) e bytes))
 
   pub whole_own_valid : false ≡ whole_malformed handling e bytes
   whole_own_valid =
       sym (none_malformed whole_has)
-      ∙ ap any_malformed (sym (by_mark (find_mark (marks_looked_for handling e) bytes) e bytes))
+      ∙ sym (unmarked_flag (find_mark (marks_looked_for handling e) bytes) e bytes)
 
 -- The longest prefix is the whole exactly if the whole has the property.
 

@@ -1,7 +1,8 @@
 -- Of the held bytes EF BB, which are no byte order mark, the codec does EF: BB stays pending.
-use Rattle.std.proofs.Common.{◌≡◌, ℕ, ◌+◌, ◌-◌, ◌≤◌, zero, suc, List, [], ◌∷◌}
+use Rattle.std.proofs.Common.{◌≡◌, ℕ, ◌+◌, ◌-◌, ◌<◌, ◌≤◌, zero, suc, true, false, ◌&&◌, eqb, List, [], ◌∷◌}
 use Rattle.std.proofs.Common.{◌++◌, length, take, drop, refl, ap, ◌∙◌, sym, arith, append_assoc}
 use Rattle.std.proofs.lemmas.Bool.{false≢true}
+use Rattle.std.proofs.lemmas.Bool.Decides.{nat_tests}
 use Rattle.std.proofs.lemmas.List.{take-append-drop}
 use Rattle.std.proofs.Math.Seq.{take-append_seam, drop-append_seam}
 use Rattle.enc_stream.specs.declared.life_cycle.LifeCycle.{LifeCycle}
@@ -9,11 +10,10 @@ use Rattle.enc_stream.specs.declared.life_cycle.LifeCycle.TheVariants.{SeenUtf8S
 use Rattle.enc_stream.specs.declared.life_cycle.LifeCycle.TheVariants.{ConvertingWithPendingBb}
 use Rattle.enc_decoder.specs.Sequence.{Sequence, sequence_bytes}
 use Rattle.enc_decoder.specs.CodecState.{CodecState}
-use Rattle.enc_stream.specs.LifeCycle.{mark_prefixes, life_at_prefix, life_after_bytes, life_after_sequences}
+use Rattle.enc_stream.specs.LifeCycle.{awaits_mark, held_mark_bytes, unread_bytes, HeldBytesMatchCodec}
 use Rattle.enc_decoder.specs.Converting.{ReadsHeldFirst}
-use Rattle.enc_stream.specs.Decoding.{unread_bytes, HeldBytesMatchCodec}
 use Rattle.enc_decoder.proofs.JoinedCallLemmas.{no_bytes}
-use Rattle.enc_stream.proofs.LifeCycleLemmas.{second_if_two}
+use Rattle.enc_stream.proofs.LifeCycleLemmas.{second_if_two, held_are_few}
 use Rattle.enc_stream.proofs.PendingBytesLemmas.{none_unread}
 use Rattle.enc_units.proofs.LengthLemmas.{lengths}
 
@@ -89,8 +89,31 @@ holds_bb {v} {w} {src} {left = left} {read} {life} leaves one = record {
     by_pending (x ∷ []) rest same few = sym (one_and_rest (x ∷ []) rest src 0xBB same refl).0
     by_pending (x ∷ y ∷ pending) rest same few = absurd (omega arith)
 
-pub bb_state : (done : List Sequence) → sequence_bytes done ≡ 0xEF ∷ []
-    → life_after_sequences (life_at_prefix (mark_prefixes SeenUtf8Second) (0xEF ∷ 0xBB ∷ [])) done
-    ≡ ConvertingWithPendingBb
-bb_state [] ef_done = absurd (omega (arith, ap length ef_done))
-bb_state (s ∷ ss) ef_done = ap (life_after_bytes SeenUtf8Second) ef_done
+-- Fewer bytes than are held are none, unless BB of EF BB is.
+pub none_of_held : (life : LifeCycle) (v : CodecState) → HeldBytesMatchCodec life v → (now : ℕ)
+    → now < length (held_mark_bytes life)
+    → (length (unread_bytes life (length v.pending)) ≡ 2 → now ≡ 1 → ⊥) → now ≡ 0
+none_of_held life v holds zero fewer no_bb = refl
+none_of_held life v holds (suc zero) fewer no_bb =
+    let second = second_if_two life (omega (arith, fewer, held_are_few life)) in
+    let none = (holds.unread (ap awaits_mark second)).1 in
+    absurd (no_bb (rw (none, second) refl) refl)
+none_of_held life v holds (suc (suc now)) fewer no_bb =
+    absurd (omega (arith, fewer, held_are_few life))
+
+-- The two tests of the code, as facts.
+
+pub both_equal : (read x y : ℕ) → (eqb read 0 && eqb x y) ≡ true → (read ≡ 0) × (x ≡ y)
+both_equal read x y equal = (grind (arith, nat_tests), grind (arith, nat_tests))
+
+pub not_both_equal : (read x y : ℕ) → (eqb read 0 && eqb x y) ≡ false → read ≡ 0 → x ≡ y → ⊥
+not_both_equal read x y differ none_read same = grind (arith, nat_tests)
+
+pub all_equal : (read x y m n : ℕ) → (eqb read 0 && (eqb x m && eqb y n)) ≡ true
+    → (read ≡ 0) × (x ≡ m) × (y ≡ n)
+all_equal read x y m n equal =
+    (grind (arith, nat_tests), grind (arith, nat_tests), grind (arith, nat_tests))
+
+pub not_all_equal : (read x y m n : ℕ) → (eqb read 0 && (eqb x m && eqb y n)) ≡ false
+    → read ≡ 0 → x ≡ m → y ≡ n → ⊥
+not_all_equal read x y m n differ none_read same also = grind (arith, nat_tests)

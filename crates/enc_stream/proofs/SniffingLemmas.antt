@@ -1,34 +1,36 @@
 -- The first bytes of the input: the last byte of a mark, and the states in between.
 use Rattle.std.proofs.Common.{◌≡◌, ℕ, ◌+◌, ◌<◌, ◌≤◌, Bool, true, false, if◌then◌else◌, List, [], ◌∷◌, ◌++◌, length}
 use Rattle.std.proofs.Common.{take, drop, get_or, refl, ap, sym, ◌∙◌, subst, inl, inr, eqb, eqb-true, append_assoc}
-use Rattle.std.proofs.Common.{append-nil, drop-cons, Some, None}
-use Rattle.std.proofs.lemmas.Bool.{eqb-false, ne_eqb}
+use Rattle.std.proofs.Common.{append-nil, drop-cons, Some}
+use Rattle.std.proofs.lemmas.Bool.{eqb-false, ne_eqb, false≢true}
 use Rattle.std.proofs.lemmas.List.{take_more, drop_all}
 use Rattle.enc_decoder.proofs.FirstSequenceLemmas.{true_or_false}
 use Rattle.enc_stream.specs.declared.encoding.Encoding.{Encoding}
 use Rattle.enc_stream.specs.declared.life_cycle.LifeCycle.{LifeCycle}
 use Rattle.enc_stream.specs.declared.life_cycle.MarkByte.{MarkByte}
 use Rattle.enc_stream.specs.declared.life_cycle.MarkByte.TheVariants.{Ends, RulesOut}
-use Rattle.enc_stream.specs.Bom.{Mark}
-use Rattle.enc_stream.specs.LifeCycle.{phase_of, awaits_mark, mark_in, held_mark_bytes, mark_prefixes, life_at_prefix}
+use Rattle.enc_stream.specs.Bom.{Mark, find_mark, marks_begun}
+use Rattle.enc_stream.specs.LifeCycle.{marks_of, awaits_mark, held_mark_bytes}
 use Rattle.enc_stream.specs.Sniffing.{ExtendsHeldMark, CompletesMark, ExcludesMarks, HasNoMark, IsMarkByte}
+use Rattle.enc_stream.proofs.BegunMarkLemmas.{begun_more, begun_find}
+use Rattle.enc_stream.proofs.LifeCycleLemmas.{held_begin, held_unmarked}
 
 -- A byte after these held ends a byte order mark if it is its last one, and else rules all out.
 pub mark_byte_after : (state : LifeCycle) (m : Mark) (last byte : ℕ)
-    → held_mark_bytes state ++ last ∷ [] ≡ m.bytes → awaits_mark (phase_of state) ≡ true
-    → ((y : List ℕ) → mark_in (phase_of state) (m.bytes ++ y) ≡ Some m)
-    → ((y : List ℕ) → life_at_prefix (mark_prefixes state) (m.bytes ++ y) ≡ None)
+    → held_mark_bytes state ++ last ∷ [] ≡ m.bytes → awaits_mark state ≡ true
+    → ((y : List ℕ) → find_mark (marks_of state) (m.bytes ++ y) ≡ Some m)
+    → ((y : List ℕ) → marks_begun (marks_of state) (m.bytes ++ y) ≡ [])
     → (eqb last byte ≡ false → ExcludesMarks state byte)
     → {life : LifeCycle} {what : MarkByte} → life ≡ state
     → what ≡ (if eqb byte last then Ends m.encoding else RulesOut) → IsMarkByte life byte what
-mark_byte_after state m last byte whole awaits found no_front excludes {life} state_is what_is =
+mark_byte_after state m last byte whole awaits found none_begun excludes {life} state_is what_is =
     rw (state_is, what_is) (elim (true_or_false (eqb byte last)) [
       | inl is_last ↦ rw is_last (rw (eqb-true byte last is_last) (record {
         mark = m;
         is_encoding = refl;
         whole = whole;
         found = found;
-        no_front = no_front;
+        none_begun = none_begun;
         awaits = awaits;
       }))
       | inr is_other ↦ rw is_other
@@ -40,18 +42,18 @@ pub reaches_itself : (life : LifeCycle) → ExtendsHeldMark life life []
 reaches_itself life = record {
   held = append-nil (held_mark_bytes life);
   awaits = refl;
-  marks = λ y. refl;
-  states = λ y. refl;
+  marks = sym (held_begin life);
+  unmarked = held_unmarked life;
   stays = λ f. refl;
 }
 
--- what agrees on the bytes after those held, agrees after more of them
-agree_after : {A : Type 0} (f g : List ℕ → A) (held more : List ℕ) {whole : List ℕ}
-    → held ++ more ≡ whole
-    → ((y : List ℕ) → f (held ++ y) ≡ g (held ++ y)) → (z : List ℕ)
-    → f (whole ++ z) ≡ g (whole ++ z)
-agree_after f g held more whole_is agree z =
-    rw (← whole_is, append_assoc held more z) (agree (more ++ z))
+-- the mark that one state finds after the bytes held, another finds that holds more
+pub found_later : (a b : LifeCycle) {x : List ℕ} → ExtendsHeldMark a b x → (y : List ℕ)
+    → find_mark (marks_of a) (held_mark_bytes b ++ y)
+    ≡ find_mark (marks_of b) (held_mark_bytes b ++ y)
+found_later a b extends y =
+    sym (begun_find (marks_of a) (held_mark_bytes b) y extends.unmarked)
+    ∙ ap (λ ms. find_mark ms (held_mark_bytes b ++ y)) (sym extends.marks)
 
 -- one extension of the held bytes after another is one of both
 pub reaches_then : (a b c : LifeCycle) (x y : List ℕ) → ExtendsHeldMark a b x
@@ -61,10 +63,14 @@ reaches_then a b c x y first_extends then_extends = record {
   held = sym (append_assoc (held_mark_bytes a) x y) ∙ ap (λ t. t ++ y) first_extends.held
       ∙ then_extends.held;
   awaits = then_extends.awaits ∙ first_extends.awaits;
-  marks = λ z. agree_after (mark_in (phase_of a)) (mark_in (phase_of b)) _ _ then_extends.held
-      first_extends.marks z ∙ then_extends.marks z;
-  states = λ z. agree_after (life_at_prefix (mark_prefixes a)) (life_at_prefix (mark_prefixes b))
-      _ _ then_extends.held first_extends.states z ∙ then_extends.states z;
+  marks = then_extends.marks
+      ∙ ap (λ ms. marks_begun ms (held_mark_bytes c)) first_extends.marks
+      ∙ ap (marks_begun (marks_begun (marks_of a) (held_mark_bytes b))) (sym then_extends.held)
+      ∙ begun_more (marks_of a) (held_mark_bytes b) y
+      ∙ ap (marks_begun (marks_of a)) then_extends.held;
+  unmarked = ap (find_mark (marks_of a)) (sym then_extends.held)
+      ∙ found_later a b first_extends y ∙ ap (find_mark (marks_of b)) then_extends.held
+      ∙ then_extends.unmarked;
   stays = λ awaited. then_extends.stays (first_extends.awaits ∙ awaited)
       ∙ first_extends.stays awaited;
 }
@@ -78,10 +84,18 @@ ends_after a b x y e extends completes = record {
   is_encoding = completes.is_encoding;
   whole = sym (append_assoc (held_mark_bytes a) x y) ∙ ap (λ t. t ++ y) extends.held
       ∙ completes.whole;
-  found = λ z. agree_after (mark_in (phase_of a)) (mark_in (phase_of b)) _ _ completes.whole
-      extends.marks z ∙ completes.found z;
-  no_front = λ z. agree_after (life_at_prefix (mark_prefixes a)) (life_at_prefix (mark_prefixes b))
-      _ _ completes.whole extends.states z ∙ completes.no_front z;
+  found = λ z.
+      let after_held : held_mark_bytes b ++ (y ++ z) ≡ completes.mark.bytes ++ z =
+      sym (append_assoc (held_mark_bytes b) y z) ∙ ap (λ t. t ++ z) completes.whole in
+      ap (find_mark (marks_of a)) (sym after_held) ∙ found_later a b extends (y ++ z)
+      ∙ ap (find_mark (marks_of b)) after_held ∙ completes.found z;
+  none_begun = λ z.
+      let after_held : held_mark_bytes b ++ (y ++ z) ≡ completes.mark.bytes ++ z =
+      sym (append_assoc (held_mark_bytes b) y z) ∙ ap (λ t. t ++ z) completes.whole in
+      ap (marks_begun (marks_of a)) (sym after_held)
+      ∙ sym (begun_more (marks_of a) (held_mark_bytes b) (y ++ z))
+      ∙ ap (λ ms. marks_begun ms (held_mark_bytes b ++ (y ++ z))) (sym extends.marks)
+      ∙ ap (marks_begun (marks_of b)) after_held ∙ completes.none_begun z;
   awaits = sym extends.awaits ∙ completes.awaits;
 }
 
@@ -109,9 +123,17 @@ text_at life src n last h off = rw (drop-cons src n 0) (record {
 
 -- and so is the end, where no mark is awaited or nothing follows
 pub text_at_end : (life : LifeCycle) (src : List ℕ) (n : ℕ) (last : Bool) → length src ≤ n
-    → (awaits_mark (phase_of life) ≡ true → last ≡ true)
+    → (awaits_mark life ≡ true → last ≡ true)
     → HasNoMark life (drop n src) last
 text_at_end life src n last h l = rw (drop_all n src h) (record {
   rules_out = λ b z e. absurd (let no : ⊥ = cc in no);
   ends = λ e a. l a;
 })
+
+-- and so is all, where no mark may come
+pub no_mark_within : (life : LifeCycle) {src : List ℕ} {last : Bool} → marks_of life ≡ []
+    → HasNoMark life src last
+no_mark_within life none = record {
+  rules_out = λ b z e. record { no_mark = λ y. rw none refl; none_begun = λ y. rw none refl };
+  ends = λ e awaits. absurd (let no : false ≡ true = rw none at awaits in false≢true no);
+}

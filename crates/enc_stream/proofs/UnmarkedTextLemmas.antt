@@ -1,93 +1,64 @@
 -- Text after bytes that might have begun a mark: the decoder makes the same of them, and of later
 -- bytes, as its codec.
-use Rattle.std.proofs.Common.{◌≡◌, ℕ, ◌+◌, ◌-◌, ◌<◌, ◌≤◌, zero, suc, Bool, true, false, List, [], ◌∷◌, ◌++◌}
-use Rattle.std.proofs.Common.{length, take, drop, refl, ap, ◌∙◌, sym, arith, append_assoc, inl, inr, subst, ◌⊎◌, Some}
-use Rattle.std.proofs.Common.{None}
-use Rattle.std.proofs.lemmas.Bool.{false≢true}
+use Rattle.std.proofs.Common.{◌≡◌, ℕ, ◌+◌, ◌-◌, ◌<◌, ◌≤◌, zero, suc, Bool, true, false, if◌then◌else◌, List, [], ◌∷◌}
+use Rattle.std.proofs.Common.{◌++◌, length, take, refl, ap, ◌∙◌, sym, arith, append_assoc, inl, inr, subst, ◌⊎◌}
+use Rattle.std.proofs.Common.{Option, Some, None}
 use Rattle.std.proofs.lemmas.List.{append-nil, length-append}
 use Rattle.std.proofs.Math.Seq.{take-append-add}
 use Rattle.enc_stream.specs.declared.encoding.Encoding.{Encoding}
 use Rattle.enc_stream.specs.declared.life_cycle.LifeCycle.{LifeCycle}
-use Rattle.enc_decoder.specs.Sequence.{Sequence}
+use Rattle.enc_decoder.specs.Sequence.{Sequence, sequence_bytes, set_after}
 use Rattle.enc_decoder.specs.Segmentation.{Rule, sequences_of}
 use Rattle.enc_decoder.specs.CodecState.{CodecState, remainder_of}
 use Rattle.enc_decoder.specs.Remainder.{AreBytes, AreFirstSequences, Determines}
 use Rattle.enc_stream.specs.Encodings.{rule_of}
-use Rattle.enc_stream.specs.Bom.{Mark, sequences_by_mark}
-use Rattle.enc_stream.specs.LifeCycle.{Phase, InFront, Within, Ended, phase_of, awaits_mark, mark_in, sequences_in}
-use Rattle.enc_stream.specs.LifeCycle.{held_mark_bytes}
+use Rattle.enc_stream.specs.Bom.{Mark, find_mark, marks_begun, sequences_by_mark}
+use Rattle.enc_stream.specs.LifeCycle.{marks_of, awaits_mark, held_mark_bytes, has_ended, held_or_pending_bytes}
+use Rattle.enc_stream.specs.LifeCycle.{decoder_state_of, unread_bytes, HeldBytesMatchCodec}
 use Rattle.enc_stream.specs.Sniffing.{HasNoMark}
 use Rattle.enc_decoder.specs.Converting.{ReadsHeldFirst}
-use Rattle.enc_stream.specs.Decoding.{has_ended, remaining_sequences, decoder_remainder, held_or_pending_bytes}
-use Rattle.enc_stream.specs.Decoding.{decoder_state_of, unread_bytes, HeldBytesMatchCodec}
+use Rattle.enc_stream.specs.Decoding.{DecoderState, remaining_sequences, decoder_remainder}
 use Rattle.enc_stream.proofs.MarkFirstLemmas.{undetermined_in}
-use Rattle.enc_stream.proofs.LifeCycleLemmas.{IsOpen, open_phase, held_unmarked}
-use Rattle.enc_stream.proofs.LifeCycleLemmas.{MayBegin, may_begin}
+use Rattle.enc_stream.proofs.BegunMarkLemmas.{begun_are_longer}
+use Rattle.enc_stream.proofs.FoundMarkLemmas.{EachMark, found_has}
+use Rattle.enc_stream.proofs.LifeCycleLemmas.{held_unmarked, held_begin, may_begin, none_awaited}
+use Rattle.enc_stream.proofs.RemainingRuleLemmas.{unmarked_remaining, marked_remaining}
+use Rattle.enc_decoder.proofs.FirstSequenceLemmas.{true_or_false}
 use Rattle.enc_decoder.specs.CallRecord.{Call}
 use Rattle.enc_decoder.proofs.StageLemmas.{start_stage}
-use Rattle.enc_decoder.proofs.InnerInputLemmas.{ShiftsInput, MatchesRead}
+use Rattle.enc_decoder.proofs.InnerInputLemmas.{ShiftsInput, MatchesRead, most_or_more}
+use Rattle.enc_decoder.proofs.SegmentationLemmas as segmentation
+use Rattle.enc_units.proofs.LengthLemmas.{lengths}
 use Rattle.enc_stream.proofs.PendingBytesLemmas.{pending_of_held}
 
--- after a mark the sequences are those of its encoding
-pub marked_sequences : (p : Phase) (e : Encoding) (set : ℕ) (m : Mark) (x : List ℕ)
-    → mark_in p x ≡ Some m
-    → sequences_in p e set x ≡ sequences_of (rule_of m.encoding) 0 (drop (length m.bytes) x)
-marked_sequences (InFront looked_for) e set m x found = ap (λ o. sequences_by_mark o e x) found
-marked_sequences Within e set m x found = cc
-marked_sequences Ended e set m x found = cc
-
 -- as long as a mark may come, the bytes held determine nothing
-pub undetermined_in_front : (e : Encoding) (set : ℕ) (life : LifeCycle)
-    → awaits_mark (phase_of life) ≡ true → (s : Sequence) (ss : List Sequence)
-    → Determines (λ y. sequences_in (phase_of life) e set (held_mark_bytes life ++ y)) [] (s ∷ ss)
-    → ⊥
-undetermined_in_front e set life awaits s ss = by_phase (phase_of life) (may_begin life awaits)
-  where
-    by_phase : (p : Phase) → MayBegin p (held_mark_bytes life)
-        → Determines (λ y. sequences_in p e set (held_mark_bytes life ++ y)) [] (s ∷ ss) → ⊥
-    by_phase (InFront looked_for) begins determines =
-        undetermined_in looked_for looked_for e (held_mark_bytes life) s ss begins.0 begins.1
-        determines
-    by_phase Within begins determines = absurd begins
-    by_phase Ended begins determines = absurd begins
-
--- without a mark, the sequences are those of the rule
-pub unmarked_sequences : (p : Phase) (e : Encoding) (set : ℕ) (x : List ℕ)
-    → IsOpen p → mark_in p x ≡ None → (awaits_mark p ≡ true → set ≡ 0)
-    → sequences_in p e set x ≡ sequences_of (rule_of e) set x
-unmarked_sequences (InFront looked_for) e set x is_open none in_front =
-    ap (λ m. sequences_by_mark m e x) none
-    ∙ ap (λ k. sequences_of (rule_of e) k x) (sym (in_front refl))
-unmarked_sequences Within e set x is_open none in_front = refl
-unmarked_sequences Ended e set x is_open none in_front = absurd is_open
-
-pub none_unless_awaited : (p : Phase) (x : List ℕ) → (awaits_mark p ≡ true → mark_in p x ≡ None)
-    → mark_in p x ≡ None
-none_unless_awaited (InFront looked_for) x none = none refl
-none_unless_awaited Within x none = refl
-none_unless_awaited Ended x none = refl
+pub undetermined_in_front : (e : Encoding) (set : ℕ) (life : LifeCycle) → awaits_mark life ≡ true
+    → (s : Sequence) (ss : List Sequence)
+    → Determines (λ bytes. sequences_by_mark (find_mark (marks_of life) bytes) e set bytes)
+    (held_mark_bytes life) (s ∷ ss) → ⊥
+undetermined_in_front e set life awaits s ss =
+    let begins = may_begin life awaits in
+    undetermined_in (marks_of life) (marks_of life) e set (held_mark_bytes life) s ss begins.0
+    begins.1
 
 -- from how many bytes on it is settled that no mark comes
-abbrev pub settled_from : Phase → ℕ
-settled_from (InFront looked_for) = 1
-settled_from Within = 0
-settled_from Ended = 0
+abbrev pub settled_from : LifeCycle → ℕ
+settled_from life = if awaits_mark life then 1 else 0
 
-settled_soon : (p : Phase) → settled_from p ≤ 1
-settled_soon (InFront looked_for) = omega arith
-settled_soon Within = omega arith
-settled_soon Ended = omega arith
+settled_soon : (life : LifeCycle) → settled_from life ≤ 1
+settled_soon life = elim (awaits_mark life) as (λ awaits. (if awaits then 1 else 0) ≤ 1)
+    [ true ↦ omega arith | false ↦ omega arith ]
 
-pub settled_if_awaited : (p : Phase) (n : ℕ) → settled_from p ≤ n → awaits_mark p ≡ true → 1 ≤ n
-settled_if_awaited (InFront looked_for) n settled awaits = settled
-settled_if_awaited Within n settled awaits = absurd (false≢true awaits)
-settled_if_awaited Ended n settled awaits = absurd (false≢true awaits)
+pub settled_if_awaited : (life : LifeCycle) (n : ℕ) → settled_from life ≤ n
+    → awaits_mark life ≡ true → 1 ≤ n
+settled_if_awaited life n settled awaits = rw awaits at settled
 
-pub awaited_unless_settled : (p : Phase) (n : ℕ) → n < settled_from p → (n ≡ 0)
-    × (awaits_mark p ≡ true)
-awaited_unless_settled (InFront looked_for) n below = (omega arith, refl)
-awaited_unless_settled Within n below = absurd (omega arith)
-awaited_unless_settled Ended n below = absurd (omega arith)
+pub awaited_unless_settled : (life : LifeCycle) (n : ℕ) → n < settled_from life → (n ≡ 0)
+    × (awaits_mark life ≡ true)
+awaited_unless_settled life n below = elim (true_or_false (awaits_mark life)) [
+  | inl awaits ↦ let few : n < 1 = rw awaits at below in (omega (arith, few), awaits)
+  | inr none ↦ let few : n < 0 = rw none at below in absurd (omega (arith, few))
+]
 
 pub first_byte : (n : ℕ) (src y : List ℕ) → 1 ≤ n → n ≤ length src
     → (b : ℕ) × (z : List ℕ) × (x : List ℕ) × (src ≡ b ∷ z) × (take n src ++ y ≡ b ∷ x)
@@ -116,45 +87,58 @@ module _ {e : Encoding} {life : LifeCycle} {v : CodecState} {src : List ℕ} {la
   pub at_hand : (y : List ℕ) → pending ++ y ≡ v.pending ++ (held ++ y)
   at_hand y = ap (λ x. x ++ y) text.holds.held ∙ append_assoc v.pending held y
 
-  pub pending_in_front : awaits_mark (phase_of life) ≡ true → pending ≡ held_mark_bytes life
+  pub length_at_hand : length pending ≡ length v.pending + length held
+  length_at_hand = ap length text.holds.held ∙ length-append v.pending held
+
+  pub pending_in_front : awaits_mark life ≡ true → pending ≡ held_mark_bytes life
   pending_in_front awaits =
       pending_of_held (held_mark_bytes life) v.pending (text.holds.unread awaits).1
 
   -- no mark comes
 
   unmarked_by : (y : List ℕ)
-      → (awaits_mark (phase_of life) ≡ true
-      → mark_in (phase_of life) (held_mark_bytes life ++ y) ≡ None)
-      → mark_in (phase_of life) (pending ++ y) ≡ None
-  unmarked_by y unmarked =
-      none_unless_awaited (phase_of life) (pending ++ y)
-      (λ awaits. rw (pending_in_front awaits) (unmarked awaits))
+      → (awaits_mark life ≡ true
+      → find_mark (marks_of life) (held_mark_bytes life ++ y) ≡ None)
+      → find_mark (marks_of life) (pending ++ y) ≡ None
+  unmarked_by y unmarked = elim (true_or_false (awaits_mark life)) [
+    | inl awaits ↦ rw (pending_in_front awaits) (unmarked awaits)
+    | inr none ↦ rw (none_awaited life none) refl
+  ]
 
-  pub unmarked_after : (n : ℕ) → (awaits_mark (phase_of life) ≡ true → 1 ≤ n) → n ≤ length src
+  pub unmarked_after : (n : ℕ) → (awaits_mark life ≡ true → 1 ≤ n) → n ≤ length src
       → (y : List ℕ)
-      → mark_in (phase_of life) (pending ++ (take n src ++ y)) ≡ None
+      → find_mark (marks_of life) (pending ++ (take n src ++ y)) ≡ None
   unmarked_after n some within y = unmarked_by (take n src ++ y) (λ awaits.
       let first = first_byte n src y (some awaits) within in
-      ap (λ x. mark_in (phase_of life) (held_mark_bytes life ++ x)) first.4
+      ap (λ x. find_mark (marks_of life) (held_mark_bytes life ++ x)) first.4
       ∙ (text.no_mark.rules_out first.0 first.1 first.3).no_mark first.2)
 
+  -- and once one more byte is read, the bytes at hand begin none
+  pub begun_no_more : (n : ℕ) → 0 < n → n ≤ length src → awaits_mark life ≡ true
+      → marks_begun (marks_of life) (pending ++ take n src) ≡ []
+  begun_no_more n some within awaits =
+      let first = first_byte n src [] (omega (arith, some)) within in
+      ap (λ x. marks_begun (marks_of life) (x ++ take n src)) (pending_in_front awaits)
+      ∙ ap (λ x. marks_begun (marks_of life) (held_mark_bytes life ++ x))
+      (sym (append-nil (take n src)) ∙ first.4)
+      ∙ (text.no_mark.rules_out first.0 first.1 first.3).none_begun first.2
+
   pub unmarked_all : (z : List ℕ) → (last ≡ true → z ≡ [])
-      → mark_in (phase_of life) (pending ++ (src ++ z)) ≡ None
+      → find_mark (marks_of life) (pending ++ (src ++ z)) ≡ None
   unmarked_all z ends = unmarked_by (src ++ z) (by_bytes src refl)
     where
-      by_bytes : (x : List ℕ) → src ≡ x → awaits_mark (phase_of life) ≡ true
-          → mark_in (phase_of life) (held_mark_bytes life ++ (src ++ z)) ≡ None
+      by_bytes : (x : List ℕ) → src ≡ x → awaits_mark life ≡ true
+          → find_mark (marks_of life) (held_mark_bytes life ++ (src ++ z)) ≡ None
       by_bytes [] src_is awaits =
-          rw (src_is, ends (text.no_mark.ends src_is awaits)) (held_unmarked life)
+          rw (src_is, ends (text.no_mark.ends src_is awaits), append-nil) (held_unmarked life)
       by_bytes (b ∷ x) src_is awaits =
           rw src_is ((text.no_mark.rules_out b x src_is).no_mark (x ++ z))
 
   -- so the sequences are those of the codec
-  pub by_codec : (y : List ℕ) → mark_in (phase_of life) (pending ++ y) ≡ None
+  pub by_codec : (y : List ℕ) → find_mark (marks_of life) (pending ++ y) ≡ None
       → remaining_sequences (decoder_state_of e life v) y ≡ (remainder_of v).sequences (held ++ y)
-  by_codec y n =
-      unmarked_sequences (phase_of life) e v.set (pending ++ y) (open_phase life text.going) n
-      (λ a. (text.holds.unread a).0)
+  by_codec y none =
+      rw (text.going, none) refl
       ∙ ap (λ (r : Rule). sequences_of r v.set (pending ++ y)) text.same_rule
       ∙ ap (sequences_of v.rule v.set) (at_hand y)
 
@@ -164,9 +148,9 @@ module _ {e : Encoding} {life : LifeCycle} {v : CodecState} {src : List ℕ} {la
       (start_stage src last c.mode c.room) (record c { src = held ++ src; last = last })
   shifts c = record {
     held = length held;
-    from = settled_from (phase_of life);
-    sure = settled_from (phase_of life);
-    below = settled_from (phase_of life);
+    from = settled_from life;
+    sure = settled_from life;
+    below = settled_from life;
     len = omega (arith, length-append held src);
     near = omega arith;
     surely = omega arith;
@@ -176,19 +160,20 @@ module _ {e : Encoding} {life : LifeCycle} {v : CodecState} {src : List ℕ} {la
     by_prefix = λ n settled within y _.
         let as_shifted : length held + n ≡ n + length held - 0 = omega arith in
         by_codec (take n src ++ y)
-        (unmarked_after n (settled_if_awaited (phase_of life) n settled) within y)
+        (unmarked_after n (settled_if_awaited life n settled) within y)
         ∙ ap (remainder_of v).sequences (sym (append_assoc held (take n src) y))
         ∙ ap (λ x. (remainder_of v).sequences (x ++ y)) (sym (take-append-add held src n))
         ∙ ap (λ k. (remainder_of v).sequences (take k (held ++ src) ++ y)) as_shifted;
     begun = λ n _ _ z _. (_, refl);
     none_below = λ n below s ss determines.
-        let awaited = awaited_unless_settled (phase_of life) n below in
+        let awaited = awaited_unless_settled life n below in
         undetermined_in_front e v.set life awaited.1 s ss (λ y are_bytes.
-        subst (λ x. AreFirstSequences (s ∷ ss) (sequences_in (phase_of life) e v.set (x ++ y)))
+        subst (λ x. AreFirstSequences (s ∷ ss)
+        (sequences_by_mark (find_mark (marks_of life) (x ++ y)) e v.set (x ++ y)))
         (pending_in_front awaited.1)
-        (subst (λ k. AreFirstSequences (s ∷ ss)
+        (rw text.going at (subst (λ k. AreFirstSequences (s ∷ ss)
         (remaining_sequences (decoder_state_of e life v) (take k src ++ y)))
-        awaited.0 (determines y are_bytes)));
+        awaited.0 (determines y are_bytes))));
   }
 
   pub reads_on : {left read : ℕ} (c : Call) → ReadsHeldFirst held src left read
@@ -197,7 +182,7 @@ module _ {e : Encoding} {life : LifeCycle} {v : CodecState} {src : List ℕ} {la
     within = held_first.within;
     there = omega (arith, total, held_first.most);
     back = omega arith;
-    soon = omega (arith, settled_soon (phase_of life));
+    soon = omega (arith, settled_soon life);
     exact = elim held_first.first [
       | inl none_left ↦ by_number read (omega (arith, total))
       | inr none_read ↦ inl none_read
@@ -206,16 +191,78 @@ module _ {e : Encoding} {life : LifeCycle} {v : CodecState} {src : List ℕ} {la
   }
     where
       by_number : (n : ℕ) → length held + n ≡ c.read
-          → (n ≡ 0) ⊎ ((n < settled_from (phase_of life))
-          ⊎ ((settled_from (phase_of life) ≤ n) × (n + length held - 0 ≡ c.read)))
+          → (n ≡ 0) ⊎ ((n < settled_from life)
+          ⊎ ((settled_from life ≤ n) × (n + length held - 0 ≡ c.read)))
       by_number zero all_read = inl refl
       by_number (suc n) all_read =
-          inr (inr (omega (arith, settled_soon (phase_of life)), omega (arith, all_read)))
+          inr (inr (omega (arith, settled_soon life), omega (arith, all_read)))
 
   -- the bytes at hand that are read begin with no mark
   pub unmarked_read : (n : ℕ) → n ≤ length src
-      → mark_in (phase_of life) (pending ++ take n src) ≡ None
-  unmarked_read zero within = unmarked_by [] (λ awaits. held_unmarked life)
+      → find_mark (marks_of life) (pending ++ take n src) ≡ None
+  unmarked_read zero within =
+      unmarked_by [] (λ awaits. rw append-nil (held_unmarked life))
   unmarked_read (suc n) within =
-      ap (λ x. mark_in (phase_of life) (pending ++ x)) (sym (append-nil (take (suc n) src)))
+      ap (λ x. find_mark (marks_of life) (pending ++ x)) (sym (append-nil (take (suc n) src)))
       ∙ unmarked_after (suc n) (λ _. omega arith) within []
+
+  -- Text follows: the sequences before and after a call are those of the rule.
+  module _ {read : ℕ} (within : read ≤ length src) (done : List Sequence) (new : DecoderState)
+      (some : read ≡ 0 → done ≡ [] → ⊥) (set : new.set ≡ set_after v.set done)
+      (accounted : pending ++ take read src ≡ sequence_bytes done ++ new.pending)
+      (by_rule : (y : List ℕ) → remaining_sequences new y
+      ≡ sequences_of (rule_of e) new.set (new.pending ++ y)) where
+    abbrev old : DecoderState
+    old = decoder_state_of e life v
+
+    -- a mark that may come is longer than the bytes pending
+    no_mark_first : (m : Mark) (all : List Sequence) (y : List ℕ) → read < settled_from life
+        → find_mark (marks_of life) (pending ++ (take read src ++ y)) ≡ Some m
+        → all ≡ done
+        → AreFirstSequences all (remaining_sequences old (take read src ++ y)) → ⊥
+    no_mark_first m [] y few found is_done first =
+        some (awaited_unless_settled life read few).0 (sym is_done)
+    no_mark_first m (s ∷ ss) y few found is_done first =
+        let awaited = awaited_unless_settled life read few in
+        let longer : length (held_mark_bytes life) < length m.bytes =
+        found_has (λ m. length (held_mark_bytes life) < length m.bytes) (marks_of life)
+        (pending ++ (take read src ++ y)) m
+        (subst (EachMark (λ m. length (held_mark_bytes life) < length m.bytes))
+        (held_begin life) (begun_are_longer (marks_of life) (held_mark_bytes life))) found in
+        let of_mark = sym (marked_remaining old (take read src ++ y) m text.going found)
+        ∙ first.1 in
+        let is_mark = ap (λ (t : Sequence). length t.bytes)
+        (segmentation.first_of _ s _ _ of_mark) in
+        omega (
+          arith,
+          lengths,
+          longer,
+          is_mark,
+          ap length (pending_in_front awaited.1),
+          ap length accounted,
+          ap (λ ss. length (sequence_bytes ss)) is_done,
+          awaited.0,
+        )
+
+    pub text_goes_on : (y : List ℕ)
+        → AreFirstSequences done (remaining_sequences old (take read src ++ y))
+        → remaining_sequences old (take read src ++ y) ≡ done ++ remaining_sequences new y
+    text_goes_on y first =
+        by_found (find_mark (marks_of life) (pending ++ (take read src ++ y))) refl
+      where
+        by_found : (found : Option Mark)
+            → find_mark (marks_of life) (pending ++ (take read src ++ y)) ≡ found
+            → remaining_sequences old (take read src ++ y) ≡ done ++ remaining_sequences new y
+        by_found None none =
+            let as_text = unmarked_remaining old (take read src ++ y) text.going none in
+            as_text
+            ∙ segmentation.goes_on (record { rule = rule_of e; set = v.set; pending = pending })
+            (record { rule = rule_of e; set = new.set; pending = new.pending }) (take read src) y
+            done refl set accounted (subst (AreFirstSequences done) as_text first)
+            ∙ ap (λ ss. done ++ ss) (sym (by_rule y))
+        by_found (Some m) found = elim (most_or_more (settled_from life) read) [
+          | inl settled ↦
+              let none = unmarked_after read (settled_if_awaited life read settled) within y in
+              absurd (let no = sym found ∙ none in cc)
+          | inr few ↦ absurd (no_mark_first m done y few found refl first)
+        ]

@@ -1,5 +1,5 @@
 -- The rest of a text in UTF-8 that a call of an encoder leaves unread.
-use Rattle.std.proofs.Common.{◌≡◌, ℕ, Bool, true, List, [], ◌∷◌, ◌++◌, ◌≤◌, length, drop, refl, ap, ◌∙◌, sym, arith}
+use Rattle.std.proofs.Common.{◌≡◌, ℕ, true, List, [], ◌∷◌, ◌++◌, ◌≤◌, length, drop, refl, ap, ◌∙◌, sym, arith}
 use Rattle.std.proofs.Common.{chars, IsUtf8}
 use Rattle.std.proofs.lemmas.Str.{encodes-chars, chars-encodes, chars_from_encodes, IsCharBoundary-at_seam}
 use Rattle.std.proofs.Math.Seq.{drop-append_seam}

@@ -1,50 +1,25 @@
 -- The encoding of a whole input, by what calls have come to.
 use Rattle.std.proofs.Common.{◌≡◌, ℕ, ◌≤◌, Bool, true, false, List, [], ◌∷◌, ◌++◌, Option, Some, None, length}
-use Rattle.std.proofs.Common.{take, drop, refl, ap, sym, ◌∙◌, ◌⊎◌, inl, inr, arith, append_assoc}
+use Rattle.std.proofs.Common.{take, drop, refl, ap, sym, ◌∙◌, subst, inl, inr, arith, append_assoc}
 use Rattle.std.specs.Prelude.{nat_eq}
 use Rattle.std.specs.List.{starts_with}
 use Rattle.std.proofs.lemmas.Bool.{false≢true}
 use Rattle.std.proofs.lemmas.List.{append-nil, take-append-drop}
 use Rattle.std.proofs.Math.ListN.{drop_of_length-le}
+use Rattle.enc_units.proofs.LengthLemmas.{lengths}
 use Rattle.enc_decoder.specs.Sequence.{Sequence, sequence_bytes}
 use Rattle.enc_decoder.specs.Call.{reaches_end}
-use Rattle.enc_decoder.proofs.SegmentationLemmas.{all_bytes}
-use Rattle.enc_decoder.proofs.SequenceLemmas.{sequence_bytes-append}
-use Rattle.enc_decoder.proofs.FirstSequenceLemmas.{true_or_false}
-use Rattle.enc_stream.specs.declared.bom.BomHandling.{BomHandling}
-use Rattle.enc_stream.specs.declared.encoding.Encoding.{Encoding}
-use Rattle.enc_stream.specs.declared.life_cycle.LifeCycle.{LifeCycle}
-use Rattle.enc_stream.specs.declared.life_cycle.LifeCycle.TheVariants.{AtStart}
-use Rattle.enc_stream.specs.declared.life_cycle.LifeCycle.TheVariants.{Finished}
-use Rattle.enc_stream.specs.Encodings.{rule_of}
-use Rattle.enc_stream.specs.Bom.{Mark, find_mark, sequences_by_mark}
-use Rattle.enc_stream.specs.LifeCycle.{Phase, InFront, Within, Ended, phase_of, mark_in, mark_bytes}
-use Rattle.enc_stream.specs.LifeCycle.{encoding_of_mark_or, sequences_in, mark_prefixes, life_at_prefix}
-use Rattle.enc_stream.specs.LifeCycle.{life_after_sequences, life_after}
-use Rattle.enc_stream.specs.Decoding.{DecoderState, has_finished, has_ended, fresh_decoder}
-use Rattle.enc_stream.specs.Decoding.{remaining_sequences, whole_encoding}
-use Rattle.enc_stream.proofs.FoundMarkLemmas.{at_start, start_fits, same_front, found_is}
-use Rattle.enc_stream.proofs.WholeInputLemmas.{joined_by}
 use Rattle.enc_decoder.specs.CallRecord.{Call}
-use Rattle.enc_stream.specs.Decoding.{DecodesChunk}
+use Rattle.enc_decoder.proofs.FirstSequenceLemmas.{true_or_false}
+use Rattle.enc_decoder.proofs.SegmentationLemmas.{first_of}
+use Rattle.enc_stream.specs.declared.encoding.Encoding.{Encoding}
+use Rattle.enc_stream.specs.Bom.{Mark, find_mark, mark_bytes, marks_begun, encoding_of_mark_or}
+use Rattle.enc_stream.specs.Decoding.{DecoderState, DecodesChunk, remaining_sequences, marks_after}
+use Rattle.enc_stream.proofs.BegunMarkLemmas.{begun_find}
 use Rattle.enc_stream.proofs.DecoderProgressLemmas.{ends_read}
-use Rattle.enc_units.proofs.LengthLemmas.{lengths}
-use Rattle.enc_stream.proofs.LifeCycleLemmas.{EachState, state_has, left_has}
-use Rattle.enc_stream.proofs.EndOfInputLemmas.{finishes}
-
--- where a sequence is done, no mark may come any more
-pub within_after : (front : Option LifeCycle) (s : Sequence) (ss : List Sequence)
-    → phase_of (life_after_sequences front (s ∷ ss)) ≡ Within
-within_after None s ss = refl
-within_after (Some front) s ss =
-    left_has (λ life. phase_of life ≡ Within) refl refl front (sequence_bytes (s ∷ ss))
-
--- then the bytes pending and those unread are those of the sequences still to come
-pub within_bytes : (d : DecoderState) (y : List ℕ) → phase_of d.life ≡ Within
-    → sequence_bytes (remaining_sequences d y) ≡ d.pending ++ y
-within_bytes d y is_within =
-    ap (λ p. sequence_bytes (sequences_in p d.encoding d.set (d.pending ++ y))) is_within
-    ∙ all_bytes (rule_of d.encoding) d.set (d.pending ++ y)
+use Rattle.enc_stream.proofs.EndOfInputLemmas.{none_left}
+use Rattle.enc_stream.proofs.RemainingRuleLemmas.{marked_remaining}
+use Rattle.enc_stream.proofs.FoundMarkLemmas.{start_fits, same_front}
 
 -- The mark in front of bytes is that in front of the first ones, if it is no longer than those.
 same_mark : (looked_for : List Mark) (x y : List ℕ)
@@ -62,41 +37,13 @@ same_mark (m ∷ others) x y fits = elim (true_or_false (starts_with nat_eq (x +
   ]
 ]
 
--- While a mark may still come, the state looks for the same ones in front of all that is at hand.
-
-abbrev IsAhead : LifeCycle → List ℕ → LifeCycle → Type 0
-IsAhead life x front =
-    (phase_of front ≡ Within)
-    ⊎ ((mark_in (phase_of life) x ≡ None)
-    × ((y : List ℕ) → mark_in (phase_of front) (x ++ y) ≡ mark_in (phase_of life) (x ++ y)))
-
-are_ahead : (life : LifeCycle) → EachState (IsAhead life) (mark_prefixes life)
-are_ahead AtStart = search (inl, inr, refl, tt)
-are_ahead _ = search (inl, inr, refl, tt)
-
 -- the encoding of the whole input, by the mark before the sequences to come
 abbrev pub encoding_ahead : DecoderState → List ℕ → Encoding
-encoding_ahead d y = encoding_of_mark_or (mark_in (phase_of d.life) (d.pending ++ y)) d.encoding
+encoding_ahead d y = encoding_of_mark_or (find_mark d.marks (d.pending ++ y)) d.encoding
 
--- once no mark is looked for any more, it is the decoder's
-settled : (d : DecoderState) (y : List ℕ) (p : Phase) → phase_of d.life ≡ p
-    → mark_in p (d.pending ++ y) ≡ None → encoding_ahead d y ≡ d.encoding
-settled d y p phase_is unmarked = rw (phase_is, unmarked) refl
-
-ended_phase : (life : LifeCycle) → has_ended life ≡ true → phase_of life ≡ Ended
-ended_phase Finished ended = refl
-ended_phase _ ended = absurd (false≢true ended)
-
-pub at_end : (d : DecoderState) (y : List ℕ) → has_finished d ≡ true
-    → encoding_ahead d y ≡ d.encoding
-at_end d y finished = settled d y Ended (ended_phase d.life finished) refl
-
--- a decoder that has read nothing
-pub fresh_ahead : (handling : BomHandling) (e : Encoding) (bytes : List ℕ) → encoding_ahead
-    (fresh_decoder handling e) bytes ≡ whole_encoding handling e bytes
-fresh_ahead handling e bytes =
-    at_start (λ life looked_for. encoding_of_mark_or (mark_in (phase_of life) bytes) e
-    ≡ encoding_of_mark_or (find_mark looked_for bytes) e) refl refl refl refl refl handling e
+-- once no mark may come, it is the decoder's
+pub settled : (d : DecoderState) (y : List ℕ) → d.marks ≡ [] → encoding_ahead d y ≡ d.encoding
+settled d y none = rw none refl
 
 -- A call does not change it.
 module _ {units_of : ℕ → List ℕ} {old new : DecoderState} (c : Call)
@@ -119,87 +66,70 @@ module _ {units_of : ℕ → List ℕ} {old new : DecoderState} (c : Call)
       ∙ ap (λ z. old.pending ++ z) (append_assoc (take c.read c.src) (drop c.read c.src) y)
       ∙ sym (append_assoc old.pending (take c.read c.src) rest)
 
-  -- where it stands within the text, the mark in front is among the bytes read
-  mark_is_read : (looked_for : List Mark) → phase_of old.life ≡ InFront looked_for
-      → phase_of new.life ≡ Within → length (mark_bytes (find_mark looked_for (x ++ rest)))
-      ≤ length x
-  mark_is_read looked_for phase_is is_within =
-      let found = find_mark looked_for all in
-      let whole = joined_by found old.encoding all (found_is looked_for all) in
-      let sequences : sequence_bytes (sequences_by_mark found old.encoding all)
-      ≡ sequence_bytes decodes.call.done ++ (new.pending ++ rest) =
-      ap sequence_bytes (ap (λ p. sequences_in p old.encoding old.set all) (sym phase_is)
-      ∙ decodes.call.residual y none)
-      ∙ sequence_bytes-append decodes.call.done (remaining_sequences new rest)
-      ∙ ap (λ z. sequence_bytes decodes.call.done ++ z) (within_bytes new rest is_within) in
-      rw (← in_parts) (omega (
+  -- by the mark in front of the bytes read
+  by_read : find_mark old.marks (x ++ rest) ≡ find_mark old.marks x → new.marks ≡ [] → Stays
+  by_read same_in_front none_comes =
+      settled new rest none_comes ∙ decodes.encoding ∙ rw (in_parts, same_in_front) refl
+
+  -- if a sequence is done, the mark in front is among those bytes
+  mark_is_read : (s : Sequence) (ss : List Sequence) → s ∷ ss ≡ decodes.call.done
+      → (finished : Bool) → old.finished ≡ finished → (found : Option Mark)
+      → find_mark old.marks all ≡ found → length (mark_bytes found) ≤ length x
+  mark_is_read s ss is_done true is_finished found found_is =
+      let first = sym (none_left old (c.src ++ y) is_finished) ∙ decodes.call.residual y none
+      ∙ ap (λ ts. ts ++ remaining_sequences new rest) (sym is_done) in absurd (cc)
+  mark_is_read s ss is_done false is_finished None found_is = omega arith
+  mark_is_read s ss is_done false is_finished (Some m) found_is =
+      let first = sym (marked_remaining old (c.src ++ y) m is_finished found_is)
+      ∙ decodes.call.residual y none
+      ∙ ap (λ ts. ts ++ remaining_sequences new rest) (sym is_done) in
+      omega (
         arith,
         lengths,
-        ap length whole,
-        ap length sequences,
-        ap length in_parts,
-      ))
-
-  same_in : (p : Phase) → phase_of old.life ≡ p → phase_of new.life ≡ Within
-      → mark_in p (x ++ rest) ≡ mark_in p x
-  same_in (InFront looked_for) phase_is is_within =
-      same_mark looked_for x rest (mark_is_read looked_for phase_is is_within)
-  same_in Within phase_is is_within = refl
-  same_in Ended phase_is is_within = refl
-
-  -- by the mark in front of what was read
-  by_read : mark_in (phase_of old.life) (x ++ rest) ≡ mark_in (phase_of old.life) x
-      → encoding_ahead new rest ≡ new.encoding → Stays
-  by_read same_in_front is_settled =
-      is_settled ∙ decodes.encoding ∙ rw (in_parts, same_in_front) refl
-
-  goes_within : phase_of new.life ≡ Within → Stays
-  goes_within is_within =
-      by_read (same_in (phase_of old.life) refl is_within) (settled new rest Within is_within refl)
+        ap (λ (t : Sequence). length t.bytes) (first_of _ s _ _ first),
+        ap (λ ts. length (sequence_bytes ts)) is_done,
+        ap length decodes.accounted,
+      )
 
   goes_to_end : reaches_end c.last c.result ≡ true → Stays
   goes_to_end reaches =
-      let finished = finishes decodes ∙ reaches in
-      let ends = ends_read c decodes finished in
+      let ends = ends_read c decodes (decodes.finished ∙ reaches) in
       let none_unread : rest ≡ [] = ap (λ z. drop c.read c.src ++ z) (none ends.0)
       ∙ append-nil (drop c.read c.src)
       ∙ drop_of_length-le c.src (let all_read = ends.1 in omega arith) in
-      by_read (ap (mark_in (phase_of old.life)) (ap (λ z. x ++ z) none_unread ∙ append-nil x))
-      (at_end new rest finished)
+      by_read (ap (find_mark old.marks) (ap (λ z. x ++ z) none_unread ∙ append-nil x))
+      (decodes.marks ∙ ap (λ end. marks_after old.marks end decodes.call.done new.pending) reaches)
 
-  -- nothing is done, and the bytes are those of a front
-  goes_in_front : (front : LifeCycle) → new.life ≡ front
-      → life_at_prefix (mark_prefixes old.life) x ≡ Some front → decodes.call.done ≡ [] → Stays
-  goes_in_front front life_is at_front nothing_done =
-      elim (state_has (IsAhead old.life) (mark_prefixes old.life) x front (are_ahead old.life)
-      at_front) [
-        | inl is_within ↦ goes_within (ap phase_of life_is ∙ is_within)
-        | inr stays_ahead ↦
-            let now_pending : x ≡ new.pending =
-            decodes.accounted ∙ rw (stays_ahead.0, nothing_done) refl in
-            rw (
-              decodes.encoding,
-              stays_ahead.0,
-              life_is,
-              ← now_pending,
-              stays_ahead.1 rest,
-              in_parts,
-            ) refl
-      ]
+  -- if nothing is done, the bytes pending are those read, and no mark is
+  goes_in_front : decodes.call.done ≡ [] → new.marks ≡ marks_begun old.marks new.pending
+      → (found : Option Mark) → find_mark old.marks x ≡ found → Stays
+  goes_in_front nothing_done begun (Some m) found_is =
+      let first = rw (found_is, nothing_done) at decodes.mark in
+      absurd (let no = first.1 in cc)
+  goes_in_front nothing_done begun None found_is =
+      let now_pending : x ≡ new.pending =
+      decodes.accounted ∙ ap (λ ss. sequence_bytes ss ++ new.pending) nothing_done in
+      rw (
+        decodes.encoding,
+        found_is,
+        begun,
+        ← now_pending,
+        begun_find old.marks x rest found_is,
+        in_parts,
+      ) refl
 
-  by_state : (front : Option LifeCycle) (done : List Sequence)
-      → life_at_prefix (mark_prefixes old.life) x ≡ front → decodes.call.done ≡ done
-      → new.life ≡ life_after_sequences front done → Stays
-  by_state None done at_front done_is life_is = goes_within (ap phase_of life_is)
-  by_state (Some front) [] at_front done_is life_is = goes_in_front front life_is at_front done_is
-  by_state (Some front) (s ∷ ss) at_front done_is life_is =
-      goes_within (ap phase_of life_is ∙ within_after (Some front) s ss)
-
-  by_end : (end : Bool) → reaches_end c.last c.result ≡ end → Stays
-  by_end true reaches = goes_to_end reaches
-  by_end false goes_on =
-      by_state (life_at_prefix (mark_prefixes old.life) x) decodes.call.done refl refl (decodes.life
-      ∙ ap (λ b. life_after old.life b x decodes.call.done) goes_on)
+  by_done : (done : List Sequence) → done ≡ decodes.call.done
+      → reaches_end c.last c.result ≡ false → Stays
+  by_done [] done_is goes_on =
+      goes_in_front (sym done_is) (decodes.marks ∙ rw (goes_on, ← done_is) refl)
+      (find_mark old.marks x) refl
+  by_done (s ∷ ss) done_is goes_on =
+      by_read (same_mark old.marks x rest (subst (λ z. length (mark_bytes (find_mark old.marks z))
+      ≤ length x) in_parts (mark_is_read s ss done_is old.finished refl (find_mark old.marks all)
+      refl))) (decodes.marks ∙ rw (goes_on, ← done_is) refl)
 
   pub still_ahead : encoding_ahead new rest ≡ encoding_ahead old (c.src ++ y)
-  still_ahead = by_end (reaches_end c.last c.result) refl
+  still_ahead = elim (true_or_false (reaches_end c.last c.result)) [
+    | inl reaches ↦ goes_to_end reaches
+    | inr goes_on ↦ by_done decodes.call.done refl goes_on
+  ]

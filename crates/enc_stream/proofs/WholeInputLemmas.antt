@@ -1,53 +1,45 @@
--- The sequences of a whole input, joined, are the bytes after the mark.
-use Rattle.std.proofs.Common.{◌≡◌, ℕ, List, ◌++◌, length, drop, refl, ap, ◌∙◌, Option, Some, None}
+-- The sequences of a whole input are its bytes, and no others are.
+use Rattle.std.proofs.Common.{◌≡◌, ℕ, false, List, ◌++◌, ap, ◌∙◌, sym, Option}
+use Rattle.std.proofs.lemmas.List.{append_cancel_left}
 use Rattle.enc_stream.specs.declared.encoding.Encoding.{Encoding}
 use Rattle.enc_stream.specs.declared.bom.BomHandling.{BomHandling}
 use Rattle.enc_decoder.specs.Sequence.{Sequence, sequence_bytes}
 use Rattle.enc_decoder.specs.Segmentation.{IsSegmentation}
-use Rattle.enc_decoder.proofs.SegmentationLemmas.{all_bytes, sequences_are_segmentation, is_one}
+use Rattle.enc_decoder.proofs.SegmentationLemmas.{sequences_are_segmentation, is_one}
 use Rattle.enc_stream.specs.Encodings.{rule_of}
-use Rattle.enc_stream.specs.Bom.{Mark, find_mark, marks_looked_for, sequences_by_mark}
-use Rattle.enc_stream.specs.LifeCycle.{mark_bytes, encoding_of_mark_or}
+use Rattle.enc_stream.specs.Bom.{Mark, find_mark, marks_looked_for, encoding_of_mark_or}
+use Rattle.enc_stream.specs.Bom.{mark_sequences}
 use Rattle.enc_stream.specs.MarkLaws.{bytes_after_mark}
-use Rattle.enc_stream.specs.Decoding.{whole_sequences}
-use Rattle.enc_stream.proofs.FoundMarkLemmas.{found_is}
-use Rattle.enc_stream.proofs.FoundMarkLemmas.{by_mark}
-use Rattle.std.proofs.Common.{sym}
-
-pub joined_by : (found : Option Mark) (e : Encoding) (x : List ℕ)
-    → ((m : Mark) → found ≡ Some m → m.bytes ++ drop (length m.bytes) x ≡ x)
-    → mark_bytes found ++ sequence_bytes (sequences_by_mark found e x) ≡ x
-joined_by None e x starts = all_bytes (rule_of e) 0 x
-joined_by (Some m) e x starts =
-    ap (λ z. m.bytes ++ z) (all_bytes (rule_of m.encoding) 0 (drop (length m.bytes) x))
-    ∙ starts m refl
+use Rattle.enc_stream.specs.Decoding.{DecoderState, has_finished, remaining_sequences, whole_sequences}
+use Rattle.enc_stream.proofs.FoundMarkLemmas.{by_mark, joined_marked}
 
 pub joined : (handling : BomHandling) (e : Encoding) (bytes : List ℕ)
-    → mark_bytes (find_mark (marks_looked_for handling e) bytes)
-    ++ sequence_bytes (whole_sequences handling e bytes)
-    ≡ bytes
-joined handling e bytes =
-    joined_by (find_mark (marks_looked_for handling e) bytes) e bytes
-    (found_is (marks_looked_for handling e) bytes)
+    → sequence_bytes (whole_sequences handling e bytes) ≡ bytes
+joined handling e bytes = joined_marked (marks_looked_for handling e) e 0 bytes
 
--- is_segmented by the rule, each at its place, and no others are
+-- The sequences still to come are the bytes pending and those that follow.
+pub remaining_bytes : (d : DecoderState) (y : List ℕ) → has_finished d ≡ false
+    → sequence_bytes (remaining_sequences d y) ≡ d.pending ++ y
+remaining_bytes d y going = rw going (joined_marked d.marks d.encoding d.set (d.pending ++ y))
 
-pub is_segmented : (handling : BomHandling) (e : Encoding) (bytes : List ℕ)
-    → IsSegmentation (rule_of
-    (encoding_of_mark_or (find_mark (marks_looked_for handling e) bytes) e)) 0
-    (bytes_after_mark (find_mark (marks_looked_for handling e) bytes) bytes)
-    (whole_sequences handling e bytes)
-is_segmented handling e bytes =
-    let found = find_mark (marks_looked_for handling e) bytes in
-    rw (by_mark found e bytes) (sequences_are_segmentation (rule_of (encoding_of_mark_or found e)) 0
-    (bytes_after_mark found bytes))
+-- After the byte order mark they are segmented by its rule, each at its place.
 
-pub one : (handling : BomHandling) (e : Encoding) (bytes : List ℕ) (ss : List Sequence)
-    → IsSegmentation (rule_of
-    (encoding_of_mark_or (find_mark (marks_looked_for handling e) bytes) e)) 0
-    (bytes_after_mark (find_mark (marks_looked_for handling e) bytes) bytes) ss
-    → ss ≡ whole_sequences handling e bytes
-one handling e bytes ss segmented =
-    let found = find_mark (marks_looked_for handling e) bytes in
-    is_one (rule_of (encoding_of_mark_or found e)) 0 (bytes_after_mark found bytes) ss segmented
-    ∙ sym (by_mark found e bytes)
+module _ (handling : BomHandling) (e : Encoding) (bytes : List ℕ) where
+  abbrev found : Option Mark
+  found = find_mark (marks_looked_for handling e) bytes
+
+  pub is_segmented : (ss : List Sequence)
+      → whole_sequences handling e bytes ≡ mark_sequences found ++ ss
+      → IsSegmentation (rule_of (encoding_of_mark_or found e)) 0 (bytes_after_mark found bytes) ss
+  is_segmented ss is_whole =
+      rw (append_cancel_left (mark_sequences found) ss _ (sym is_whole ∙ by_mark found e bytes))
+      (sequences_are_segmentation (rule_of (encoding_of_mark_or found e)) 0
+      (bytes_after_mark found bytes))
+
+  pub one : (ss : List Sequence)
+      → IsSegmentation (rule_of (encoding_of_mark_or found e)) 0 (bytes_after_mark found bytes) ss
+      → mark_sequences found ++ ss ≡ whole_sequences handling e bytes
+  one ss segmented =
+      ap (λ ts. mark_sequences found ++ ts)
+      (is_one (rule_of (encoding_of_mark_or found e)) 0 (bytes_after_mark found bytes) ss segmented)
+      ∙ sym (by_mark found e bytes)

@@ -1,6 +1,8 @@
 -- Byte order marks (Encoding Standard 6, "BOM sniff").
-use Rattle.std.specs.Prelude.{ℕ, if◌then◌else◌, List, [], ◌∷◌, length, drop, nat_eq, Option, Some, None, option_map}
+use Rattle.std.specs.Prelude.{ℕ, Bool, true, false, ◌&&◌, if◌then◌else◌, List, [], ◌∷◌, length, drop, nat_eq, Option}
+use Rattle.std.specs.Prelude.{Some, None, option_map}
 use Rattle.std.specs.List.{starts_with}
+use Rattle.enc_decoder.specs.declared.byte_codec.Kind.TheVariants.{Skipped}
 use Rattle.enc_decoder.specs.Sequence.{Sequence}
 use Rattle.enc_decoder.specs.Segmentation.{sequences_of}
 use Rattle.enc_names.specs.declared.encoding_id.EncodingId.{EncodingId}
@@ -51,9 +53,46 @@ marks_looked_for Off e = []
 marks_looked_for Sniff e = marks
 marks_looked_for Remove e = marks_of_encoding e.id
 
--- The sequences of the bytes after the byte order mark, by its encoding; or of all bytes, by this
--- one, if there is none.
-abbrev pub sequences_by_mark : Option Mark → Encoding → List ℕ → List Sequence
-sequences_by_mark None e bytes = sequences_of (rule_of e) 0 bytes
-sequences_by_mark (Some m) e bytes =
-    sequences_of (rule_of m.encoding) 0 (drop (length m.bytes) bytes)
+-- the bytes of a byte order mark, if there is one
+abbrev pub mark_bytes : Option Mark → List ℕ
+mark_bytes None = []
+mark_bytes (Some m) = m.bytes
+
+-- the encoding of a byte order mark, or this one if there is none
+abbrev pub encoding_of_mark_or : Option Mark → Encoding → Encoding
+encoding_of_mark_or None e = e
+encoding_of_mark_or (Some m) e = m.encoding
+
+-- A byte order mark is a sequence that is skipped, as an escape sequence is. It designates an
+-- encoding.
+abbrev pub mark_sequence : Mark → Sequence
+mark_sequence m = record { bytes = m.bytes; text = []; kind = Skipped; set = 0 }
+
+-- the one that is found, if one is
+abbrev pub mark_sequences : Option Mark → List Sequence
+mark_sequences None = []
+mark_sequences (Some m) = mark_sequence m ∷ []
+
+-- The sequences of some bytes: a byte order mark, and then those of its encoding; or those of this
+-- encoding, from a designated character set on, if there is none.
+abbrev pub sequences_by_mark : Option Mark → Encoding → ℕ → List ℕ → List Sequence
+sequences_by_mark None e set bytes = sequences_of (rule_of e) set bytes
+sequences_by_mark (Some m) e set bytes =
+    mark_sequence m ∷ sequences_of (rule_of m.encoding) 0 (drop (length m.bytes) bytes)
+
+-- whether these bytes begin others, and are fewer
+abbrev pub is_proper_prefix : List ℕ → List ℕ → Bool
+is_proper_prefix x [] = false
+is_proper_prefix [] (b ∷ bytes) = true
+is_proper_prefix (a ∷ x) (b ∷ bytes) = nat_eq b a && is_proper_prefix x bytes
+
+-- the byte order marks that may still come after these bytes: those that they begin
+abbrev pub marks_begun : List Mark → List ℕ → List Mark
+marks_begun [] x = []
+marks_begun (m ∷ others) x =
+    if is_proper_prefix x m.bytes then m ∷ marks_begun others x else marks_begun others x
+
+-- whether there is one
+abbrev pub any_mark : List Mark → Bool
+any_mark [] = false
+any_mark (m ∷ others) = true

@@ -1,40 +1,29 @@
 -- Decoders: texts of whole inputs, and single calls (Encoding Standard 4.1, "process a queue"; 6,
 -- "decode", "UTF-8 decode" and "UTF-8 decode without BOM", for any encoding).
-use Rattle.std.specs.Prelude.{◌≡◌, ℕ, ◌+◌, ◌-◌, ◌<◌, ◌≤◌, Bool, true, false, List, [], ◌∷◌, ◌++◌, length, take, ◌==◌}
-use Rattle.std.specs.Prelude.{if◌then◌else◌}
+use Rattle.std.specs.Prelude.{◌≡◌, ℕ, ◌+◌, ◌-◌, ◌<◌, ◌≤◌, ◌==◌, Bool, true, false, ◌&&◌, List, [], ◌∷◌, ◌++◌, length}
+use Rattle.std.specs.Prelude.{take, if◌then◌else◌}
 use Rattle.std.specs.Char.{encode_utf8}
 use Rattle.enc_units.specs.Results.{decoder_result_of}
 use Rattle.enc_units.specs.declared.decoder_result.DecoderResult.{DecoderResult}
 use Rattle.enc_units.specs.declared.decoder_result.DecoderResult.TheVariants as raw
 use Rattle.enc_units.specs.declared.coder_result.CoderResult.{CoderResult}
-use Rattle.enc_names.specs.declared.encoding_id.EncodingId.{EncodingId}
-use Rattle.enc_names.specs.declared.encoding_id.EncodingId.TheVariants.{Utf8, Utf16be, Utf16le}
 use Rattle.enc_stream.specs.declared.encoding.Encoding.{Encoding}
 use Rattle.enc_stream.specs.declared.bom.BomHandling.{BomHandling}
-use Rattle.enc_stream.specs.declared.bom.BomHandling.TheVariants.{Off, Sniff, Remove}
-use Rattle.enc_stream.specs.declared.life_cycle.LifeCycle.{LifeCycle}
-use Rattle.enc_stream.specs.declared.life_cycle.LifeCycle.TheVariants.{AtStart, AtUtf8Start, AtUtf16BeStart}
-use Rattle.enc_stream.specs.declared.life_cycle.LifeCycle.TheVariants.{AtUtf16LeStart, Converting, Finished}
 use Rattle.enc_units.specs.Output.{Output, with_appended, units_of_text}
 use Rattle.enc_decoder.specs.Sequence.{Sequence, sequence_bytes, sequence_text, any_malformed, set_after}
-use Rattle.enc_decoder.specs.CodecState.{CodecState}
-use Rattle.enc_decoder.specs.Remainder.{Remainder}
+use Rattle.enc_decoder.specs.Remainder.{Remainder, AreFirstSequences}
 use Rattle.enc_decoder.specs.Call.{DecodeErrorMode, Replacement, Fatal, reaches_end}
 use Rattle.enc_decoder.specs.CallRecord.{Call, IsCall}
 use Rattle.enc_decoder.specs.Need.{MeetsDecodeNeed}
 use Rattle.enc_decoder.specs.RuleLaws.{HasTexts, IsSmallText}
-use Rattle.enc_decoder.specs.declared.text_lengths.TextLengths.{TextLengths}
-use Rattle.enc_codec.specs.Codecs.{codec_lengths}
-use Rattle.enc_names.specs.EncodingTable.{codec_by_id}
 use Rattle.enc_stream.specs.Encodings.{rule_of}
-use Rattle.enc_stream.specs.Bom.{marks_looked_for, find_mark, sequences_by_mark}
-use Rattle.enc_stream.specs.LifeCycle.{phase_of, awaits_mark, mark_in, mark_bytes, encoding_of_mark_or, sequences_in}
-use Rattle.enc_stream.specs.LifeCycle.{held_mark_bytes, life_after}
+use Rattle.enc_stream.specs.Bom.{Mark, marks_looked_for, marks_begun, any_mark, find_mark, sequences_by_mark}
+use Rattle.enc_stream.specs.Bom.{mark_sequences, encoding_of_mark_or}
 
--- the sequences of a whole input, after a byte order mark that is looked for
+-- The sequences of a whole input. A byte order mark that is looked for is the first of them.
 abbrev pub whole_sequences : BomHandling → Encoding → List ℕ → List Sequence
 whole_sequences handling e bytes =
-    sequences_by_mark (find_mark (marks_looked_for handling e) bytes) e bytes
+    sequences_by_mark (find_mark (marks_looked_for handling e) bytes) e 0 bytes
 
 -- the encoding of a whole input: that of its byte order mark, or else this one
 abbrev pub whole_encoding : BomHandling → Encoding → List ℕ → Encoding
@@ -50,111 +39,83 @@ whole_utf_8 handling e bytes =
 abbrev pub whole_malformed : BomHandling → Encoding → List ℕ → Bool
 whole_malformed handling e bytes = any_malformed (whole_sequences handling e bytes)
 
--- A decoder as its caller knows it: its encoding, its life cycle, the designated character set, and
--- the pending bytes (read, and their sequence not yet put out).
+-- A decoder as its caller knows it: its encoding, the byte order marks that may still come, the
+-- designated character set, the pending bytes (read, and their sequence not yet put out), whether
+-- these are held as those of a byte order mark, and whether the end of the input is reached.
 pub record DecoderState : Type 0 where
   pub encoding : Encoding
-  pub life : LifeCycle
+  pub marks : List Mark
   pub set : ℕ
   pub pending : List ℕ
-
--- whether the end of the input is reached, by the life cycle
-abbrev pub has_ended : LifeCycle → Bool
-has_ended Finished = true
-has_ended _ = false
+  pub held : Bool
+  pub finished : Bool
 
 -- whether the end of the input is reached
 abbrev pub has_finished : DecoderState → Bool
-has_finished d = has_ended d.life
-
--- the start of the life cycle of a decoder that removes the byte order mark of its own encoding
-abbrev pub removal_start : EncodingId → LifeCycle
-removal_start Utf8 = AtUtf8Start
-removal_start Utf16be = AtUtf16BeStart
-removal_start Utf16le = AtUtf16LeStart
-removal_start _ = Converting
-
-abbrev pub start_life : BomHandling → EncodingId → LifeCycle
-start_life Off id = Converting
-start_life Sniff id = AtStart
-start_life Remove id = removal_start id
+has_finished d = d.finished
 
 -- a decoder that has read nothing
 abbrev pub fresh_decoder : BomHandling → Encoding → DecoderState
-fresh_decoder handling e =
-    record { encoding = e; life = start_life handling e.id; set = 0; pending = [] }
+fresh_decoder handling e = record {
+  encoding = e;
+  marks = marks_looked_for handling e;
+  set = 0;
+  pending = [];
+  held = false;
+  finished = false;
+}
+
+-- The sequences of these bytes and no more: a byte order mark that may come is the first of them.
+-- After the end there are none.
+abbrev pub sequences_from : DecoderState → List ℕ → List Sequence
+sequences_from d bytes =
+    if d.finished then [] else sequences_by_mark (find_mark d.marks bytes) d.encoding d.set bytes
 
 -- the sequences still to come out if exactly the bytes y follow
 abbrev pub remaining_sequences : DecoderState → List ℕ → List Sequence
-remaining_sequences d y = sequences_in (phase_of d.life) d.encoding d.set (d.pending ++ y)
+remaining_sequences d y = sequences_from d (d.pending ++ y)
 
 -- the remainder of a decoder
 abbrev pub decoder_remainder : DecoderState → Remainder
 decoder_remainder d = record { pending = d.pending; set = d.set; sequences = remaining_sequences d }
 
--- the pending bytes: those held of a byte order mark, or else those of the codec
-abbrev pub held_or_pending_bytes : List ℕ → List ℕ → List ℕ
-held_or_pending_bytes [] of_codec = of_codec
-held_or_pending_bytes (b ∷ held) of_codec = b ∷ held
+-- The byte order marks that may still come after a call: none at the end, or once a sequence is
+-- done, and else those that the pending bytes begin.
+abbrev pub marks_after : List Mark → Bool → List Sequence → List ℕ → List Mark
+marks_after marks true done pending = []
+marks_after marks false [] pending = marks_begun marks pending
+marks_after marks false (s ∷ ss) pending = []
 
--- A decoder's state, by that of its codec.
-abbrev pub decoder_state_of : Encoding → LifeCycle → CodecState → DecoderState
-decoder_state_of e life codec =
-    record {
-      encoding = e;
-      life = life;
-      set = codec.set;
-      pending = held_or_pending_bytes (held_mark_bytes life) codec.pending;
-    }
+-- Whether the bytes left pending by a call are held as those of a byte order mark: all bytes so far
+-- begin one, or they were held before and the call has read nothing.
+abbrev pub are_still_held : Bool → List Mark → List ℕ → ℕ → Bool
+are_still_held held [] so_far read = held && (read == 0)
+are_still_held held (m ∷ marks) so_far read = any_mark (marks_begun (m ∷ marks) so_far)
 
--- the held bytes of a byte order mark that the codec has not read, by the number of bytes that it
--- has pending
-abbrev pub unread_bytes : LifeCycle → ℕ → List ℕ
-unread_bytes life pending = if pending == 0 then held_mark_bytes life else []
-
--- While a byte order mark may come, the codec has read nothing. Of the held bytes it has none
--- pending, or all.
-pub record HeldBytesMatchCodec (life : LifeCycle) (codec : CodecState) : Type 0 where
-  pub unread : awaits_mark (phase_of life) ≡ true → (codec.set ≡ 0) × (codec.pending ≡ [])
-  pub held : held_or_pending_bytes (held_mark_bytes life) codec.pending ≡ codec.pending
-      ++ unread_bytes life (length codec.pending)
-
--- Only a decoder of the encoding `id` looks for the byte order mark of `id` alone.
-abbrev pub LooksForOwnMark : EncodingId → LifeCycle → Type 0
-LooksForOwnMark id AtUtf8Start = id ≡ Utf8
-LooksForOwnMark id AtUtf16BeStart = id ≡ Utf16be
-LooksForOwnMark id AtUtf16LeStart = id ≡ Utf16le
-LooksForOwnMark id _ = Unit {0}
-
--- the codec of a decoder is that of its encoding
-abbrev pub HasCodecOf : Encoding → LifeCycle → CodecState → Type 0
-HasCodecOf e life codec = (rule_of e ≡ codec.rule) × HeldBytesMatchCodec life codec
-
--- its formulas too are those of its encoding
-abbrev pub HasFormulasOf : Encoding → LifeCycle → TextLengths → Type 0
-HasFormulasOf e life formulas = (codec_lengths (codec_by_id e.id) ≡ formulas)
-    × LooksForOwnMark e.id life
-
--- Held bytes of a byte order mark are all that is pending.
-pub record PendingAreHeldBytes (d : DecoderState) : Type 0 where
-  pub in_front : awaits_mark (phase_of d.life) ≡ true → d.pending ≡ held_mark_bytes d.life
-  pub held : (b : ℕ) (others : List ℕ) → held_mark_bytes d.life ≡ b ∷ others
-      → d.pending ≡ held_mark_bytes d.life
+abbrev pub held_after : Bool → List ℕ → Bool
+held_after still_held [] = false
+held_after still_held (b ∷ pending) = still_held
 
 -- A call of a decoder, into an output of `room` code units.
 pub record DecodesChunk (units_of : ℕ → List ℕ) (old new : DecoderState) (c : Call)
     : Type 0 where
   pub call : IsCall units_of (decoder_remainder old) (decoder_remainder new) c
-  -- A byte order mark is dropped, and sets the encoding. All other bytes read belong to the
-  -- sequences done or are pending.
-  pub accounted : old.pending ++ take c.read c.src
-      ≡ mark_bytes (mark_in (phase_of old.life) (old.pending ++ take c.read c.src))
-      ++ (sequence_bytes call.done ++ new.pending)
+  -- The bytes read are those of the sequences done and those pending.
+  pub accounted : old.pending ++ take c.read c.src ≡ sequence_bytes call.done ++ new.pending
+  -- Wherever the sequences done come first after the bytes read, those of the new state follow.
+  pub goes_on : (y : List ℕ) → (reaches_end c.last c.result ≡ true → y ≡ [])
+      → AreFirstSequences call.done (remaining_sequences old (take c.read c.src ++ y))
+      → remaining_sequences old (take c.read c.src ++ y) ≡ call.done ++ remaining_sequences new y
+  -- A byte order mark that is read is the first sequence done. It designates the encoding.
+  pub mark : AreFirstSequences
+      (mark_sequences (find_mark old.marks (old.pending ++ take c.read c.src))) call.done
   pub encoding : new.encoding
-      ≡ encoding_of_mark_or (mark_in (phase_of old.life) (old.pending ++ take c.read c.src))
-      old.encoding
-  pub life : new.life ≡ life_after old.life (reaches_end c.last c.result)
-      (old.pending ++ take c.read c.src) call.done
+      ≡ encoding_of_mark_or (find_mark old.marks (old.pending ++ take c.read c.src)) old.encoding
+  pub marks : new.marks
+      ≡ marks_after old.marks (reaches_end c.last c.result) call.done new.pending
+  pub held : new.held ≡ held_after
+      (are_still_held old.held old.marks (old.pending ++ take c.read c.src) c.read) new.pending
+  pub finished : new.finished ≡ reaches_end c.last c.result
 
 -- the same, for a call that appends what it writes to an output
 pub record DecodesInto (units_of : ℕ → List ℕ) (mode : DecodeErrorMode) (old new : DecoderState)

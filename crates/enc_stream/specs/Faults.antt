@@ -3,8 +3,6 @@ use Rattle.std.specs.Prelude.{ℕ, ◌+◌, List, [], ◌∷◌, length, if◌th
 use Rattle.enc_stream.specs.declared.encoding.Encoding.{Encoding}
 use Rattle.enc_stream.specs.declared.bom.BomHandling.{BomHandling}
 use Rattle.enc_decoder.specs.Sequence.{Sequence, is_malformed}
-use Rattle.enc_stream.specs.Bom.{marks_looked_for, find_mark}
-use Rattle.enc_stream.specs.LifeCycle.{mark_bytes}
 use Rattle.enc_stream.specs.Decoding.{whole_sequences}
 
 -- the offset and length of each malformed sequence, if the first sequence has the offset `at`
@@ -14,12 +12,6 @@ faults_from at (s ∷ ss) =
     if is_malformed s.kind then (at, length s.bytes) ∷ faults_from (at + length s.bytes) ss
     else faults_from (at + length s.bytes) ss
 
--- the offset of the first sequence of a whole input: the length of the byte order mark, if one is
--- found
-abbrev pub whole_start : BomHandling → Encoding → List ℕ → ℕ
-whole_start handling e bytes = length (mark_bytes (find_mark (marks_looked_for handling e) bytes))
-
 -- the offset and length of each malformed sequence of a whole input
 abbrev pub whole_faults : BomHandling → Encoding → List ℕ → List (ℕ × ℕ)
-whole_faults handling e bytes =
-    faults_from (whole_start handling e bytes) (whole_sequences handling e bytes)
+whole_faults handling e bytes = faults_from 0 (whole_sequences handling e bytes)

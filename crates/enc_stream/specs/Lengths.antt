@@ -1,5 +1,5 @@
 -- The lengths to allocate for the output of a decoder or an encoder.
-use Rattle.std.specs.Prelude.{◌≡◌, ℕ, Bool, Option, Some, None, List, length}
+use Rattle.std.specs.Prelude.{◌≡◌, ℕ, Bool, true, false, Option, Some, None, List, [], ◌∷◌, length}
 use Rattle.std.specs.Char.{encode_utf8}
 use Rattle.std.specs.Char.Escape.{encode_utf16}
 use Rattle.enc_decoder.specs.Call.{DecodeErrorMode, Replacement, Fatal}
@@ -7,7 +7,6 @@ use Rattle.enc_decoder.specs.Remainder.{AreBytes}
 use Rattle.enc_decoder.specs.Need.{NeedExceeds}
 use Rattle.enc_units.specs.Checked.{checked_add, checked_max}
 use Rattle.enc_decoder.specs.declared.text_lengths.TextLengths.{TextLengths}
-use Rattle.enc_decoder.specs.declared.text_lengths.TextLengths.TheVariants as by
 use Rattle.enc_decoder.specs.Lengths.{utf_8_length, reporting_length, utf_16_length}
 use Rattle.enc_codec.specs.Codecs.{codec_lengths}
 use Rattle.enc_encoder.specs.declared.byte_lengths.ByteLengths.{ByteLengths}
@@ -15,11 +14,7 @@ use Rattle.enc_encode.specs.Encoders.{encoder_lengths}
 use Rattle.enc_stream.specs.declared.encoding.Encoding.{Encoding}
 use Rattle.enc_stream.specs.declared.lengths.Query.{Query}
 use Rattle.enc_stream.specs.declared.lengths.Query.TheVariants.{Utf8, Utf8Reporting, Utf16}
-use Rattle.enc_stream.specs.declared.life_cycle.LifeCycle.{LifeCycle}
-use Rattle.enc_stream.specs.declared.life_cycle.LifeCycle.TheVariants.{AtStart, AtUtf8Start, AtUtf16BeStart}
-use Rattle.enc_stream.specs.declared.life_cycle.LifeCycle.TheVariants.{AtUtf16LeStart, SeenUtf8First, SeenUtf8Second}
-use Rattle.enc_stream.specs.declared.life_cycle.LifeCycle.TheVariants.{SeenUtf16BeFirst, SeenUtf16LeFirst}
-use Rattle.enc_stream.specs.declared.life_cycle.LifeCycle.TheVariants.{ConvertingWithPendingBb, Converting, Finished}
+use Rattle.enc_stream.specs.Bom.{Mark}
 use Rattle.enc_names.specs.EncodingTable.{codec_by_id}
 use Rattle.enc_stream.specs.Decoding.{DecoderState, decoder_remainder}
 
@@ -33,41 +28,30 @@ formula_length Utf16 lengths n h = utf_16_length lengths n h
 abbrev pub idle_length : Query → TextLengths → ℕ → Option ℕ
 idle_length q lengths n = formula_length q lengths n 0
 
--- the greater of two lengths: for this encoding, and for that of a byte order mark that may come
-abbrev pub length_with_mark : Query → TextLengths → TextLengths → ℕ → Option ℕ
-length_with_mark q of_mark lengths n =
-    checked_max (idle_length q of_mark n) (idle_length q lengths n)
+-- the greatest of a length and of those for the encodings of these byte order marks
+abbrev pub length_with_marks : Query → List Mark → Option ℕ → ℕ → Option ℕ
+length_with_marks q [] own n = own
+length_with_marks q (m ∷ marks) own n =
+    checked_max (idle_length q (codec_lengths (codec_by_id m.encoding.id)) n)
+    (length_with_marks q marks own n)
 
 -- the length for a sum of bytes, if the sum is a usize
 abbrev pub length_at : (ℕ → Option ℕ) → Option ℕ → Option ℕ
 length_at f None = None
 length_at f (Some n) = f n
 
--- The greater of two lengths where bytes of the byte order mark are held, which count as two.
-abbrev pub length_with_held : Query → TextLengths → TextLengths → ℕ → Option ℕ
-length_with_held q of_mark lengths n =
-    length_at (length_with_mark q of_mark lengths) (checked_add (Some n) 2)
-
--- The length for n more bytes, by the life cycle. The codec holds h bytes. If bytes of a byte order
--- mark are held, at most two, the codec has yet to read them.
-abbrev pub life_cycle_length : Query → LifeCycle → TextLengths → ℕ → ℕ → Option ℕ
-life_cycle_length q Converting lengths n h = formula_length q lengths n h
-life_cycle_length q AtUtf8Start lengths n h = idle_length q lengths n
-life_cycle_length q AtUtf16BeStart lengths n h = idle_length q lengths n
-life_cycle_length q AtUtf16LeStart lengths n h = idle_length q lengths n
-life_cycle_length q AtStart lengths n h =
-    checked_max (idle_length q by.Utf8 n) (length_with_mark q by.Utf16 lengths n)
-life_cycle_length q SeenUtf8First lengths n h = length_with_held q by.Utf8 lengths n
-life_cycle_length q SeenUtf8Second lengths n h = length_with_held q by.Utf8 lengths n
-life_cycle_length q SeenUtf16BeFirst lengths n h = length_with_held q by.Utf16 lengths n
-life_cycle_length q SeenUtf16LeFirst lengths n h = length_with_held q by.Utf16 lengths n
-life_cycle_length q ConvertingWithPendingBb lengths n h =
-    length_at (idle_length q lengths) (checked_add (Some n) 2)
-life_cycle_length q Finished lengths n h = formula_length q lengths n h
+-- The length for n more bytes, if a codec with these formulas holds h of those pending: for its
+-- encoding, or that of a byte order mark that may come. Bytes held as those of a byte order mark
+-- count as two.
+abbrev pub length_by_marks : Query → List Mark → Bool → TextLengths → ℕ → ℕ → Option ℕ
+length_by_marks q marks false own n h = length_with_marks q marks (formula_length q own n h) n
+length_by_marks q marks true own n h =
+    length_at (λ all. length_with_marks q marks (idle_length q own all) all)
+    (checked_add (Some n) 2)
 
 -- The length to allocate for a decoder's output from n more bytes.
 abbrev pub max_length : Query → DecoderState → ℕ → Option ℕ
-max_length q d n = life_cycle_length q d.life (codec_lengths (codec_by_id d.encoding.id)) n
+max_length q d n = length_by_marks q d.marks d.held (codec_lengths (codec_by_id d.encoding.id)) n
     (length d.pending)
 
 -- the code units of a query, and the error modes of its calls

@@ -1,8 +1,8 @@
 pub mod Encodings
 pub mod Bom
+pub mod Decoding
 pub mod LifeCycle
 pub mod Sniffing
-pub mod Decoding
 pub mod Division
 pub mod Faults
 pub mod MarkLaws

@@ -1,8 +1,14 @@
--- The life cycle of a decoder, in which it looks for a byte order mark (Encoding Standard 6,
--- "decode", for a stream in chunks).
-use Rattle.std.specs.Prelude.{ℕ, Bool, true, false, if◌then◌else◌, List, [], ◌∷◌, Option, Some, None, bytes_eq}
-use Rattle.enc_decoder.specs.Sequence.{Sequence, sequence_bytes}
-use Rattle.enc_decoder.specs.Segmentation.{sequences_of}
+-- The decoder's own states, in which it looks for a byte order mark, and each as its caller knows
+-- it.
+use Rattle.std.specs.Prelude.{◌≡◌, ℕ, ◌==◌, Bool, true, false, if◌then◌else◌, List, [], ◌∷◌, ◌++◌, length}
+use Rattle.enc_names.specs.declared.encoding_id.EncodingId.{EncodingId}
+use Rattle.enc_names.specs.declared.encoding_id.EncodingId.TheVariants.{Utf8, Utf16be, Utf16le}
+use Rattle.enc_names.specs.EncodingTable.{codec_by_id}
+use Rattle.enc_decoder.specs.CodecState.{CodecState}
+use Rattle.enc_decoder.specs.declared.text_lengths.TextLengths.{TextLengths}
+use Rattle.enc_codec.specs.Codecs.{codec_lengths}
+use Rattle.enc_stream.specs.declared.bom.BomHandling.{BomHandling}
+use Rattle.enc_stream.specs.declared.bom.BomHandling.TheVariants.{Off, Sniff, Remove}
 use Rattle.enc_stream.specs.declared.encoding.Encoding.{Encoding}
 use Rattle.enc_stream.specs.declared.life_cycle.LifeCycle.{LifeCycle}
 use Rattle.enc_stream.specs.declared.life_cycle.LifeCycle.TheVariants.{AtStart, AtUtf8Start, AtUtf16BeStart}
@@ -10,59 +16,28 @@ use Rattle.enc_stream.specs.declared.life_cycle.LifeCycle.TheVariants.{AtUtf16Le
 use Rattle.enc_stream.specs.declared.life_cycle.LifeCycle.TheVariants.{SeenUtf16BeFirst, SeenUtf16LeFirst}
 use Rattle.enc_stream.specs.declared.life_cycle.LifeCycle.TheVariants.{ConvertingWithPendingBb, Converting, Finished}
 use Rattle.enc_stream.specs.Encodings.{rule_of}
-use Rattle.enc_stream.specs.Bom.{Mark, marks, utf_8_mark, utf_16be_mark, utf_16le_mark, find_mark, sequences_by_mark}
+use Rattle.enc_stream.specs.Bom.{Mark, marks, any_mark, utf_8_mark, utf_16be_mark, utf_16le_mark}
+use Rattle.enc_stream.specs.Decoding.{DecoderState}
 
--- The phases: one of these byte order marks may come (`InFront`), none may come any more
--- (`Within`), or nothing may follow (`Ended`).
-pub data Phase : Type 0 where
-  InFront : List Mark → Phase
-  Within : Phase
-  Ended : Phase
+-- the byte order marks that may still come
+abbrev pub marks_of : LifeCycle → List Mark
+marks_of AtStart = marks
+marks_of AtUtf8Start = utf_8_mark ∷ []
+marks_of AtUtf16BeStart = utf_16be_mark ∷ []
+marks_of AtUtf16LeStart = utf_16le_mark ∷ []
+marks_of SeenUtf8First = utf_8_mark ∷ []
+marks_of SeenUtf8Second = utf_8_mark ∷ []
+marks_of SeenUtf16BeFirst = utf_16be_mark ∷ []
+marks_of SeenUtf16LeFirst = utf_16le_mark ∷ []
+marks_of ConvertingWithPendingBb = []
+marks_of Converting = []
+marks_of Finished = []
 
--- (held bytes of a byte order mark determine which of the three may still come)
-abbrev pub phase_of : LifeCycle → Phase
-phase_of AtStart = InFront marks
-phase_of AtUtf8Start = InFront (utf_8_mark ∷ [])
-phase_of AtUtf16BeStart = InFront (utf_16be_mark ∷ [])
-phase_of AtUtf16LeStart = InFront (utf_16le_mark ∷ [])
-phase_of SeenUtf8First = InFront marks
-phase_of SeenUtf8Second = InFront marks
-phase_of SeenUtf16BeFirst = InFront marks
-phase_of SeenUtf16LeFirst = InFront marks
-phase_of ConvertingWithPendingBb = Within
-phase_of Converting = Within
-phase_of Finished = Ended
+-- whether one may
+abbrev pub awaits_mark : LifeCycle → Bool
+awaits_mark life = any_mark (marks_of life)
 
--- whether a byte order mark may come
-abbrev pub awaits_mark : Phase → Bool
-awaits_mark (InFront looked_for) = true
-awaits_mark Within = false
-awaits_mark Ended = false
-
--- the byte order mark at the start of these bytes, if one may come
-abbrev pub mark_in : Phase → List ℕ → Option Mark
-mark_in (InFront looked_for) bytes = find_mark looked_for bytes
-mark_in Within bytes = None
-mark_in Ended bytes = None
-
--- the bytes of a byte order mark, if there is one
-abbrev pub mark_bytes : Option Mark → List ℕ
-mark_bytes None = []
-mark_bytes (Some m) = m.bytes
-
--- the encoding after this search
-abbrev pub encoding_of_mark_or : Option Mark → Encoding → Encoding
-encoding_of_mark_or None e = e
-encoding_of_mark_or (Some m) e = m.encoding
-
--- the sequences of these bytes, by the encoding and the designated character set
-abbrev pub sequences_in : Phase → Encoding → ℕ → List ℕ → List Sequence
-sequences_in (InFront looked_for) e set bytes =
-    sequences_by_mark (find_mark looked_for bytes) e bytes
-sequences_in Within e set bytes = sequences_of (rule_of e) set bytes
-sequences_in Ended e set bytes = []
-
--- the bytes of a byte order mark that each state holds
+-- the bytes of a byte order mark that are held
 abbrev pub held_mark_bytes : LifeCycle → List ℕ
 held_mark_bytes SeenUtf8First = 0xEF ∷ []
 held_mark_bytes SeenUtf8Second = 0xEF ∷ 0xBB ∷ []
@@ -71,47 +46,61 @@ held_mark_bytes SeenUtf16LeFirst = 0xFF ∷ []
 held_mark_bytes ConvertingWithPendingBb = 0xBB ∷ []
 held_mark_bytes _ = []
 
--- The states that each state may change to before a sequence is put out, each with the bytes that
--- it holds. These are a prefix of a byte order mark looked for, and begin with the bytes held now.
--- A pending BB stays pending.
-abbrev pub mark_prefixes : LifeCycle → List (List ℕ × LifeCycle)
-mark_prefixes AtStart =
-    ([], AtStart) ∷ (0xEF ∷ [], SeenUtf8First) ∷ (0xEF ∷ 0xBB ∷ [], SeenUtf8Second)
-    ∷ (0xFE ∷ [], SeenUtf16BeFirst) ∷ (0xFF ∷ [], SeenUtf16LeFirst) ∷ []
-mark_prefixes AtUtf8Start =
-    ([], AtUtf8Start) ∷ (0xEF ∷ [], SeenUtf8First) ∷ (0xEF ∷ 0xBB ∷ [], SeenUtf8Second) ∷ []
-mark_prefixes AtUtf16BeStart = ([], AtUtf16BeStart) ∷ (0xFE ∷ [], SeenUtf16BeFirst) ∷ []
-mark_prefixes AtUtf16LeStart = ([], AtUtf16LeStart) ∷ (0xFF ∷ [], SeenUtf16LeFirst) ∷ []
-mark_prefixes SeenUtf8First = (0xEF ∷ [], SeenUtf8First) ∷ (0xEF ∷ 0xBB ∷ [], SeenUtf8Second) ∷ []
-mark_prefixes SeenUtf8Second = (0xEF ∷ 0xBB ∷ [], SeenUtf8Second) ∷ []
-mark_prefixes SeenUtf16BeFirst = (0xFE ∷ [], SeenUtf16BeFirst) ∷ []
-mark_prefixes SeenUtf16LeFirst = (0xFF ∷ [], SeenUtf16LeFirst) ∷ []
-mark_prefixes ConvertingWithPendingBb = (0xBB ∷ [], ConvertingWithPendingBb) ∷ []
-mark_prefixes Converting = []
-mark_prefixes Finished = []
+-- whether there are some
+abbrev pub holds_bytes : List ℕ → Bool
+holds_bytes [] = false
+holds_bytes (b ∷ held) = true
 
--- the state that holds exactly these bytes, if one of the states does
-abbrev pub life_at_prefix : List (List ℕ × LifeCycle) → List ℕ → Option LifeCycle
-life_at_prefix [] bytes = None
-life_at_prefix (front ∷ others) bytes =
-    if bytes_eq front.0 bytes then Some front.1 else life_at_prefix others bytes
+-- whether the end of the input is reached
+abbrev pub has_ended : LifeCycle → Bool
+has_ended Finished = true
+has_ended _ = false
 
--- the state after the bytes `done` of those held: if EF of EF BB is done, BB is held
-abbrev pub life_after_bytes : LifeCycle → List ℕ → LifeCycle
-life_after_bytes SeenUtf8Second done =
-    if bytes_eq (0xEF ∷ []) done then ConvertingWithPendingBb else Converting
-life_after_bytes _ done = Converting
+-- the start of a decoder that removes the byte order mark of its own encoding
+abbrev pub removal_start : EncodingId → LifeCycle
+removal_start Utf8 = AtUtf8Start
+removal_start Utf16be = AtUtf16BeStart
+removal_start Utf16le = AtUtf16LeStart
+removal_start _ = Converting
 
--- the state after the sequences done, by the state of the bytes held so far, if they are such a
--- prefix
-abbrev pub life_after_sequences : Option LifeCycle → List Sequence → LifeCycle
-life_after_sequences None done = Converting
-life_after_sequences (Some front) [] = front
-life_after_sequences (Some front) (s ∷ ss) = life_after_bytes front (sequence_bytes (s ∷ ss))
+abbrev pub start_life : BomHandling → EncodingId → LifeCycle
+start_life Off id = Converting
+start_life Sniff id = AtStart
+start_life Remove id = removal_start id
 
--- The life cycle after a call, by whether the end is reached, the bytes pending before with those
--- read, and the sequences done.
-abbrev pub life_after : LifeCycle → Bool → List ℕ → List Sequence → LifeCycle
-life_after life true bytes done = Finished
-life_after life false bytes done =
-    life_after_sequences (life_at_prefix (mark_prefixes life) bytes) done
+-- the pending bytes: those held of a byte order mark, or else those of the codec
+abbrev pub held_or_pending_bytes : List ℕ → List ℕ → List ℕ
+held_or_pending_bytes [] of_codec = of_codec
+held_or_pending_bytes (b ∷ held) of_codec = b ∷ held
+
+-- A decoder's state, by that of its codec.
+abbrev pub decoder_state_of : Encoding → LifeCycle → CodecState → DecoderState
+decoder_state_of e life codec =
+    record {
+      encoding = e;
+      marks = marks_of life;
+      set = codec.set;
+      pending = held_or_pending_bytes (held_mark_bytes life) codec.pending;
+      held = holds_bytes (held_mark_bytes life);
+      finished = has_ended life;
+    }
+
+-- the held bytes of a byte order mark that the codec has not read, by the number of bytes that it
+-- has pending
+abbrev pub unread_bytes : LifeCycle → ℕ → List ℕ
+unread_bytes life pending = if pending == 0 then held_mark_bytes life else []
+
+-- While a byte order mark may come, the codec has read nothing. Of the held bytes it has none
+-- pending, or all.
+pub record HeldBytesMatchCodec (life : LifeCycle) (codec : CodecState) : Type 0 where
+  pub unread : awaits_mark life ≡ true → (codec.set ≡ 0) × (codec.pending ≡ [])
+  pub held : held_or_pending_bytes (held_mark_bytes life) codec.pending ≡ codec.pending
+      ++ unread_bytes life (length codec.pending)
+
+-- the codec of a decoder is that of its encoding
+abbrev pub HasCodecOf : Encoding → LifeCycle → CodecState → Type 0
+HasCodecOf e life codec = (rule_of e ≡ codec.rule) × HeldBytesMatchCodec life codec
+
+-- its formulas too are those of its encoding
+abbrev pub HasFormulasOf : Encoding → TextLengths → Type 0
+HasFormulasOf e formulas = codec_lengths (codec_by_id e.id) ≡ formulas

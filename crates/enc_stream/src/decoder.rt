@@ -43,8 +43,8 @@ pub struct Decoder {
 }
 
 impl Model for Decoder {
-    ghost use Rattle.enc_stream.specs.Decoding.{DecoderState, decoder_state_of};
-    ghost use Rattle.enc_stream.specs.Decoding.{HasCodecOf, HasFormulasOf};
+    ghost use Rattle.enc_stream.specs.Decoding.{DecoderState};
+    ghost use Rattle.enc_stream.specs.LifeCycle.{decoder_state_of, HasCodecOf, HasFormulasOf};
     ghost use Rattle.enc_codec.specs.Variant.{variant_decoder_state, variant_decoder_lengths};
 
     ghost Value = { DecoderState };
@@ -52,7 +52,7 @@ impl Model for Decoder {
     ghost view = { λ d. decoder_state_of d.encoding d.life (variant_decoder_state d.codec) };
 
     ghost invariant = { λ d. HasCodecOf d.encoding d.life (variant_decoder_state d.codec)
-        × HasFormulasOf d.encoding d.life (variant_decoder_lengths d.codec) };
+        × HasFormulasOf d.encoding (variant_decoder_lengths d.codec) };
 }
 
 impl fmt::Debug for Decoder {

@@ -2,7 +2,9 @@
 
 ghost use Rattle.std.specs.Prelude.{◌≡◌};
 ghost use Rattle.enc_units.specs.Checked.{checked_max as greater_of};
-ghost use Rattle.enc_stream.specs.Lengths.{formula_length, life_cycle_length, length_with_mark};
+ghost use Rattle.enc_stream.specs.LifeCycle.{marks_of, held_mark_bytes, holds_bytes};
+ghost use Rattle.enc_stream.specs.Lengths.{formula_length, idle_length};
+ghost use Rattle.enc_stream.specs.Lengths.{length_with_marks, length_by_marks};
 
 use crate::life_cycle::LifeCycle;
 use enc_codec::TextLengths;
@@ -37,11 +39,31 @@ impl Query {
         }
     }
 
-    /// Returns the greater of the lengths for two kinds of codecs that hold nothing.
-    fn own_or(self, of_mark: TextLengths, own: TextLengths, bytes: usize) -> Option<usize>
-        ensures { result ≡ length_with_mark self of_mark own bytes }
+    /// Returns the greater of a length and of that for the encoding of a byte order mark.
+    fn or_marked(self, of_mark: TextLengths, own: Option<usize>, bytes: usize) -> Option<usize>
+        ensures { result ≡ greater_of (idle_length self of_mark bytes) own }
     {
-        greater(self.length(of_mark, bytes, 0), self.length(own, bytes, 0))
+        greater(self.length(of_mark, bytes, 0), own)
+    }
+
+    /// Returns the greatest of a length and of those for the byte order marks that may still come.
+    fn or_any_marked(self, life: LifeCycle, own: Option<usize>, bytes: usize) -> Option<usize>
+        ensures { result ≡ length_with_marks self (marks_of life) own bytes }
+    {
+        match life {
+            LifeCycle::AtStart => {
+                let of_utf_16 = self.or_marked(TextLengths::Utf16, own, bytes);
+                self.or_marked(TextLengths::Utf8, of_utf_16, bytes)
+            }
+            LifeCycle::AtUtf8Start | LifeCycle::SeenUtf8First | LifeCycle::SeenUtf8Second => {
+                self.or_marked(TextLengths::Utf8, own, bytes)
+            }
+            LifeCycle::AtUtf16BeStart
+            | LifeCycle::AtUtf16LeStart
+            | LifeCycle::SeenUtf16BeFirst
+            | LifeCycle::SeenUtf16LeFirst => self.or_marked(TextLengths::Utf16, own, bytes),
+            _ => own,
+        }
     }
 
     /// Returns a decoder's length, by its life cycle and the formulas of its encoding.
@@ -52,24 +74,14 @@ impl Query {
         bytes: usize,
         held: usize,
     ) -> Option<usize>
-        ensures { result ≡ life_cycle_length self life own bytes held }
+        ensures { result ≡ length_by_marks self (marks_of life)
+            (holds_bytes (held_mark_bytes life)) own bytes held }
     {
-        match life {
-            LifeCycle::Converting | LifeCycle::Finished => self.length(own, bytes, held),
-            LifeCycle::AtUtf8Start | LifeCycle::AtUtf16BeStart | LifeCycle::AtUtf16LeStart => {
-                self.length(own, bytes, 0)
-            }
-            LifeCycle::AtStart => {
-                let others = self.own_or(TextLengths::Utf16, own, bytes);
-                greater(self.length(TextLengths::Utf8, bytes, 0), others)
-            }
-            LifeCycle::SeenUtf8First | LifeCycle::SeenUtf8Second => {
-                self.own_or(TextLengths::Utf8, own, bytes.checked_add(2)?)
-            }
-            LifeCycle::SeenUtf16BeFirst | LifeCycle::SeenUtf16LeFirst => {
-                self.own_or(TextLengths::Utf16, own, bytes.checked_add(2)?)
-            }
-            LifeCycle::ConvertingWithPendingBb => self.length(own, bytes.checked_add(2)?, 0),
+        if life.held().is_empty() {
+            let own = self.length(own, bytes, held);
+            return self.or_any_marked(life, own, bytes);
         }
+        let all = bytes.checked_add(2)?;
+        self.or_any_marked(life, self.length(own, all, 0), all)
     }
 }

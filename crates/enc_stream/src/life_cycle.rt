@@ -2,7 +2,7 @@
 //! "decode").
 
 ghost use Rattle.std.specs.Prelude.{◌≡◌, if◌then◌else◌};
-ghost use Rattle.enc_stream.specs.LifeCycle.{phase_of, awaits_mark as awaits, held_mark_bytes};
+ghost use Rattle.enc_stream.specs.LifeCycle.{awaits_mark as awaits, held_mark_bytes};
 ghost use Rattle.enc_stream.specs.Sniffing.{IsMarkByte};
 
 use crate::constants::{UTF_8, UTF_16BE, UTF_16LE};
@@ -69,7 +69,7 @@ fn first_mark_byte(byte: u8) -> MarkByte
 impl LifeCycle {
     /// Returns whether a byte order mark may still come.
     pub(crate) fn awaits_mark(self) -> bool
-        ensures { result ≡ awaits (phase_of self) }
+        ensures { result ≡ awaits self }
     {
         match self {
             LifeCycle::ConvertingWithPendingBb => false,

@@ -2,11 +2,11 @@
 
 ghost use Rattle.std.specs.Prelude.{◌≡◌, ℕ, ◌+◌, ◌-◌, ◌≤◌, ◌++◌, false, length};
 ghost use Rattle.enc_stream.specs.declared.encoding.Encoding.{Encoding};
-ghost use Rattle.enc_names.specs.declared.encoding_id.EncodingId.{EncodingId};
 ghost use Rattle.enc_stream.specs.Encodings.{rule_of};
 ghost use Rattle.enc_decoder.specs.Replacing.{replaces, decode_error_mode};
-ghost use Rattle.enc_stream.specs.Decoding.{has_ended, unread_bytes, decoder_state_of};
-ghost use Rattle.enc_stream.specs.Decoding.{HeldBytesMatchCodec, LooksForOwnMark, DecodesInto};
+ghost use Rattle.enc_stream.specs.Decoding.{DecodesInto};
+ghost use Rattle.enc_stream.specs.LifeCycle.{has_ended, unread_bytes, decoder_state_of};
+ghost use Rattle.enc_stream.specs.LifeCycle.{HeldBytesMatchCodec};
 ghost use Rattle.enc_stream.specs.Sniffing.{HasNoMark};
 
 use crate::life_cycle::LifeCycle;
@@ -44,7 +44,6 @@ pub(crate) fn convert_text<D: RawDecoder, U: Units>(
         result.replaced }
     ensures rule { (D.state codec.new).rule ≡ (D.state codec.old).rule }
     ensures formulas { D.formulas codec.new ≡ D.formulas codec.old }
-    ensures own { (id : EncodingId) → LooksForOwnMark id life.old → LooksForOwnMark id life.new }
     ensures holds { HeldBytesMatchCodec life.new (D.state codec.new) }
 {
     let before = *codec;

@@ -13,28 +13,25 @@ use Rattle.enc_units.specs.declared.decoder_result.DecoderResult.TheVariants.{In
 use Rattle.encoding_rs.specs.declared.run.DecodeCall.{DecodeCall}
 use Rattle.enc_units.specs.Output.{units_of_text}
 use Rattle.enc_decoder.specs.Sequence.{Sequence, sequence_bytes, sequence_text, any_malformed}
-use Rattle.enc_decoder.specs.Call.{reaches_end, is_replacement_mode, DecoderStops}
+use Rattle.enc_decoder.specs.Call.{is_replacement_mode, DecoderStops}
 use Rattle.enc_decoder.specs.CallRecord.{Call}
 use Rattle.enc_decoder.specs.Replacing.{decode_error_mode}
-use Rattle.enc_stream.specs.Bom.{marks_looked_for, find_mark}
-use Rattle.enc_stream.specs.LifeCycle.{Within, phase_of, mark_bytes, life_after}
 use Rattle.enc_stream.specs.Decoding.{has_finished, remaining_sequences, decoder_remainder, DecodesChunk}
-use Rattle.enc_stream.specs.Decoding.{whole_sequences, whole_encoding, whole_utf_8, whole_malformed}
+use Rattle.enc_stream.specs.Decoding.{whole_sequences, whole_encoding, whole_utf_8, whole_malformed, marks_after}
 use Rattle.encoding_rs.specs.Run.{units_of_call, is_malformed_result, replacement_text, fault_of_result}
 use Rattle.encoding_rs.specs.Run.{DecodeRunState, DecodeRunAdvances, IsDecodeRun, decode_run_start}
 use Rattle.encoding_rs.specs.Run.{DecodeRunPart, sequences_of_parts}
 use Rattle.encoding_rs.specs.Run.{reported_faults_from, all_report_malformed, HasRunDecoding}
-use Rattle.enc_decoder.proofs.InnerInputLemmas.{sequence_at_end}
 use Rattle.enc_decoder.proofs.SequenceLemmas.{sequence_bytes-append, sequence_bytes-one, sequence_text-append}
 use Rattle.enc_decoder.proofs.SequenceLemmas.{any_malformed-append, any_malformed-one, or_false, or_assoc}
 use Rattle.enc_decoder.proofs.SequenceLemmas.{units-append, units_of_text-append}
-use Rattle.enc_stream.proofs.EndOfInputLemmas.{fresh_sequences, none_left, fresh_open}
-use Rattle.enc_stream.proofs.WholeInputLemmas.{joined}
+use Rattle.enc_stream.proofs.EndOfInputLemmas.{none_left}
+use Rattle.enc_stream.proofs.WholeInputLemmas.{joined, remaining_bytes}
 use Rattle.enc_stream.proofs.DecoderCallLemmas.{pending_so_far}
 use Rattle.enc_stream.proofs.DecoderProgressLemmas.{ends_read}
-use Rattle.enc_stream.proofs.WholeEncodingLemmas.{within_after, within_bytes, encoding_ahead, still_ahead, fresh_ahead}
+use Rattle.enc_stream.proofs.WholeEncodingLemmas.{encoding_ahead, still_ahead}
 use Rattle.encoding_rs.proofs.DecodeCallLemmas.{determined_by}
-use Rattle.enc_stream.specs.Faults.{faults_from, whole_start, whole_faults}
+use Rattle.enc_stream.specs.Faults.{faults_from, whole_faults}
 use Rattle.enc_stream.proofs.FaultLemmas.{no_faults, last_fault}
 use Rattle.encoding_rs.proofs.FaultPlaceLemmas.{all_reported}
 use Rattle.encoding_rs.proofs.RunLemmas.{IsRun}
@@ -54,29 +51,27 @@ pub record IsInInput (handling : BomHandling) (e : Encoding) (bytes : List ℕ)
   pub within : s.read ≤ length bytes
   pub pending : length s.decoder.pending ≤ s.read
   pub all_read : has_finished s.decoder ≡ true → s.read ≡ length bytes
+  pub none_awaited : has_finished s.decoder ≡ true → s.decoder.marks ≡ []
   pub encoding : encoding_ahead s.decoder (drop s.read bytes) ≡ whole_encoding handling e bytes
   pub remaining : length (sequence_bytes (remaining_in_run bytes s)) ≤ length bytes
 
 -- a run that has made no call
 module _ (handling : BomHandling) (e : Encoding) (bytes : List ℕ) where
-  whole_length : length bytes ≡ whole_start handling e bytes
-      + length (sequence_bytes (remaining_in_run bytes (decode_run_start handling e)))
-  whole_length =
-      let mark = mark_bytes (find_mark (marks_looked_for handling e) bytes) in
-      ap length (sym (joined handling e bytes))
-      ∙ length-append mark (sequence_bytes (whole_sequences handling e bytes))
-      ∙ ap (λ ss. length mark + length (sequence_bytes ss)) (fresh_sequences handling e bytes)
+  whole_length : length (sequence_bytes (remaining_in_run bytes (decode_run_start handling e)))
+      ≡ length bytes
+  whole_length = ap length (joined handling e bytes)
 
   pub starts_in_input : IsInInput handling e bytes (decode_run_start handling e)
   starts_in_input = record {
     within = omega arith;
     pending = omega arith;
-    all_read = λ finished. absurd (true≢false (sym finished ∙ fresh_open handling e));
-    encoding = fresh_ahead handling e bytes;
+    all_read = λ finished. absurd (true≢false (sym finished));
+    none_awaited = λ finished. absurd (true≢false (sym finished));
+    encoding = refl;
     remaining = omega (arith, whole_length);
   }
 
-  starts_at : next_offset bytes (decode_run_start handling e) ≡ whole_start handling e bytes
+  starts_at : next_offset bytes (decode_run_start handling e) ≡ 0
   starts_at = omega (arith, whole_length)
 
 -- one call
@@ -161,6 +156,9 @@ module _ {handling : BomHandling} {e : Encoding} {bytes : List ℕ} {made : Deco
           length-take made.offer unread,
           length-drop old.read bytes,
         );
+    none_awaited = λ finished. decodes.marks
+        ∙ ap (λ end. marks_after old.decoder.marks end done new.decoder.pending)
+        (sym decodes.finished ∙ finished);
     encoding = ap (encoding_ahead new.decoder) (sym rest_is)
         ∙ still_ahead of_call decodes following none_following
         ∙ ap (encoding_ahead old.decoder) (take-append-drop made.offer unread)
@@ -190,26 +188,16 @@ module _ {handling : BomHandling} {e : Encoding} {bytes : List ℕ} {made : Deco
   flag_by (Malformed l a) stops = ap any_malformed stops.then_next
       ∙ any_malformed-one put stops.next ∙ ap (λ b. any_malformed put || b) stops.malformed
 
-  -- Once a sequence is done, all bytes up to those pending are in sequences.
-  pending_before : (s : Sequence) (ss : List Sequence) → done ≡ s ∷ ss
-      → reaches_end last advances.result ≡ false
-      → next_offset bytes new + length new.decoder.pending ≡ new.read
-  pending_before s ss some_done not_ended =
-      let is_within : phase_of new.decoder.life ≡ Within =
-      ap phase_of (decodes.life
-      ∙ ap (λ b. life_after old.decoder.life b (old.decoder.pending ++ take advances.more chunk)
-      done) not_ended
-      ∙ ap (λ x. life_after old.decoder.life false
-      (old.decoder.pending ++ take advances.more chunk) x) some_done)
-      ∙ within_after _ s ss in
-      omega (
-        arith,
-        ap length (within_bytes new.decoder (drop new.read bytes) is_within),
-        length-append new.decoder.pending (drop new.read bytes),
-        length-drop new.read bytes,
-        stays_in_input.within,
-        stays_in_input.remaining,
-      )
+  -- The sequences still to come begin with the bytes pending.
+  pending_before : next_offset bytes old + length old.decoder.pending ≡ old.read
+  pending_before = omega (
+    arith,
+    ap length (remaining_bytes old.decoder unread advances.not_finished),
+    length-append old.decoder.pending unread,
+    length-drop old.read bytes,
+    in_input.within,
+    in_input.remaining,
+  )
 
   none_put : made.replace ≡ false → any_malformed put ≡ false
   none_put reports = sym decodes.call.flag
@@ -222,19 +210,24 @@ module _ {handling : BomHandling} {e : Encoding} {bytes : List ℕ} {made : Deco
       absurd (true≢false (ap (λ b. is_replacement_mode (decode_error_mode b)) (sym replaces)
       ∙ stops.not_replaced))
 
-  fault_by : (r : DecoderResult) → advances.result ≡ r → Stops r → made.replace ≡ false
+  fault_by : (r : DecoderResult) → Stops r → made.replace ≡ false
       → fault_of_result r new.read ≡ faults_from (next_offset bytes old) done
-  fault_by InputEmpty result_is stops reports =
+  fault_by InputEmpty stops reports =
       sym (ap (faults_from _) stops.only_put ∙ no_faults _ put (none_put reports))
-  fault_by OutputFull result_is stops reports =
+  fault_by OutputFull stops reports =
       sym (ap (faults_from _) stops.only_put ∙ no_faults _ put (none_put reports))
-  fault_by (Malformed l a) result_is stops reports =
-      let first = sequence_at_end put stops.next in
-      let at_pending = pending_before first.0 first.1 (stops.then_next ∙ first.2)
-      (ap (reaches_end last) result_is) in
+  fault_by (Malformed l a) stops reports =
       let offset : new.read - a - l ≡ next_offset bytes old + length (sequence_bytes put) = omega (
         arith,
-        offset_after,
+        pending_before,
+        advances.read,
+        stops.len,
+        stops.pending,
+        ap length decodes.accounted,
+        length-append old.decoder.pending (take advances.more chunk),
+        length-take advances.more chunk,
+        decodes.call.within,
+        length-append (sequence_bytes done) new.decoder.pending,
         ap (λ ss. length (sequence_bytes ss)) stops.then_next,
         ap length (sequence_bytes-one put stops.next),
         length-append (sequence_bytes put) stops.next.bytes,
@@ -248,7 +241,7 @@ module _ {handling : BomHandling} {e : Encoding} {bytes : List ℕ} {made : Deco
       → fault_of_result advances.result new.read
       ≡ (if replace then [] else faults_from (next_offset bytes old) done)
   faults_by true replaces = no_fault advances.result decodes.call.stops replaces
-  faults_by false reports = fault_by advances.result refl decodes.call.stops reports
+  faults_by false reports = fault_by advances.result decodes.call.stops reports
 
   text_after : new.text ≡ old.text ++ units_of_text encode_utf8 (sequence_text done)
   text_after =
@@ -341,9 +334,8 @@ has_run {handling = handling} {e = e} {bytes = bytes} calls s run ends =
     record {
       parts = does.parts;
       rest = remaining_in_run bytes s;
-      sequences = fresh_sequences handling e bytes ∙ does.takes_first;
-      all = λ ended. none_left s.decoder.life s.decoder.encoding s.decoder.set
-          (s.decoder.pending ++ drop s.read bytes) (ends ∙ ended);
+      sequences = does.takes_first;
+      all = λ ended. none_left s.decoder (drop s.read bytes) (ends ∙ ended);
       calls_are = does.calls_are;
       text_of_done = does.text;
       reported = does.faults
@@ -369,5 +361,5 @@ module _ {handling : BomHandling} {e : Encoding} {bytes : List ℕ} {calls : Lis
 
   pub whole_places : all_report_malformed calls ≡ true → faults ≡ whole_faults handling e bytes
   whole_places all_report = has_run.reported
-      ∙ all_reported (whole_start handling e bytes) has_run.parts calls has_run.calls_are all_report
-      ∙ ap (faults_from (whole_start handling e bytes)) all_done
+      ∙ all_reported 0 has_run.parts calls has_run.calls_are all_report
+      ∙ ap (faults_from 0) all_done

@@ -1,7 +1,7 @@
 -- The lookahead of decoders, with byte order marks.
-use Rattle.std.proofs.Common.{◌≡◌, ℕ, ◌-◌, ◌≤◌, ◌↔◌, zero, suc, List, ◌∷◌, ◌++◌, length, take, drop, Option, Some, None}
-use Rattle.std.proofs.Common.{refl, ap, ◌∙◌, sym, subst, arith, ◌⊎◌, inl, inr}
-use Rattle.std.proofs.lemmas.List.{length-take-le, take-append-drop, length-drop}
+use Rattle.std.proofs.Common.{◌≡◌, ℕ, ◌-◌, ◌≤◌, ◌↔◌, zero, suc, List, [], ◌∷◌, ◌++◌, length, take, drop, Option}
+use Rattle.std.proofs.Common.{Some, None, refl, ap, ◌∙◌, sym, subst, arith, ◌⊎◌, inl, inr}
+use Rattle.std.proofs.lemmas.List.{length-take-le, take-append-drop, length-drop, append_cancel_left}
 use Rattle.enc_decoder.specs.declared.byte_codec.Kind.{Kind}
 use Rattle.enc_decoder.specs.declared.byte_codec.Kind.TheVariants.{Valid, Skipped, Malformed, RepeatedEscape}
 use Rattle.enc_decoder.specs.Sequence.{Sequence}
@@ -16,13 +16,13 @@ use Rattle.enc_decoder_iso_2022_jp.proofs.SkippedEscapes.{looks_after_skipped}
 use Rattle.enc_stream.specs.declared.encoding.Encoding.{Encoding}
 use Rattle.enc_stream.specs.declared.bom.BomHandling.{BomHandling}
 use Rattle.enc_stream.specs.Encodings.{rule_of}
-use Rattle.enc_stream.specs.Bom.{Mark, marks_looked_for, find_mark, sequences_by_mark}
-use Rattle.enc_stream.specs.LifeCycle.{mark_bytes, encoding_of_mark_or}
+use Rattle.enc_stream.specs.Bom.{Mark, marks_looked_for, find_mark, mark_bytes, mark_sequences}
+use Rattle.enc_stream.specs.Bom.{encoding_of_mark_or}
 use Rattle.enc_stream.specs.Decoding.{whole_sequences}
 use Rattle.enc_stream.specs.MarkLaws.{MayBeginMark, bytes_after_mark}
 use Rattle.encoding_rs.specs.Lookahead.{MayLook}
 use Rattle.enc_stream.proofs.EncodingLemmas.{lookahead_of}
-use Rattle.enc_stream.proofs.FoundMarkLemmas.{found_fits}
+use Rattle.enc_stream.proofs.FoundMarkLemmas.{found_fits, by_mark}
 use Rattle.enc_stream.proofs.MarkFirstLemmas.{undetermined, by_rule, mark_is_decided}
 
 -- by the kind of the sequence
@@ -65,12 +65,6 @@ looks_or_ends e set b z = elim ((lookahead_of e).others set b z) [
 
 -- after the byte order mark
 
-sequences_are : (found : Option Mark) (e : Encoding) (bytes : List ℕ)
-    → sequences_by_mark found e bytes
-    ≡ sequences_of (rule_of (encoding_of_mark_or found e)) 0 (bytes_after_mark found bytes)
-sequences_are None e bytes = refl
-sequences_are (Some m) e bytes = refl
-
 bytes_after : (found : Option Mark) (bytes : List ℕ) → AreBytes bytes
     → AreBytes (bytes_after_mark found bytes)
 bytes_after None bytes a = a
@@ -95,7 +89,8 @@ length_after (Some m) bytes = length-drop (length m.bytes) bytes
 
 module _ (handling : BomHandling) (e : Encoding) (bytes : List ℕ) (s : Sequence)
     (ss rest : List Sequence) (k : ℕ)
-    (whole : whole_sequences handling e bytes ≡ (s ∷ ss) ++ rest)
+    (whole : whole_sequences handling e bytes
+    ≡ mark_sequences (find_mark (marks_looked_for handling e) bytes) ++ ((s ∷ ss) ++ rest))
     (inside : k ≤ length bytes) where
   abbrev looked_for : List Mark
   looked_for = marks_looked_for handling e
@@ -113,7 +108,7 @@ module _ (handling : BomHandling) (e : Encoding) (bytes : List ℕ) (s : Sequenc
   mark_len = length (mark_bytes found)
 
   all : sequences_of rule 0 left ≡ (s ∷ ss) ++ rest
-  all = sym (sequences_are found e bytes) ∙ whole
+  all = append_cancel_left (mark_sequences found) _ _ (sym (by_mark found e bytes) ∙ whole)
 
   module _ (mark_decided : MayBeginMark looked_for (take k bytes) → ⊥) where
     same : found ≡ find_mark looked_for (take k bytes)
@@ -129,21 +124,30 @@ module _ (handling : BomHandling) (e : Encoding) (bytes : List ℕ) (s : Sequenc
     few : k - mark_len ≤ length left
     few = let left_len = length_after found bytes in omega (arith, left_len, inside)
 
-    by_front : Determines (whole_sequences handling e) (take k bytes) (s ∷ ss)
+    by_front : Determines (whole_sequences handling e) (take k bytes)
+        (mark_sequences found ++ s ∷ ss)
         ↔ Determines (sequences_of rule 0) (take (k - mark_len) left) (s ∷ ss)
     by_front =
-        subst (λ x. Determines (whole_sequences handling e) (take k bytes) (s ∷ ss)
+        subst (λ x. Determines (whole_sequences handling e) (take k bytes)
+        (mark_sequences found ++ s ∷ ss)
         ↔ Determines (sequences_of rule 0) x
         (s ∷ ss)) (front_after found bytes k fits)
         (by_rule handling e (take k bytes) (s ∷ ss) found same mark_decided)
 
+  undetermined_after : (front : List Sequence) → MayBeginMark looked_for (take k bytes)
+      → Determines (whole_sequences handling e) (take k bytes) (front ++ s ∷ ss) → ⊥
+  undetermined_after [] begins determined =
+      undetermined handling e (take k bytes) s ss begins determined
+  undetermined_after (m ∷ front) begins determined =
+      undetermined handling e (take k bytes) m (front ++ s ∷ ss) begins determined
+
   pub determined_whole : AreBytes bytes
-      → Determines (whole_sequences handling e) (take k bytes) (s ∷ ss)
+      → Determines (whole_sequences handling e) (take k bytes) (mark_sequences found ++ s ∷ ss)
       ↔ ((MayBeginMark looked_for (take k bytes) → ⊥)
       × CoverLookahead rule 0 left (s ∷ ss) (k - mark_len))
   determined_whole are_bytes = (
     (λ determined. let mark_decided : MayBeginMark looked_for (take k bytes)
-        → ⊥ = λ i. undetermined handling e (take k bytes) s ss i determined in (
+        → ⊥ = λ i. undetermined_after (mark_sequences found) i determined in (
           mark_decided,
           reach_after rule (lookahead_of (encoding_of_mark_or found e)) (s ∷ ss) rest 0
               (k - mark_len) left

@@ -8,8 +8,6 @@ pub use Rattle.enc_names.specs.EncodingTable
 pub use Rattle.enc_names.specs.LabelIds
 pub use Rattle.enc_stream.specs.Encodings
 pub use Rattle.enc_stream.specs.Bom
-pub use Rattle.enc_stream.specs.LifeCycle
-pub use Rattle.enc_stream.specs.Sniffing
 pub use Rattle.enc_stream.specs.Decoding
 pub use Rattle.enc_stream.specs.Division
 pub use Rattle.enc_stream.specs.MarkLaws

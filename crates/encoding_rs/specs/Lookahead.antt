@@ -7,9 +7,8 @@ use Rattle.enc_decoder.specs.Segmentation.{Rule}
 use Rattle.enc_stream.specs.declared.bom.BomHandling.{BomHandling}
 use Rattle.enc_stream.specs.declared.encoding.Encoding.{Encoding}
 use Rattle.enc_stream.specs.declared.constants.TheConstants.{REPLACEMENT, ISO_2022_JP}
-use Rattle.enc_stream.specs.Bom.{Mark, marks_looked_for, find_mark}
+use Rattle.enc_stream.specs.Bom.{Mark, marks_looked_for, find_mark, encoding_of_mark_or}
 use Rattle.enc_stream.specs.Encodings.{rule_of}
-use Rattle.enc_stream.specs.LifeCycle.{encoding_of_mark_or}
 use Rattle.enc_stream.specs.MarkLaws.{bytes_after_mark}
 
 -- 0 for a valid sequence and for a byte that replacement skips, 1 to 3 for a skipped escape

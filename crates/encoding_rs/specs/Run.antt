@@ -13,7 +13,7 @@ use Rattle.enc_units.specs.Output.{AreScalars, units_of_text}
 use Rattle.enc_decoder.specs.Sequence.{Sequence, sequence_bytes, sequence_text, any_malformed}
 use Rattle.enc_decoder.specs.Replacing.{decode_error_mode}
 use Rattle.enc_stream.specs.Decoding.{DecoderState, fresh_decoder, has_finished, whole_sequences, DecodesChunk}
-use Rattle.enc_stream.specs.Faults.{faults_from, whole_start}
+use Rattle.enc_stream.specs.Faults.{faults_from}
 
 -- the code units that a call decodes to
 abbrev pub units_of_call : Bool → ℕ → List ℕ
@@ -143,5 +143,5 @@ pub record HasRunDecoding (handling : BomHandling) (e : Encoding) (bytes : List 
   pub text_of_done : text ≡ units_of_text encode_utf8 (sequence_text (sequences_of_parts parts))
   -- the malformed sequences met by calls that report them, in order and at their offsets in the
   -- whole input
-  pub reported : faults ≡ reported_faults_from (whole_start handling e bytes) parts
+  pub reported : faults ≡ reported_faults_from 0 parts
   pub flag : had_errors ≡ any_malformed (sequences_of_parts parts)

@@ -5,7 +5,7 @@ ghost use Rattle.std.specs.Prelude.{◌≡◌, ◌≢◌, ◌↔◌, ℕ, ◌-�
 ghost use Rattle.std.specs.Prelude.{IsTrue, List, [], ◌∷◌, ◌++◌, Some, None, map, length};
 ghost use Rattle.std.specs.Prelude.{if◌then◌else◌};
 ghost use Rattle.enc_stream.specs.declared.bom.BomHandling.TheVariants as handling;
-ghost use Rattle.enc_stream.specs.Bom.{marks_looked_for};
+ghost use Rattle.enc_stream.specs.Bom.{marks_looked_for, mark_bytes, mark_sequences};
 ghost use Rattle.enc_encode.specs.Encoders.{encoder_rule};
 ghost use Rattle.enc_encoder.specs.Barring.{contains_char, are_beyond_ascii};
 ghost use Rattle.enc_encoder.specs.Text.{bytes_of_text, with_references};
@@ -13,22 +13,24 @@ ghost use Rattle.enc_encoder.specs.declared.character_set.CharacterSet.TheVarian
 ghost use Rattle.enc_encoder.specs.Unmappable.{any_unmappable};
 ghost use Rattle.enc_names.specs.EncodingTable.{codec_by_id};
 ghost use Rattle.enc_stream.specs.Encodings.{output_rule, rule_of};
-ghost use Rattle.enc_stream.specs.LifeCycle.{mark_bytes};
 ghost use Rattle.enc_stream.specs.MarkLaws.{MayBeginMark};
-ghost use Rattle.enc_stream.specs.Decoding.{whole_sequences, whole_malformed};
+ghost use Rattle.enc_stream.specs.Decoding.{whole_sequences, whole_utf_8, whole_malformed};
+ghost use Rattle.enc_stream.specs.Faults.{faults_from, whole_faults};
 ghost use Rattle.enc_stream.specs.Encoder.{whole_bytes};
 ghost use Rattle.enc_stream.specs.Labels.{encoding_of_label};
 ghost use Rattle.enc_stream.specs.Names.{name_of};
 ghost use Rattle.enc_stream.specs.Properties.{output_encoding_of};
 ghost use Rattle.enc_codec.specs.Properties.{DeterminesBbByItself};
 ghost use Rattle.enc_decoder.specs.Sequence.{Sequence, sequence_bytes, sequence_text};
+ghost use Rattle.enc_decoder.specs.Sequence.{any_malformed};
 ghost use Rattle.enc_decoder.specs.Segmentation.{sequences_of, IsSegmentation};
 ghost use Rattle.enc_decoder.specs.Remainder.{AreBytes, Determines};
 ghost use Rattle.enc_decoder.specs.RuleLaws.{HasTexts, IsLookahead, IsDeterminedByEnd};
 ghost use Rattle.enc_decoder.specs.Lookahead.{CoverLookahead};
 ghost use Rattle.encoding_rs.specs.Lookahead.{MayLook, mark_found, rule_found, after_mark_found};
 ghost use Rattle.enc_round_trip.specs.RoundTrip.{char_read_back, any_read_as_other};
-ghost use Rattle.enc_units.specs.Output.{AreScalars};
+ghost use Rattle.std.specs.Char.{encode_utf8};
+ghost use Rattle.enc_units.specs.Output.{AreScalars, units_of_text};
 ghost use Rattle.enc_units.specs.Validity.{IsWellFormedUtf8};
 
 use enc_stream::constants::{EUC_JP, GB18030, GBK, ISO_2022_JP, REPLACEMENT, SHIFT_JIS, UTF_8};
@@ -87,11 +89,12 @@ pub fn mark_is_determined_first(encoding: Encoding, handling: BomHandling)
         → MayBeginMark (marks_looked_for handling encoding) x
         → Determines (whole_sequences handling encoding) x (s ∷ ss) → ⊥ }
 
-    // Any other prefix determines what the rule alone does, from the bytes after the byte order
-    // mark.
+    // Any other prefix determines the byte order mark, if there is one, and then what the rule
+    // alone does, from the bytes after it.
     ensures then { (x : List ℕ) (ss : List Sequence)
         → (MayBeginMark (marks_looked_for handling encoding) x → ⊥)
-        → Determines (whole_sequences handling encoding) x ss
+        → Determines (whole_sequences handling encoding) x
+        (mark_sequences (mark_found handling encoding x) ++ ss)
         ↔ Determines (sequences_of (rule_found handling encoding x) 0)
         (after_mark_found handling encoding x) ss }
 {
@@ -106,8 +109,11 @@ pub fn mark_is_determined_first(encoding: Encoding, handling: BomHandling)
 pub fn lookahead_is_exact(encoding: Encoding, handling: BomHandling)
     ensures determined { (bytes : List ℕ) (s : Sequence) (ss rest : List Sequence) (k : ℕ)
         → AreBytes bytes
-        → whole_sequences handling encoding bytes ≡ (s ∷ ss) ++ rest → k ≤ length bytes
-        → Determines (whole_sequences handling encoding) (take k bytes) (s ∷ ss)
+        → whole_sequences handling encoding bytes
+        ≡ mark_sequences (mark_found handling encoding bytes) ++ ((s ∷ ss) ++ rest)
+        → k ≤ length bytes
+        → Determines (whole_sequences handling encoding) (take k bytes)
+        (mark_sequences (mark_found handling encoding bytes) ++ s ∷ ss)
         ↔ ((MayBeginMark (marks_looked_for handling encoding) (take k bytes) → ⊥)
         × CoverLookahead (rule_found handling encoding bytes) 0
         (after_mark_found handling encoding bytes) (s ∷ ss)
@@ -124,21 +130,43 @@ pub fn lookahead_is_exact(encoding: Encoding, handling: BomHandling)
     let _ = (encoding, handling);
 }
 
-/// The sequences of a whole input, joined, are the bytes after its byte order mark, if any.
+/// A byte order mark is skipped: it is a sequence without a text.
 ///
-/// There is one such segmentation.
-pub fn sequences_are_the_bytes(encoding: Encoding, handling: BomHandling)
-    ensures joined { (bytes : List ℕ) → mark_bytes (mark_found handling encoding bytes)
-        ++ sequence_bytes (whole_sequences handling encoding bytes) ≡ bytes }
+/// The text of a whole input is that of the bytes after the byte order mark, by its encoding. So is
+/// whether a sequence is malformed. Offsets count from the start of the input.
+pub fn mark_is_skipped(encoding: Encoding, handling: BomHandling)
+    ensures text { (bytes : List ℕ) → whole_utf_8 handling encoding bytes
+        ≡ units_of_text encode_utf8 (sequence_text (sequences_of
+        (rule_found handling encoding bytes) 0 (after_mark_found handling encoding bytes))) }
+    ensures flag { (bytes : List ℕ) → whole_malformed handling encoding bytes
+        ≡ any_malformed (sequences_of (rule_found handling encoding bytes) 0
+        (after_mark_found handling encoding bytes)) }
+    ensures faults { (bytes : List ℕ) → whole_faults handling encoding bytes
+        ≡ faults_from (length (mark_bytes (mark_found handling encoding bytes))) (sequences_of
+        (rule_found handling encoding bytes) 0 (after_mark_found handling encoding bytes)) }
+{
+    let _ = (encoding, handling);
+}
 
-    // The rule gives each at its place. No other list is such a segmentation.
-    ensures segmentation { (bytes : List ℕ)
+/// The sequences of a whole input, joined, are its bytes.
+///
+/// A byte order mark is the first of them. There is one segmentation of the bytes after it.
+pub fn sequences_are_the_bytes(encoding: Encoding, handling: BomHandling)
+    ensures joined { (bytes : List ℕ)
+        → sequence_bytes (whole_sequences handling encoding bytes) ≡ bytes }
+
+    // After the byte order mark the rule gives each at its place. No other list is such a
+    // segmentation.
+    ensures segmentation { (bytes : List ℕ) (ss : List Sequence)
+        → whole_sequences handling encoding bytes
+        ≡ mark_sequences (mark_found handling encoding bytes) ++ ss
         → IsSegmentation (rule_found handling encoding bytes) 0
-        (after_mark_found handling encoding bytes) (whole_sequences handling encoding bytes) }
+        (after_mark_found handling encoding bytes) ss }
     ensures one { (bytes : List ℕ) (ss : List Sequence)
         → IsSegmentation (rule_found handling encoding bytes) 0
         (after_mark_found handling encoding bytes) ss
-        → ss ≡ whole_sequences handling encoding bytes }
+        → mark_sequences (mark_found handling encoding bytes) ++ ss
+        ≡ whole_sequences handling encoding bytes }
 {
     let _ = (encoding, handling);
 }

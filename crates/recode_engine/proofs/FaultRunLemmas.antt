@@ -6,7 +6,6 @@ use Rattle.enc_decoder.specs.Sequence.{Sequence, sequence_text}
 use Rattle.enc_decoder.specs.Remainder.{Determines, AreDetermined}
 use Rattle.enc_decoder.proofs.DeterminedLemmas.{LeavesOff, determined_past}
 use Rattle.enc_stream.specs.Decoding.{whole_sequences, remaining_sequences}
-use Rattle.enc_stream.proofs.EndOfInputLemmas.{fresh_sequences}
 use Rattle.enc_reader.specs.Reading.{ReadsOwed, FailsToRead, fresh_reader, owed_sequences}
 use Rattle.enc_reader.proofs.ReadingLemmas.{ReaderPlace, reader_at, ReadsOwed-then}
 use Rattle.enc_writer.specs.EncodedText.{bytes_from_state}
@@ -28,9 +27,7 @@ module _ {start : RunStart} {now : RunState} (so_far : HasRun start now) (next :
   leaves_off : LeavesOff (whole_sequences start.handling start.from)
       (remaining_sequences next.state.decoder) (so_far.bytes ++ fails.bytes) next.state.unread
       reads_to_fault.done next.state.ended
-  leaves_off z ends =
-      fresh_sequences start.handling start.from ((so_far.bytes ++ fails.bytes) ++ z)
-      ∙ reads_to_fault.residual z ends
+  leaves_off z ends = reads_to_fault.residual z ends
 
   none_determined : (next_one : Sequence)
       → Determines (whole_sequences start.handling start.from) (so_far.bytes ++ fails.bytes)

@@ -17,7 +17,7 @@ use Rattle.enc_stream.specs.declared.encoding.Encoding.{Encoding}
 use Rattle.enc_stream.specs.Encodings.{output_rule}
 use Rattle.enc_stream.specs.Encoder.{whole_bytes}
 use Rattle.enc_stream.specs.Decoding.{has_finished, fresh_decoder, whole_sequences}
-use Rattle.enc_stream.proofs.EndOfInputLemmas.{fresh_sequences, none_left}
+use Rattle.enc_stream.proofs.EndOfInputLemmas.{none_left}
 use Rattle.enc_stream.proofs.EncoderProgressLemmas.{output_rule_is}
 use Rattle.enc_reader.specs.Source.{ConsumesRemaining, IsExhausted}
 use Rattle.enc_reader.specs.Reading.{ReaderState, ReadsOwed, HandsOut, FailsToRead, IsReaderAtEnd, distance_to_end}
@@ -128,14 +128,11 @@ owed_is : (handling : BomHandling) (from to : Encoding) (bytes : List ℕ)
     (sequence_text (owed_sequences (fresh_reader handling from) bytes))
 owed_is handling from to bytes =
     whole_is_owed to (whole_text handling from bytes)
-    ∙ ap (λ ss. owed_bytes (fresh_writer to) (sequence_text ss))
-    (fresh_sequences handling from bytes)
 
 -- At the end nothing is owed.
 none_after : (s : ReaderState) → has_finished s.decoder ≡ true → (z : List ℕ)
     → owed_sequences s z ≡ []
-none_after s f z = none_left s.decoder.life s.decoder.encoding s.decoder.set
-    (s.decoder.pending ++ (s.unread ++ z)) f
+none_after s f z = none_left s.decoder (s.unread ++ z) f
 
 -- A source that says all its bytes gives no more than they are.
 whole_given : (old new : Option (List ℕ)) (bytes : List ℕ) {failed : Bool}
@@ -257,8 +254,7 @@ module _ {start : RunStart} {now : RunState} (next : ReaderPlace) {text : List �
     all_done : whole_sequences start.handling start.from (so_far.bytes ++ hands_out.bytes)
         ≡ reads_on.done
     all_done =
-        fresh_sequences start.handling start.from (so_far.bytes ++ hands_out.bytes)
-        ∙ ap (owed_sequences (fresh_reader start.handling start.from))
+        ap (owed_sequences (fresh_reader start.handling start.from))
         (sym (append-nil (so_far.bytes ++ hands_out.bytes)))
         ∙ reads_on.residual [] (λ _. refl)
         ∙ ap (λ ss. reads_on.done ++ ss) end.none_owed ∙ append-nil reads_on.done

@@ -4,7 +4,8 @@ ghost use Rattle.std.specs.Prelude.{◌≡◌};
 ghost use Rattle.enc_stream.specs.declared.bom.BomHandling.TheVariants as handling;
 ghost use Rattle.enc_stream.specs.declared.lengths.Query.TheVariants as query;
 ghost use Rattle.enc_stream.specs.Lengths.{max_length};
-ghost use Rattle.enc_stream.specs.Decoding.{fresh_decoder, start_life};
+ghost use Rattle.enc_stream.specs.Decoding.{fresh_decoder};
+ghost use Rattle.enc_stream.specs.LifeCycle.{start_life};
 
 use super::Decoder;
 use crate::bom::BomHandling;

@@ -7,7 +7,7 @@ use Rattle.enc_units.specs.Output.{units_of_text}
 use Rattle.enc_decoder.specs.Sequence.{sequence_text, any_malformed}
 use Rattle.enc_decoder.specs.Remainder.{AreBytes}
 use Rattle.enc_decoder.proofs.ByteLemmas.{bytes_of_slice}
-use Rattle.enc_stream.proofs.EndOfInputLemmas.{whole_text, whole_flag, finishes}
+use Rattle.enc_stream.proofs.EndOfInputLemmas.{whole_text, whole_flag}
 use Rattle.enc_decoder.proofs.ByteLemmas.{bytes-drop}
 use Rattle.enc_stream.proofs.OneShotDecodeLemmas.{nothing, none_whole, none_so_far, next_call, still_open}
 use Rattle.enc_stream.proofs.OneShotDecodeLemmas.{never_full, too_long_after, asks_for_memory, there_is_a_length}
@@ -45,7 +45,7 @@ returns-then-eq-clause-text c =
     let decoded =
     next_call _ (none_so_far c.start-decoder.ensures c.in_ok-text.ensures.bytes) refl refl
     decodes c.decode_to_string-stop.ensures.appended in
-    whole_text decoded (rw at_end at (finishes decodes))
+    whole_text decoded (rw at_end at decodes.finished)
 
 pub returns-then-eq-clause-flag : goal.returns-then-eq-clause-flag
 returns-then-eq-clause-flag c =
@@ -54,7 +54,7 @@ returns-then-eq-clause-flag c =
     let decoded =
     next_call _ (none_so_far c.start-decoder.ensures c.in_ok-text.ensures.bytes) refl refl
     decodes c.decode_to_string-stop.ensures.appended in
-    whole_flag decoded (rw at_end at (finishes decodes))
+    whole_flag decoded (rw at_end at decodes.finished)
 
 pub max_utf8_buffer_length-length-requires : goal.max_utf8_buffer_length-length-requires
 max_utf8_buffer_length-length-requires c =
@@ -102,7 +102,7 @@ returns-clause-text c =
     let both =
     next_call _ first c.split_at.ensures.back c.in_ok-make_room.ensures.bytes decodes_rest
     c.decode_to_string.ensures.appended in
-    whole_text both (rw c.in-InputEmpty-default-default.is-0 at (finishes decodes_rest))
+    whole_text both (rw c.in-InputEmpty-default-default.is-0 at decodes_rest.finished)
 
 pub returns-clause-flag : goal.returns-clause-flag
 returns-clause-flag c =
@@ -114,4 +114,4 @@ returns-clause-flag c =
     let both =
     next_call _ first c.split_at.ensures.back c.in_ok-make_room.ensures.bytes decodes_rest
     c.decode_to_string.ensures.appended in
-    whole_flag both (rw c.in-InputEmpty-default-default.is-0 at (finishes decodes_rest))
+    whole_flag both (rw c.in-InputEmpty-default-default.is-0 at decodes_rest.finished)

@@ -1,15 +1,15 @@
 use Rattle.std.proofs.Common.{◌≡◌, ◌+◌, sym, ◌∙◌, ap, arith, length}
 use Rattle.enc_decoder.proofs.ByteLemmas.{bytes_of_slice}
-use Rattle.enc_stream.proofs.HeldMarkLemmas.{ends, stays, goes_on, stays_bb, both_equal}
-use Rattle.enc_stream.proofs.HeldMarkLemmas.{not_both_equal, all_equal, not_all_equal}
-use Rattle.enc_stream.proofs.PendingBbLemmas.{leaves_bb, holds_bb}
+use Rattle.enc_stream.proofs.HeldMarkLemmas.{ends, stays, goes_on, stays_bb}
+use Rattle.enc_stream.proofs.PendingBbLemmas.{leaves_bb, holds_bb, both_equal, not_both_equal, all_equal}
+use Rattle.enc_stream.proofs.PendingBbLemmas.{not_all_equal}
 use Rattle.std.proofs.Common.{ℕ, Bool, false, List}
 use Rattle.enc_stream.specs.declared.encoding.Encoding.{Encoding}
 use Rattle.enc_stream.specs.declared.life_cycle.LifeCycle.{LifeCycle}
 use Rattle.enc_decoder.specs.CodecState.{CodecState}
 use Rattle.enc_decoder.specs.Remainder.{AreBytes}
 use Rattle.enc_stream.specs.Encodings.{rule_of}
-use Rattle.enc_stream.specs.Decoding.{has_ended, HeldBytesMatchCodec}
+use Rattle.enc_stream.specs.LifeCycle.{has_ended, HeldBytesMatchCodec}
 use Rattle.enc_stream.specs.Sniffing.{HasNoMark}
 use Rattle.enc_stream.proofs.UnmarkedTextLemmas.{ReadsText}
 use Rattle.enc_stream.proofs.text.convert_text.Goals as goal

@@ -1,5 +1,5 @@
 use Rattle.std.proofs.Common.{drop, arith, refl, sym, ◌∙◌, rules}
-use Rattle.enc_stream.proofs.WholeEncodingLemmas.{at_end}
+use Rattle.enc_stream.proofs.WholeEncodingLemmas.{settled}
 use Rattle.encoding_rs.specs.Run.{DecodeRunAdvances}
 use Rattle.encoding_rs.proofs.RunLemmas.{run-next}
 use Rattle.encoding_rs.proofs.DecodeRunLemmas.{starts_in_input, stays_in_input, is_decode_run, has_run, whole_text}
@@ -73,8 +73,8 @@ returns-clause-text c = λ f.
 pub returns-clause-encoding : goal.returns-clause-encoding
 returns-clause-encoding c =
     λ f. c.encoding-encoding.ensures
-    ∙ sym (at_end c.loop-call.decoder (drop c.loop-call.read c.args.bytes.now)
-    (sym c.is_finished-finished.ensures ∙ f))
+    ∙ sym (settled c.loop-call.decoder (drop c.loop-call.read c.args.bytes.now)
+    (c.loop-call.invariant.in_input.none_awaited (sym c.is_finished-finished.ensures ∙ f)))
     ∙ c.loop-call.invariant.in_input.encoding
 
 pub returns-clause-read : goal.returns-clause-read

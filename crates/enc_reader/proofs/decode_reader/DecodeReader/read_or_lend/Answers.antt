@@ -1,4 +1,5 @@
-use Rattle.std.proofs.Common.{arith, rules, ◌<◌, refl}
+use Rattle.std.proofs.Common.{[], arith, rules, ◌<◌, refl, ap}
+use Rattle.enc_stream.specs.Bom.{find_mark}
 use Rattle.enc_reader.proofs.ReadingLemmas.{handed_utf_8}
 use Rattle.enc_reader.proofs.CountingLemmas.{nothing_undetermined}
 use Rattle.enc_reader.proofs.LendingLemmas.{HandsOutCounted-filled, HandsOutCounted-lent, CountsBytes-lent}
@@ -59,8 +60,9 @@ returns-clause-counted g c =
 pub invariant_of-self-clause-settled : goal.invariant_of-self-clause-settled
 invariant_of-self-clause-settled g c =
     let some : 0 < c.text_ahead-len.result = omega arith in
-    λ _ _. nothing_undetermined c.fill.new.self.decoder
-    (c.text_ahead-len.ensures.own some).between.none_pending
+    let between = (c.text_ahead-len.ensures.own some).between in
+    λ _ _. nothing_undetermined c.fill.new.self.decoder between.none_pending
+    (ap (λ marks. find_mark marks []) between.no_mark)
 
 pub returns-then-len-ge-LEAST_LENT-clause-lends : goal.returns-then-len-ge-LEAST_LENT-clause-lends
 returns-then-len-ge-LEAST_LENT-clause-lends g c =

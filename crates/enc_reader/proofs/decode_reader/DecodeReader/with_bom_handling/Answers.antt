@@ -1,5 +1,7 @@
 use Rattle.std.proofs.Common.{refl}
+use Rattle.enc_stream.specs.Decoding.{fresh_decoder}
 use Rattle.enc_reader.proofs.CountingLemmas.{HasGiven-fresh, fresh_faults, nothing_undetermined}
+use Rattle.enc_reader.proofs.CountingLemmas.{none_found_at_start}
 use Rattle.enc_reader.proofs.decode_reader.DecodeReader.with_bom_handling.Goals as goal
 
 pub returns-clause-given : goal.returns-clause-given
@@ -12,4 +14,6 @@ returns-clause-faults g c =
 
 pub invariant_of-result-clause-settled : goal.invariant_of-result-clause-settled
 invariant_of-result-clause-settled g c =
-    λ _ _. rw c.new_decoder_with_bom_handling.ensures (nothing_undetermined _ refl)
+    λ _ _. rw c.new_decoder_with_bom_handling.ensures (nothing_undetermined
+    (fresh_decoder c.args.handling c.args.encoding) refl
+    (none_found_at_start c.args.handling c.args.encoding))

@@ -1,15 +1,14 @@
-use Rattle.std.proofs.Common.{◌≡◌, refl, sym, ◌∙◌, ap, subst, take}
-use Rattle.std.proofs.lemmas.Bool.{false≢true}
+use Rattle.std.proofs.Common.{◌≡◌, [], refl, sym, ◌∙◌, ap, subst, take}
 use Rattle.std.proofs.Math.Seq.{take-length}
 use Rattle.enc_codec.specs.Variant.{variant_decoder_state, variant_decoder_lengths}
 use Rattle.enc_decoder.proofs.ByteLemmas.{bytes_of_slice}
 use Rattle.enc_stream.specs.Sniffing.{ExtendsHeldMark}
-use Rattle.enc_stream.specs.declared.life_cycle.LifeCycle.TheVariants.{Converting}
-use Rattle.enc_stream.specs.Decoding.{DecoderState, HasFormulasOf}
+use Rattle.enc_stream.specs.Decoding.{DecoderState}
+use Rattle.enc_stream.specs.LifeCycle.{marks_of, HasFormulasOf}
 use Rattle.enc_stream.specs.Encodings.{rule_of}
-use Rattle.enc_stream.proofs.PendingBytesLemmas.{shows_held}
 use Rattle.enc_stream.proofs.OutputFullLemmas.{converts_into}
-use Rattle.enc_stream.proofs.LifeCycleLemmas.{awaiting_goes_on, own_stays}
+use Rattle.enc_stream.proofs.LifeCycleLemmas.{holds_marks}
+use Rattle.enc_stream.proofs.SniffingLemmas.{no_mark_within}
 use Rattle.enc_stream.proofs.AfterMarkLemmas.{all_held, after_prefix, goes_on_after_mark, after_text}
 use Rattle.enc_stream.proofs.decoder.Decoder.convert.Goals as goal
 use Rattle.enc_stream.proofs.decoder.Decoder.convert.Goals.{in-Mark, in-Text}
@@ -21,22 +20,18 @@ returns-in-Open g c =
     subst (ExtendsHeldMark c.self.inside.life c.in-Open.life)
     (sym (ap (λ n. take n c.args.src.now) sniffed.0
     ∙ take-length c.args.src.now)) sniffed.3 in
-    converts_into c.laws.ensures (rw (← c.self.view_is) (shows_held _ _ _ c.self.invariant.0.1))
+    converts_into c.laws.ensures (rw (← c.self.view_is) (holds_marks _ _ _ c.self.invariant.0.1))
     c.requires.unfinished
     (rw (← c.self.view_is, sniffed.1)
     (all_held _ _ _ c.self.invariant.0.1 extends
-    (sym extends.awaits ∙ sniffed.2) (bytes_of_slice _ c.type_inv.src)
-    (awaiting_goes_on _ sniffed.2) sniffed.0))
+    (sym extends.awaits ∙ sniffed.2) (bytes_of_slice _ c.type_inv.src) sniffed.0))
 
 pub convert_text-of_text-requires-clause-text : goal.convert_text-of_text-requires-clause-text
 convert_text-of_text-requires-clause-text g c = elim c.match-sniffed.branch [
   | in-Mark w ↦
-      let fresh : w.self-in-Mark.inside.life ≡ Converting =
-      ap (λ (d : DecoderState). d.life) (w.self-in-Mark.view_is ∙ w.start.ensures) in
-      rw (w.self-inside-is, fresh) (record {
-        rules_out = λ b z e. record { no_mark = λ y. refl; no_front = λ y. refl };
-        ends = λ e awaits. absurd (false≢true awaits);
-      })
+      let none_looked_for : marks_of w.self-in-Mark.inside.life ≡ [] =
+      ap (λ (d : DecoderState). d.marks) (w.self-in-Mark.view_is ∙ w.start.ensures) in
+      rw w.self-inside-is (no_mark_within _ none_looked_for)
   | in-Text w ↦
       let sniffed = rw w.in-Text.is at c.sniff-sniffed.ensures.sniffed in
       rw (w.self-inside-is, c.split_at.ensures.back) sniffed.1
@@ -50,28 +45,19 @@ invariant_of-self-2 g c =
       | in-Mark w ↦ rw w.self-inside-is w.self-in-Mark.invariant.0.0
       | in-Text w ↦ rw w.self-inside-is c.self.invariant.0.0
     ] in
-    let formulas : HasFormulasOf inside.encoding inside.life
-    (variant_decoder_lengths inside.codec) =
+    let formulas : HasFormulasOf inside.encoding (variant_decoder_lengths inside.codec) =
     elim c.match-sniffed.branch [
       | in-Mark w ↦ rw w.self-inside-is w.self-in-Mark.invariant.1
-      | in-Text w ↦
-          let sniffed = rw w.in-Text.is at c.sniff-sniffed.ensures.sniffed in
-          rw w.self-inside-is (
-            c.self.invariant.1.0,
-            own_stays _ _ _ sniffed.0 c.self.invariant.1.1,
-          )
+      | in-Text w ↦ rw w.self-inside-is c.self.invariant.1
     ] in (
       (rule ∙ sym c.convert_text-of_text.ensures.rule, c.convert_text-of_text.ensures.holds),
-      (
-        formulas.0 ∙ sym c.convert_text-of_text.ensures.formulas,
-        c.convert_text-of_text.ensures.own _ formulas.1,
-      ),
+      formulas ∙ sym c.convert_text-of_text.ensures.formulas,
     )
 
 pub returns : goal.returns
 returns g c =
     let inside = c.match-sniffed.self-inside in
-    converts_into c.laws.ensures (rw (← c.self.view_is) (shows_held _ _ _ c.self.invariant.0.1))
+    converts_into c.laws.ensures (rw (← c.self.view_is) (holds_marks _ _ _ c.self.invariant.0.1))
     c.requires.unfinished (elim c.match-sniffed.branch [
       | in-Mark w ↦
           let completes = rw w.in-Mark.is at c.sniff-sniffed.ensures.sniffed in

@@ -2,7 +2,6 @@ use Rattle.std.proofs.Common.{refl, rules}
 use Rattle.std.specs.String.{string_bytes, string_len, string_capacity}
 use Rattle.std.proofs.Common.{◌≡◌, ap, length, arith}
 use Rattle.enc_units.specs.Output.{Output}
-use Rattle.enc_stream.proofs.EndOfInputLemmas.{ends_at_end}
 use Rattle.enc_stream.proofs.AppendedOutputLemmas.{over_text, reports_none, in_front, capacity_stays}
 use Rattle.enc_stream.proofs.OutputFullLemmas.{four_bytes}
 use Rattle.enc_stream.proofs.AppendedOutputLemmas.{still_goes_on}
@@ -29,7 +28,7 @@ pub returns-clause-read : goal.returns-clause-read
 returns-clause-read c = (returns-clause-call c).decodes.call.within
 
 pub returns-clause-ended : goal.returns-clause-ended
-returns-clause-ended c = rw (returns-clause-call c).decodes.life (search (ends_at_end))
+returns-clause-ended c = (returns-clause-call c).decodes.finished
 
 pub returns-clause-pending : goal.returns-clause-pending
 returns-clause-pending c = pending_so_far _ (returns-clause-call c).decodes

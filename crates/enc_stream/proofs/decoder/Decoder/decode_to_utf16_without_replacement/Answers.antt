@@ -1,5 +1,4 @@
 use Rattle.std.proofs.Common.{refl, arith, rules}
-use Rattle.enc_stream.proofs.EndOfInputLemmas.{ends_at_end}
 use Rattle.enc_stream.proofs.AppendedOutputLemmas.{over_slice}
 use Rattle.enc_stream.proofs.OutputFullLemmas.{two_units}
 use Rattle.enc_stream.proofs.DecoderCallLemmas.{pending_so_far, reported_so_far}
@@ -15,7 +14,7 @@ pub returns-clause-read : goal.returns-clause-read
 returns-clause-read c = (returns-clause-call c).decodes.call.within
 
 pub returns-clause-ended : goal.returns-clause-ended
-returns-clause-ended c = rw (returns-clause-call c).decodes.life (search (ends_at_end))
+returns-clause-ended c = (returns-clause-call c).decodes.finished
 
 pub returns-clause-pending : goal.returns-clause-pending
 returns-clause-pending c = pending_so_far _ (returns-clause-call c).decodes

@@ -1,6 +1,5 @@
 use Rattle.std.proofs.Common.{refl, arith, rules}
 use Rattle.enc_units.proofs.AsciiPrefixLemmas.{text_utf8}
-use Rattle.enc_stream.proofs.EndOfInputLemmas.{ends_at_end}
 use Rattle.enc_stream.proofs.AppendedOutputLemmas.{over_slice}
 use Rattle.enc_stream.proofs.OutputFullLemmas.{four_bytes}
 use Rattle.enc_stream.proofs.DecoderCallLemmas.{pending_so_far, reported_so_far}
@@ -20,7 +19,7 @@ returns-clause-text c = let call = (returns-clause-call c).decodes.call in
     text_utf8 _ _ call.scalars call.text
 
 pub returns-clause-ended : goal.returns-clause-ended
-returns-clause-ended c = rw (returns-clause-call c).decodes.life (search (ends_at_end))
+returns-clause-ended c = (returns-clause-call c).decodes.finished
 
 pub returns-clause-pending : goal.returns-clause-pending
 returns-clause-pending c = pending_so_far _ (returns-clause-call c).decodes

@@ -11,9 +11,8 @@ returns-clause-enough c =
     let kept = c.self.invariant in
     let are_enough =
     subst (λ (f : TextLengths). AreEnoughForCodec f (variant_decoder_state decoder.codec))
-    (sym kept.1.0)
+    (sym kept.1)
     c.text_lengths-formulas.ensures.enough in
     rw (← c.self.view_is)
     (room_is_enough c.args.query decoder.encoding decoder.life (variant_decoder_state decoder.codec)
-    kept.0.0 kept.0.1
-    kept.1.1 are_enough c.args.byte_length _ (search rules))
+    kept.0.0 kept.0.1 are_enough c.args.byte_length _ (search rules))

@@ -1,6 +1,4 @@
-use Rattle.std.proofs.Common.{◌≡◌, ◌∙◌, [], refl, ap}
-use Rattle.enc_names.specs.declared.encoding_id.EncodingId.{EncodingId}
-use Rattle.enc_names.specs.declared.encoding_id.EncodingId.TheVariants.{Utf8, Utf16be, Utf16le}
+use Rattle.std.proofs.Common.{◌≡◌, ◌∙◌, refl, ap}
 use Rattle.enc_index.specs.declared.codec.Codec.{Codec}
 use Rattle.enc_decoder.specs.Segmentation.{Rule}
 use Rattle.enc_decoder.specs.CodecState.{CodecState}
@@ -8,33 +6,19 @@ use Rattle.enc_decoder.specs.declared.text_lengths.TextLengths.{TextLengths}
 use Rattle.enc_names.specs.EncodingTable.{codec_by_id}
 use Rattle.enc_codec.specs.Codecs.{codec_rule, codec_lengths, initial_state}
 use Rattle.enc_stream.specs.declared.bom.BomHandling.{BomHandling}
-use Rattle.enc_stream.specs.declared.bom.BomHandling.TheVariants.{Off, Sniff, Remove}
 use Rattle.enc_stream.specs.declared.life_cycle.LifeCycle.{LifeCycle}
 use Rattle.enc_stream.specs.declared.encoding.Encoding.{Encoding}
-use Rattle.enc_stream.specs.LifeCycle.{held_mark_bytes}
-use Rattle.enc_stream.specs.Decoding.{decoder_state_of, fresh_decoder, start_life, removal_start}
-use Rattle.enc_stream.specs.Decoding.{HeldBytesMatchCodec, LooksForOwnMark, HasCodecOf, HasFormulasOf}
+use Rattle.enc_stream.specs.Decoding.{fresh_decoder}
+use Rattle.enc_stream.specs.LifeCycle.{start_life, decoder_state_of, HeldBytesMatchCodec, HasCodecOf, HasFormulasOf}
+use Rattle.enc_stream.proofs.LifeCycleLemmas.{starts}
 use Rattle.enc_stream.proofs.decoder.Decoder.start.Goals as goal
-
--- at the start no byte of a byte order mark is held
-
-none_on_removal : (id : EncodingId) → held_mark_bytes (removal_start id) ≡ []
-none_on_removal Utf8 = refl
-none_on_removal Utf16be = refl
-none_on_removal Utf16le = refl
-none_on_removal _ = refl
-
-none_at_start : (handling : BomHandling) (id : EncodingId)
-    → held_mark_bytes (start_life handling id) ≡ []
-none_at_start Off id = refl
-none_at_start Sniff id = refl
-none_at_start Remove id = none_on_removal id
 
 -- a decoder at the start, whose codec has read nothing
 is_fresh : (handling : BomHandling) (e : Encoding) (life : LifeCycle) (rule : Rule)
     → life ≡ start_life handling e.id
     → decoder_state_of e life (initial_state rule) ≡ fresh_decoder handling e
-is_fresh handling e life rule at_start = rw at_start (rw (none_at_start handling e.id) refl)
+is_fresh handling e life rule at_start =
+    let is = starts handling e in rw at_start (rw (is.marks, is.none_held, is.going) refl)
 
 pub returns : goal.returns
 returns c =
@@ -46,34 +30,22 @@ returns c =
 
 -- The invariant at the start: it goes by the life cycle, and not by the codec.
 
-own_on_removal : (id : EncodingId) → LooksForOwnMark id (removal_start id)
-own_on_removal Utf8 = refl
-own_on_removal Utf16be = refl
-own_on_removal Utf16le = refl
-own_on_removal _ = tt
-
-own_at_start : (handling : BomHandling) (id : EncodingId)
-    → LooksForOwnMark id (start_life handling id)
-own_at_start Off id = tt
-own_at_start Sniff id = tt
-own_at_start Remove id = own_on_removal id
-
-match_at_start : (handling : BomHandling) (id : EncodingId) (rule : Rule)
-    → HeldBytesMatchCodec (start_life handling id) (initial_state rule)
-match_at_start handling id rule = record {
+match_at_start : (handling : BomHandling) (e : Encoding) (rule : Rule)
+    → HeldBytesMatchCodec (start_life handling e.id) (initial_state rule)
+match_at_start handling e rule = record {
   unread = λ t. (refl, refl);
-  held = rw (none_at_start handling id) refl;
+  held = rw (starts handling e).none_held refl;
 }
 
 holds_at_start : (handling : BomHandling) (e : Encoding) {life : LifeCycle} {codec : Codec}
     {state : CodecState} {formulas : TextLengths}
     → life ≡ start_life handling e.id → codec ≡ codec_by_id e.id
     → state ≡ initial_state (codec_rule codec) → formulas ≡ codec_lengths codec
-    → HasCodecOf e life state × HasFormulasOf e life formulas
+    → HasCodecOf e life state × HasFormulasOf e formulas
 holds_at_start handling e at_start is_own has_state has_formulas =
     rw at_start (rw has_state (rw has_formulas (rw is_own (
-      (refl, match_at_start handling e.id (codec_rule (codec_by_id e.id))),
-      (refl, own_at_start handling e.id),
+      (refl, match_at_start handling e (codec_rule (codec_by_id e.id))),
+      refl,
     ))))
 
 pub invariant_of-result : goal.invariant_of-result

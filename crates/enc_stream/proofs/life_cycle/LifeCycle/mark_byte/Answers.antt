@@ -9,17 +9,17 @@ use Rattle.enc_stream.proofs.SniffingLemmas.{mark_byte_after}
 pub returns-in-SeenUtf8Second : goal.returns-in-SeenUtf8Second
 returns-in-SeenUtf8Second c =
     mark_byte_after SeenUtf8Second utf_8_mark 0xBF _ refl refl (λ y. refl) (λ y. refl)
-    (λ other. record { no_mark = λ y. rw other refl; no_front = λ y. refl })
+    (λ other. record { no_mark = λ y. rw other refl; none_begun = λ y. rw other refl })
     c.in-SeenUtf8Second.is c.mark_byte_if-in-SeenUtf8Second.ensures
 
 pub returns-in-SeenUtf16BeFirst : goal.returns-in-SeenUtf16BeFirst
 returns-in-SeenUtf16BeFirst c =
     mark_byte_after SeenUtf16BeFirst utf_16be_mark 0xFF _ refl refl (λ y. refl) (λ y. refl)
-    (λ other. record { no_mark = λ y. rw other refl; no_front = λ y. refl })
+    (λ other. record { no_mark = λ y. rw other refl; none_begun = λ y. rw other refl })
     c.in-SeenUtf16BeFirst.is c.mark_byte_if-in-SeenUtf16BeFirst.ensures
 
 pub returns-in-SeenUtf16LeFirst : goal.returns-in-SeenUtf16LeFirst
 returns-in-SeenUtf16LeFirst c =
     mark_byte_after SeenUtf16LeFirst utf_16le_mark 0xFE _ refl refl (λ y. refl) (λ y. refl)
-    (λ other. record { no_mark = λ y. rw other refl; no_front = λ y. refl })
+    (λ other. record { no_mark = λ y. rw other refl; none_begun = λ y. rw other refl })
     c.in-SeenUtf16LeFirst.is c.mark_byte_if-in-SeenUtf16LeFirst.ensures
