@@ -20,7 +20,7 @@ use Rattle.enc_decoder_single_byte.proofs.OneByteLemmas.{single_byte_ascii, x_us
 use Rattle.enc_decoder_single_byte.proofs.OneByteDivision.{one_byte_is_divided}
 use Rattle.enc_decoder_single_byte.proofs.EnoughLemmas.{single_byte_enough, x_user_defined_enough, replacement_enough}
 use Rattle.enc_decoder_single_byte.proofs.ReplacementLemmas.{replacement_is_lawful, replacement_has_no_bytes}
-use Rattle.enc_decoder_multi_byte.specs.declared.multi_byte.Prefix.{Prefix}
+use Rattle.enc_decoder.specs.declared.prefix.Prefix.{Prefix}
 use Rattle.enc_decoder_multi_byte.specs.MultiByte.{multi_byte_rule, ArePrefixes}
 use Rattle.enc_decoder_multi_byte.specs.Big5.{big5_prefix}
 use Rattle.enc_decoder_multi_byte.specs.EucKr.{euc_kr_prefix}

@@ -13,8 +13,8 @@ use Rattle.enc_decoder_utf.proofs.Utf8Lemmas.{one_valid}
 use Rattle.enc_decoder_single_byte.specs.OneByte.{one_byte_rule}
 use Rattle.enc_decoder_single_byte.specs.Replacement.{replacement_rule}
 use Rattle.enc_decoder_single_byte.proofs.OneByteLemmas.{one_byte_piece}
-use Rattle.enc_decoder_multi_byte.specs.declared.multi_byte.Prefix.{Prefix}
-use Rattle.enc_decoder_multi_byte.specs.declared.multi_byte.Prefix.TheVariants.{Malformed, Incomplete}
+use Rattle.enc_decoder.specs.declared.prefix.Prefix.{Prefix}
+use Rattle.enc_decoder.specs.declared.prefix.Prefix.TheVariants.{Malformed, Incomplete}
 use Rattle.enc_decoder_multi_byte.specs.MultiByte.{multi_byte_rule, prefix_head, HasAscii, ArePrefixes}
 use Rattle.enc_decoder_multi_byte.proofs.MultiBytePieces.{complete_one}
 use Rattle.enc_decoder_iso_2022_jp.specs.Iso2022Jp.{iso_2022_jp_rule}

@@ -29,3 +29,7 @@ pub mod OutputStageLemmas
 pub mod TakenRunLemmas
 pub mod EventLeavesLemmas
 pub mod JoinedCallLemmas
+pub mod PrefixLemmas
+pub mod PrefixRule
+pub mod PrefixDivision
+pub mod PrefixComes

@@ -3,8 +3,8 @@ use Rattle.std.proofs.Common.{◌≡◌, ◌≢◌, ℕ, ◌+◌, ◌<◌, ◌�
 use Rattle.std.proofs.Common.{◌∷◌, ◌++◌, length, refl, ap, ◌∙◌, arith, subst}
 use Rattle.enc_decoder.specs.declared.byte_codec.Text.{Text}
 use Rattle.enc_decoder.specs.declared.byte_codec.Text.TheVariants.{One}
-use Rattle.enc_decoder_multi_byte.specs.declared.multi_byte.Prefix.{Prefix}
-use Rattle.enc_decoder_multi_byte.specs.declared.multi_byte.Prefix.TheVariants.{Complete, Malformed, Incomplete}
+use Rattle.enc_decoder.specs.declared.prefix.Prefix.{Prefix}
+use Rattle.enc_decoder.specs.declared.prefix.Prefix.TheVariants.{Complete, Malformed, Incomplete}
 use Rattle.enc_decoder_multi_byte.specs.DoubleByte.{text_of_char, single_prefix, first_prefix, trail_prefix}
 use Rattle.enc_decoder_multi_byte.specs.DoubleByte.{double_byte_prefix, IsPairText, ArePairs}
 use Rattle.enc_decoder_multi_byte.specs.MultiByte.{CanBeMalformed, AreSettledBelowDigits, ArePrefixes}

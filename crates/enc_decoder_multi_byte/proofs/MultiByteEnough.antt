@@ -5,8 +5,8 @@ use Rattle.enc_decoder.specs.declared.text_lengths.TextLengths.TheVariants as le
 use Rattle.enc_decoder.specs.Segmentation.{Head}
 use Rattle.enc_decoder.specs.Need.{AreEnoughForCodec, IsBmpText}
 use Rattle.enc_decoder.proofs.EnoughLemmas.{HasFewUnits, few_by_single_bytes, multi_byte_enough, basic_by}
-use Rattle.enc_decoder_multi_byte.specs.declared.multi_byte.Prefix.{Prefix}
-use Rattle.enc_decoder_multi_byte.specs.declared.multi_byte.Prefix.TheVariants.{Complete, Malformed, Incomplete}
+use Rattle.enc_decoder.specs.declared.prefix.Prefix.{Prefix}
+use Rattle.enc_decoder.specs.declared.prefix.Prefix.TheVariants.{Complete, Malformed, Incomplete}
 use Rattle.enc_decoder_multi_byte.specs.MultiByte.{prefix_head, multi_byte_rule, multi_byte_state, ArePrefixes}
 use Rattle.enc_decoder_multi_byte.proofs.MultiByteRule.{multi_byte_is_lawful}
 

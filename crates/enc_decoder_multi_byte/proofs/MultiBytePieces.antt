@@ -8,8 +8,8 @@ use Rattle.enc_index.specs.Grid.{Shape, IsPlaceOf}
 use Rattle.enc_index.proofs.GridLemmas.{grid_char-of_ascii}
 use Rattle.enc_index.proofs.PlaceLemmas.{places_of, same_some}
 use Rattle.enc_units.specs.Pairs.{byte_or_pair}
-use Rattle.enc_decoder_multi_byte.specs.declared.multi_byte.Prefix.{Prefix}
-use Rattle.enc_decoder_multi_byte.specs.declared.multi_byte.Prefix.TheVariants.{Complete, Incomplete}
+use Rattle.enc_decoder.specs.declared.prefix.Prefix.{Prefix}
+use Rattle.enc_decoder.specs.declared.prefix.Prefix.TheVariants.{Complete, Incomplete}
 use Rattle.enc_decoder_multi_byte.specs.MultiByte.{multi_byte_rule, HasAscii, IsCharPair}
 use Rattle.enc_decoder_multi_byte.proofs.MultiByteLemmas.{settled_first, settles_complete}
 

@@ -5,7 +5,7 @@ use Rattle.enc_decoder.specs.declared.byte_codec.Text.TheVariants.{One}
 use Rattle.enc_decoder.specs.Taking.{IsReplacedCharAt}
 use Rattle.enc_decoder.proofs.PieceLemmas.{one_of, two_of}
 use Rattle.enc_decoder.proofs.ReplacedCharLemmas.{whole_at, before_byte}
-use Rattle.enc_decoder_multi_byte.specs.declared.multi_byte.Prefix.{Prefix}
+use Rattle.enc_decoder.specs.declared.prefix.Prefix.{Prefix}
 use Rattle.enc_decoder_multi_byte.specs.MultiByte.{multi_byte_rule, ArePrefixes, IsMalformedFront}
 use Rattle.enc_decoder_multi_byte.proofs.MultiByteLemmas.{settles_malformed, settled_first}
 

@@ -11,7 +11,7 @@ use Rattle.enc_index_pointers.specs.Pointers.{any_pointer, no_character, is_char
 use Rattle.enc_decoder.specs.declared.byte_codec.Kind.TheVariants.{Valid}
 use Rattle.enc_decoder.specs.declared.byte_codec.Text.TheVariants.{One}
 use Rattle.enc_decoder.specs.Taking.{IsWholeChar}
-use Rattle.enc_decoder_multi_byte.specs.declared.multi_byte.Prefix.TheVariants.{Complete, Incomplete}
+use Rattle.enc_decoder.specs.declared.prefix.Prefix.TheVariants.{Complete, Incomplete}
 use Rattle.enc_decoder_multi_byte.specs.DoubleByte.{text_of_char, first_prefix, single_prefix, trail_prefix}
 use Rattle.enc_decoder_multi_byte.specs.MultiByte.{multi_byte_rule}
 use Rattle.enc_decoder_multi_byte.specs.Gb18030 as decoder

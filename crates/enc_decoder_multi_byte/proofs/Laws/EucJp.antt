@@ -3,8 +3,8 @@ use Rattle.std.proofs.Common.{◌≡◌, ℕ, ◌<◌, Bool, true, false, cond, 
 use Rattle.std.proofs.Common.{length, refl, ◌∙◌, arith, subst}
 use Rattle.std.proofs.lemmas.Bool.{cond-true, lt-ltb}
 use Rattle.std.proofs.lemmas.Bool.Decides.{nat_tests}
-use Rattle.enc_decoder_multi_byte.specs.declared.multi_byte.Prefix.{Prefix}
-use Rattle.enc_decoder_multi_byte.specs.declared.multi_byte.Prefix.TheVariants.{Malformed, Incomplete}
+use Rattle.enc_decoder.specs.declared.prefix.Prefix.{Prefix}
+use Rattle.enc_decoder.specs.declared.prefix.Prefix.TheVariants.{Malformed, Incomplete}
 use Rattle.enc_decoder_multi_byte.specs.DoubleByte.{text_of_char}
 use Rattle.enc_decoder_multi_byte.specs.MultiByte.{CanBeMalformed, AreSettledBelowDigits, ArePrefixes}
 use Rattle.enc_decoder_multi_byte.specs.EucJp.{is_euc_byte, is_euc_jp_lead, euc_jp_single_char, euc_jp_pair_char}

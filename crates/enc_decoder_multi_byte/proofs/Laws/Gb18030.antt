@@ -3,7 +3,7 @@ use Rattle.std.proofs.Common.{◌≡◌, ◌≢◌, ℕ, ◌<◌, ◌≤◌, Boo
 use Rattle.std.proofs.Common.{refl, arith, subst}
 use Rattle.std.proofs.lemmas.Bool.{cond-true, lt-ltb}
 use Rattle.std.proofs.lemmas.Bool.Decides.{nat_tests}
-use Rattle.enc_decoder_multi_byte.specs.declared.multi_byte.Prefix.TheVariants.{Malformed, Incomplete}
+use Rattle.enc_decoder.specs.declared.prefix.Prefix.TheVariants.{Malformed, Incomplete}
 use Rattle.enc_decoder_multi_byte.specs.MultiByte.{CanBeMalformed, AreSettledBelowDigits, ArePrefixes}
 use Rattle.enc_decoder_multi_byte.specs.DoubleByte.{text_of_char}
 use Rattle.enc_decoder_multi_byte.specs.Gb18030.{is_gb18030_lead, is_digit, gb18030_single_char, gb18030_pair_char}

@@ -1,4 +1,4 @@
--- Legacy multi-byte encodings: the laws of their rules, and that incomplete bytes determine
+-- Encodings by the kinds of prefixes: the laws of their rules, and that incomplete bytes determine
 -- nothing.
 use Rattle.std.proofs.Common.{◌≡◌, ℕ, ◌+◌, ◌-◌, ◌<◌, zero, suc, List, [], ◌∷◌, ◌++◌, length, take, refl, ap, ◌∙◌}
 use Rattle.std.proofs.Common.{true, sym, arith, subst, append-nil, append_assoc, inl, inr}
@@ -8,8 +8,8 @@ use Rattle.enc_decoder.specs.declared.byte_codec.Kind.{Kind}
 use Rattle.enc_decoder.specs.declared.byte_codec.Kind.TheVariants as kinds
 use Rattle.enc_decoder.specs.declared.byte_codec.Text.{Text}
 use Rattle.enc_decoder.specs.declared.byte_codec.Text.TheVariants.{One}
-use Rattle.enc_decoder_multi_byte.specs.declared.multi_byte.Prefix.{Prefix}
-use Rattle.enc_decoder_multi_byte.specs.declared.multi_byte.Prefix.TheVariants.{Complete, Malformed, Incomplete}
+use Rattle.enc_decoder.specs.declared.prefix.Prefix.{Prefix}
+use Rattle.enc_decoder.specs.declared.prefix.Prefix.TheVariants.{Complete, Malformed, Incomplete}
 use Rattle.enc_decoder.specs.Sequence.{is_malformed}
 use Rattle.enc_decoder.specs.Segmentation.{Head}
 use Rattle.enc_decoder.specs.Remainder.{IsUndetermined}
@@ -18,23 +18,26 @@ use Rattle.enc_decoder.specs.CodecLaw.{text_chars}
 use Rattle.enc_decoder.specs.Latin1.{HasNoByteSequences}
 use Rattle.enc_decoder.specs.RuleLaws.{HasTexts, IsSmallText, IsDeterminedWithin, IsLookahead}
 use Rattle.enc_decoder.specs.RuleLaws.{IsDeterminedByEnd, ReplacesMalformed, IsLawfulRule}
-use Rattle.enc_decoder_multi_byte.specs.DoubleByte.{IsPairText}
-use Rattle.enc_decoder_multi_byte.specs.MultiByte.{prefix_head, multi_byte_rule}
-use Rattle.enc_decoder_multi_byte.specs.MultiByte.{multi_byte_state, AreIncomplete, ArePrefixes}
+use Rattle.enc_decoder.specs.Prefixes.{IsPrefixText}
+use Rattle.enc_decoder.specs.Prefixes.{prefix_head, prefix_rule}
+use Rattle.enc_decoder.specs.Prefixes.{prefix_state, AreIncomplete, ArePrefixes}
 use Rattle.enc_decoder.proofs.Latin1Lemmas.{has_bytes_by}
 use Rattle.enc_decoder.proofs.EmissionLemmas.{nothing_pending}
 use Rattle.enc_decoder.proofs.EndLemmas.{by_end_of}
+use Rattle.enc_decoder.proofs.RuleLemmas.{one_small}
 use Rattle.enc_decoder.proofs.FirstSequenceLemmas.{determined_by_head, looks_at_none, looks_by, IsDeterminedSoon}
 use Rattle.enc_decoder.proofs.FirstSequenceLemmas.{lookahead_by, within_by, undetermined_by_end}
-use Rattle.enc_decoder_multi_byte.proofs.DoubleByteLemmas.{one_is_text}
-use Rattle.enc_decoder_multi_byte.proofs.MultiByteLemmas.{still_incomplete, one_more, rule_at, Settles}
-use Rattle.enc_decoder_multi_byte.proofs.MultiByteLemmas.{settles_complete, settles_malformed, all_malformed}
+use Rattle.enc_decoder.proofs.PrefixLemmas.{still_incomplete, one_more, rule_at, Settles}
+use Rattle.enc_decoder.proofs.PrefixLemmas.{settles_complete, settles_malformed, all_malformed}
+
+pub one_is_text : (c : ℕ) → IsPrefixText (One c)
+one_is_text c = record { some = λ no_text. cc; small = one_small c }
 
 module _ (prefix : List ℕ → Prefix) (laws : ArePrefixes prefix) where
   -- each head has a small text
 
   abbrev HasForm : Head → Type 0
-  HasForm h = (text : Text) × IsPairText text × (h.text ≡ text_chars text)
+  HasForm h = (text : Text) × IsPrefixText text × (h.text ≡ text_chars text)
 
   has_form : (set : ℕ) (front : List ℕ) (r : Prefix) (z : List ℕ) → prefix front ≡ r
       → HasForm (prefix_head prefix set front r z)
@@ -43,8 +46,8 @@ module _ (prefix : List ℕ → Prefix) (laws : ArePrefixes prefix) where
   has_form set front Incomplete [] front_is = (One 0xFFFD, one_is_text 0xFFFD, refl)
   has_form set front Incomplete (c ∷ z) front_is = has_form set (front ++ c ∷ []) _ z refl
 
-  first_has_form : (set b : ℕ) (z : List ℕ) → HasForm (multi_byte_rule prefix set b z)
-  unfolding multi_byte_rule
+  first_has_form : (set b : ℕ) (z : List ℕ) → HasForm (prefix_rule prefix set b z)
+  unfolding prefix_rule
   first_has_form set b z = has_form set (b ∷ []) _ z refl
 
   -- and a malformed one U+FFFD
@@ -58,36 +61,37 @@ module _ (prefix : List ℕ → Prefix) (laws : ArePrefixes prefix) where
   replaced_head set front Incomplete (c ∷ z) malformed =
       replaced_head set (front ++ c ∷ []) _ z malformed
 
-  replaced : ReplacesMalformed (multi_byte_rule prefix)
-  unfolding multi_byte_rule
+  replaced : ReplacesMalformed (prefix_rule prefix)
+  unfolding prefix_rule
   replaced set b z malformed = replaced_head set (b ∷ []) _ z malformed
 
-  pub multi_byte_has_texts : HasTexts (multi_byte_rule prefix)
-  multi_byte_has_texts set b z no_text =
+  pub prefixes_have_texts : HasTexts (prefix_rule prefix)
+  prefixes_have_texts set b z no_text =
       let form = first_has_form set b z in form.1.some (sym form.2 ∙ no_text)
 
   -- incomplete bytes at the end of the input
 
-  by_end : (set a : ℕ) (w : List ℕ) → AreIncomplete prefix [] (a ∷ w)
-      → IsDeterminedByEnd (multi_byte_rule prefix) set a w
+  at_more : (set a : ℕ) (w more : List ℕ) → AreIncomplete prefix [] (a ∷ w)
+      → prefix_rule prefix set a (w ++ more)
+      ≡ prefix_head prefix set (a ∷ w) Incomplete more
+  at_more set a w [] are_incomplete =
+      rw (append-nil w) (all_malformed prefix set a w are_incomplete)
+  at_more set a w (c ∷ z) are_incomplete =
+      rule_at prefix set (a ∷ w) c z a (w ++ c ∷ z) are_incomplete refl
+
+  pub by_end : (set a : ℕ) (w : List ℕ) → AreIncomplete prefix [] (a ∷ w)
+      → IsDeterminedByEnd (prefix_rule prefix) set a w
   by_end set a w are_incomplete =
-      let malformed = laws.can_be_malformed (a ∷ w) (omega arith)
-      (still_incomplete prefix [] (a ∷ w) laws.nothing are_incomplete) in
-      let next = malformed.byte in
-      let settles = settles_malformed prefix laws ((a ∷ w) ++ next ∷ []) malformed.len
-      malformed.malformed in
-      let some_bytes = settles.some in
-      by_end_of (multi_byte_rule prefix) set a w (next ∷ [])
-      (all_malformed prefix set a w are_incomplete)
-      (rule_at prefix set (a ∷ w) next [] a (w ++ next ∷ []) are_incomplete refl
-      ∙ settles.head set [])
-      (λ same. let more_is = ap (λ (h : Head). h.more) same in malformed.other (omega arith))
-      (malformed.is_byte, tt) (omega arith) (omega arith)
+      let incomplete = still_incomplete prefix [] (a ∷ w) laws.nothing are_incomplete in
+      let can_be = laws.can_be_other (a ∷ w) (omega arith) incomplete in
+      by_end_of (prefix_rule prefix) set a w can_be.more
+      (all_malformed prefix set a w are_incomplete) (at_more set a w can_be.more are_incomplete)
+      (can_be.other set) can_be.bytes (omega arith) (omega arith)
 
   -- the same without the byte after them
   by_end_at : (set : ℕ) (w : List ℕ) (c : ℕ) (z : List ℕ) (b : ℕ) (x : List ℕ) → 0 < length w
       → AreIncomplete prefix [] w → b ∷ x ≡ w ++ c ∷ z
-      → IsDeterminedByEnd (multi_byte_rule prefix) set b (take (length w - 1) x)
+      → IsDeterminedByEnd (prefix_rule prefix) set b (take (length w - 1) x)
   by_end_at set [] c z b x some are_incomplete parts = absurd (omega arith)
   by_end_at set (a ∷ w) c z b x some are_incomplete parts =
       let same_first : b ≡ a = cc in
@@ -103,20 +107,20 @@ module _ (prefix : List ℕ → Prefix) (laws : ArePrefixes prefix) where
     one_longer = length-append w (c ∷ [])
 
     first_is : {n : ℕ} {text : Text} {kind : Kind} → Settles prefix (w ++ c ∷ []) n text kind
-        → multi_byte_rule prefix set b x
+        → prefix_rule prefix set b x
         ≡ record { more = n - 1; text = text_chars text; kind = kind; set = set }
     first_is settles = rule_at prefix set w c z b x are_incomplete parts ∙ settles.head set z
 
     settled_determined : {n : ℕ} {text : Text} {kind : Kind} (d : ℕ)
         → d + n ≡ length (w ++ c ∷ []) → Settles prefix (w ++ c ∷ []) n text kind
-        → IsDeterminedWithin (multi_byte_rule prefix) set b x d
+        → IsDeterminedWithin (prefix_rule prefix) set b x d
     settled_determined {n} d are_all settles =
         let own_and_rest : (n - 1) + d ≡ length w = omega (arith, settles.some, one_longer) in
         let length_is = ap length parts ∙ length-append w (c ∷ z) in
         let front_is : b ∷ take (length w) x ≡ w ++ c ∷ [] =
         ap (take (suc (length w))) (parts ∙ sym (append_assoc w (c ∷ []) z))
         ∙ take_at (w ++ c ∷ []) z (suc (length w)) (omega (arith, one_longer)) in
-        determined_by_head (multi_byte_rule prefix) set b x d _ (first_is settles)
+        determined_by_head (prefix_rule prefix) set b x d _ (first_is settles)
         (omega (arith, own_and_rest, length_is))
         (λ y. rule_at prefix set w c y b _ are_incomplete
         (ap (λ i. b ∷ (take i x ++ y)) own_and_rest ∙ ap (λ t. t ++ y) front_is
@@ -126,19 +130,19 @@ module _ (prefix : List ℕ → Prefix) (laws : ArePrefixes prefix) where
     -- without the byte that breaks the sequence, only the end of the input would determine it
     malformed_looks : {n : ℕ} (d : ℕ) → d + n ≡ length (w ++ c ∷ [])
         → Settles prefix (w ++ c ∷ []) n (One 0xFFFD) kinds.Malformed
-        → IsLookahead (multi_byte_rule prefix) set b x d
+        → IsLookahead (prefix_rule prefix) set b x d
     malformed_looks zero are_all settles =
-        looks_at_none (multi_byte_rule prefix) set b x (settled_determined 0 are_all settles)
+        looks_at_none (prefix_rule prefix) set b x (settled_determined 0 are_all settles)
     malformed_looks (suc i) are_all settles =
         let more_is = ap (λ (h : Head). h.more) (first_is settles) in
-        looks_by (multi_byte_rule prefix) set b x i (length w - 1)
+        looks_by (prefix_rule prefix) set b x i (length w - 1)
         (settled_determined (suc i) are_all settles)
         (omega (arith, more_is, one_longer, settles.some))
         (by_end_at set w c z b x (omega (arith, one_longer, settles.some)) are_incomplete parts)
 
     determined_with : (r : Prefix) → prefix (w ++ c ∷ []) ≡ r
-        → (r ≡ Incomplete → IsDeterminedSoon (multi_byte_rule prefix) set b x)
-        → IsDeterminedSoon (multi_byte_rule prefix) set b x
+        → (r ≡ Incomplete → IsDeterminedSoon (prefix_rule prefix) set b x)
+        → IsDeterminedSoon (prefix_rule prefix) set b x
     determined_with (Complete text) is_prefix further =
         inl (settled_determined 0 (omega arith)
         (settles_complete prefix (w ++ c ∷ []) text (omega (arith, one_longer)) is_prefix))
@@ -158,7 +162,7 @@ module _ (prefix : List ℕ → Prefix) (laws : ArePrefixes prefix) where
 
   determined_from : (set : ℕ) (w z : List ℕ) (b : ℕ) (x : List ℕ) → AreIncomplete prefix [] w
       → b ∷ x ≡ w ++ z
-      → IsDeterminedSoon (multi_byte_rule prefix) set b x
+      → IsDeterminedSoon (prefix_rule prefix) set b x
   determined_from set [] [] b x are_incomplete parts = absurd (cc)
   determined_from set (a ∷ w) [] b x are_incomplete parts =
       let same_first : b ≡ a = cc in
@@ -174,9 +178,9 @@ module _ (prefix : List ℕ → Prefix) (laws : ArePrefixes prefix) where
       (one_more prefix [] w c are_incomplete incomplete)
       (parts ∙ sym (append_assoc w (c ∷ []) z)))
 
-  pub multi_byte_is_lawful : IsLawfulRule (multi_byte_rule prefix)
-  multi_byte_is_lawful = record {
-    lookahead = lookahead_by (multi_byte_rule prefix)
+  pub prefixes_are_lawful : IsLawfulRule (prefix_rule prefix)
+  prefixes_are_lawful = record {
+    lookahead = lookahead_by (prefix_rule prefix)
         (λ set b z. determined_from set [] (b ∷ z) b z tt refl);
     small_texts = λ set b z. let form = first_has_form set b z in
         subst IsSmallText (sym form.2) form.1.small;
@@ -184,19 +188,19 @@ module _ (prefix : List ℕ → Prefix) (laws : ArePrefixes prefix) where
   }
 
   pub undetermined : (w : List ℕ) → AreIncomplete prefix [] w
-      → IsUndetermined (remainder_of (multi_byte_state prefix w)).sequences
-  undetermined [] are_incomplete = nothing_pending (multi_byte_state prefix []) refl
+      → IsUndetermined (remainder_of (prefix_state prefix w)).sequences
+  undetermined [] are_incomplete = nothing_pending (prefix_state prefix []) refl
   undetermined (a ∷ w) are_incomplete =
-      undetermined_by_end (multi_byte_rule prefix) 0 a w
-      (within_by (multi_byte_rule prefix) multi_byte_is_lawful.lookahead 0 a)
+      undetermined_by_end (prefix_rule prefix) 0 a w
+      (within_by (prefix_rule prefix) prefixes_are_lawful.lookahead 0 a)
       (by_end 0 a w are_incomplete)
 
 -- a byte that is complete is valid by itself
-pub multi_byte_has_bytes : (prefix : List ℕ → Prefix) (b : ℕ) (text : Text)
+pub prefixes_have_bytes : (prefix : List ℕ → Prefix) (b : ℕ) (text : Text)
     → prefix (b ∷ []) ≡ Complete text
-    → ¬ (HasNoByteSequences (multi_byte_rule prefix))
-multi_byte_has_bytes prefix b text complete =
+    → ¬ (HasNoByteSequences (prefix_rule prefix))
+prefixes_have_bytes prefix b text complete =
     let is_head = rule_at prefix 0 [] b [] b [] tt refl
     ∙ ap (λ r. prefix_head prefix 0 (b ∷ []) r []) complete in
-    has_bytes_by (multi_byte_rule prefix) b [] (ap (λ (t : Head). t.kind) is_head)
+    has_bytes_by (prefix_rule prefix) b [] (ap (λ (t : Head). t.kind) is_head)
     (ap (λ (t : Head). t.more) is_head)

@@ -1,12 +1,12 @@
--- A byte that leaves no prefix incomplete ends a sequence of a legacy multi-byte encoding.
+-- A byte that leaves no prefix incomplete ends a sequence.
 use Rattle.std.proofs.Common.{◌≡◌, ◌≢◌, ℕ, List, [], ◌∷◌, ◌++◌, refl, ap, ◌∙◌, sym, arith}
 use Rattle.enc_decoder.specs.declared.byte_codec.Text.TheVariants.{One}
 use Rattle.enc_decoder.specs.Division.{IsDividedBelowDigits}
 use Rattle.enc_decoder.proofs.DivisionLemmas.{EndsSequence, divided_by}
-use Rattle.enc_decoder_multi_byte.specs.declared.multi_byte.Prefix.{Prefix}
-use Rattle.enc_decoder_multi_byte.specs.declared.multi_byte.Prefix.TheVariants.{Complete, Malformed, Incomplete}
-use Rattle.enc_decoder_multi_byte.specs.MultiByte.{multi_byte_rule, prefix_head, ArePrefixes}
-use Rattle.enc_decoder_multi_byte.proofs.MultiByteRule.{multi_byte_is_lawful}
+use Rattle.enc_decoder.specs.declared.prefix.Prefix.{Prefix}
+use Rattle.enc_decoder.specs.declared.prefix.Prefix.TheVariants.{Complete, Malformed, Incomplete}
+use Rattle.enc_decoder.specs.Prefixes.{prefix_rule, prefix_head, ArePrefixes, HasAscii, AreSettledBelowDigits}
+use Rattle.enc_decoder.proofs.PrefixRule.{prefixes_are_lawful}
 
 module _ (prefix : List ℕ → Prefix) where
   settled : (front y : List ℕ) (r : Prefix) → r ≢ Incomplete
@@ -34,8 +34,8 @@ module _ (prefix : List ℕ → Prefix) where
       same_head a front (b ∷ z) y Incomplete =
           same_head a (front ++ b ∷ []) z y (prefix (a ∷ (front ++ b ∷ [])))
 
-      ends_sequence : prefix (c ∷ []) ≡ Complete (One c) → EndsSequence c (multi_byte_rule prefix)
-      unfolding multi_byte_rule
+      ends_sequence : prefix (c ∷ []) ≡ Complete (One c) → EndsSequence c (prefix_rule prefix)
+      unfolding prefix_rule
       ends_sequence complete = record {
         same = λ b z y. same_head b [] z y (prefix (b ∷ []));
         alone = λ y. ap (λ r. prefix_head prefix 0 (c ∷ []) r y) complete
@@ -43,8 +43,8 @@ module _ (prefix : List ℕ → Prefix) where
         set = λ b z. no_set (b ∷ []) z (prefix (b ∷ []));
       }
 
-pub multi_byte_is_divided : (prefix : List ℕ → Prefix) → ArePrefixes prefix
-    → IsDividedBelowDigits (multi_byte_rule prefix)
-multi_byte_is_divided prefix laws c low =
-    divided_by c (multi_byte_rule prefix) (multi_byte_is_lawful prefix laws)
-    (ends_sequence prefix c (laws.settled c low) (laws.ascii c (omega arith)))
+pub prefixes_are_divided : (prefix : List ℕ → Prefix) → ArePrefixes prefix → HasAscii prefix
+    → AreSettledBelowDigits prefix → IsDividedBelowDigits (prefix_rule prefix)
+prefixes_are_divided prefix laws has_ascii settled_below c low =
+    divided_by c (prefix_rule prefix) (prefixes_are_lawful prefix laws)
+    (ends_sequence prefix c (settled_below c low) (has_ascii c (omega arith)))

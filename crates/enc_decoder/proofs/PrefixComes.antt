@@ -1,4 +1,4 @@
--- Legacy multi-byte encodings: what pending bytes and the next byte show.
+-- Encodings by the kinds of prefixes: what pending bytes and the next byte show.
 use Rattle.std.proofs.Common.{◌≡◌, ℕ, ◌+◌, ◌-◌, ◌<◌, ◌≤◌, Bool, true, false, nat_lt, List, [], ◌∷◌, ◌++◌, length, take}
 use Rattle.std.proofs.Common.{drop, refl, ap, ◌∙◌, sym, arith, append-nil, append_assoc, Option, Some, None, IfSome}
 use Rattle.std.proofs.Common.{IsNone}
@@ -16,18 +16,18 @@ use Rattle.enc_decoder.specs.declared.pending.Pending.TheVariants.{Nothing, One,
 use Rattle.enc_decoder.specs.Pending.{bytes_of_pending, first_byte}
 use Rattle.enc_decoder.specs.declared.byte_codec.Emission.{Emission}
 use Rattle.enc_decoder.specs.declared.byte_codec.HandlerResult.TheVariants.{Continue, Emit}
-use Rattle.enc_decoder_multi_byte.specs.declared.multi_byte.Prefix.{Prefix}
-use Rattle.enc_decoder_multi_byte.specs.declared.multi_byte.Prefix.TheVariants.{Incomplete}
+use Rattle.enc_decoder.specs.declared.prefix.Prefix.{Prefix}
+use Rattle.enc_decoder.specs.declared.prefix.Prefix.TheVariants.{Incomplete}
 use Rattle.enc_decoder.specs.Sequence.{Sequence, is_malformed, is_repeated_escape}
 use Rattle.enc_decoder.specs.Segmentation.{sequences_of}
 use Rattle.enc_decoder.specs.CodecState.{CodecState}
 use Rattle.enc_decoder.specs.CodecLaw.{BeginsWithByte, text_chars, IsNextSequence, HandlesByte}
 use Rattle.enc_decoder.specs.CodecLaw.{IsNextOfPending, IsNextAtEnd}
-use Rattle.enc_decoder_multi_byte.specs.MultiByte.{multi_byte_rule, multi_byte_state, AreIncomplete, ArePrefixes}
+use Rattle.enc_decoder.specs.Prefixes.{prefix_rule, prefix_state, AreIncomplete, ArePrefixes}
 use Rattle.enc_decoder.proofs.SegmentationLemmas.{sequences_of-head}
 use Rattle.enc_decoder.proofs.EmissionLemmas.{shows_with, shows_before}
-use Rattle.enc_decoder_multi_byte.proofs.MultiByteLemmas.{one_more, Settles, settled_first, all_malformed}
-use Rattle.enc_decoder_multi_byte.proofs.MultiByteRule.{undetermined}
+use Rattle.enc_decoder.proofs.PrefixLemmas.{one_more, Settles, settled_first, all_malformed}
+use Rattle.enc_decoder.proofs.PrefixRule.{undetermined}
 
 -- one to three bytes are pending
 pub pending_len : (p : Pending) → (length (bytes_of_pending p) ≤ 3)
@@ -42,10 +42,13 @@ first_and_rest : (z : List ℕ) (a : ℕ) → first_byte z ≡ Some a → z ≡ 
 first_and_rest [] a is_first = cc
 first_and_rest (b ∷ z) a is_first = cc
 
-module _ (prefix : List ℕ → Prefix) (laws : ArePrefixes prefix) {C : Type 0}
-    (pending : C → Pending) (c next : C) where
+module _ {C : Type 0} (prefix_of : C → List ℕ → Prefix) (pending : C → Pending) (c next : C)
+    (laws : ArePrefixes (prefix_of c)) (same : prefix_of next ≡ prefix_of c) where
   abbrev state : C → CodecState
-  state d = multi_byte_state prefix (bytes_of_pending (pending d))
+  state d = prefix_state (prefix_of d) (bytes_of_pending (pending d))
+
+  abbrev prefix : List ℕ → Prefix
+  prefix = prefix_of c
 
   -- the pending bytes, and those that are left
   abbrev p : List ℕ
@@ -58,13 +61,13 @@ module _ (prefix : List ℕ → Prefix) (laws : ArePrefixes prefix) {C : Type 0}
   abbrev sequence_then : List ℕ → List ℕ → Kind → List ℕ → List Sequence
   sequence_then bytes text kind others =
       record { bytes = bytes; text = text; kind = kind; set = 0 }
-      ∷ sequences_of (multi_byte_rule prefix) 0 others
+      ∷ sequences_of (prefix_rule prefix) 0 others
 
   -- the first n pending bytes are a sequence, and what shows it isn't read
   takes_pending : {may_follow : List ℕ → Type 0} {n len : ℕ} {text : Text} {kind : Kind}
       → n ≤ length p → 0 < n → len ≡ n → left ≡ drop n p → is_repeated_escape kind ≡ false
       → (is_malformed kind ≡ true → text_chars text ≡ 0xFFFD ∷ [])
-      → ((y : List ℕ) → may_follow y → sequences_of (multi_byte_rule prefix) 0 (p ++ y)
+      → ((y : List ℕ) → may_follow y → sequences_of (prefix_rule prefix) 0 (p ++ y)
       ≡ sequence_then (take n p) (text_chars text) kind (drop n p ++ y))
       → IsNextSequence state c may_follow []
       (record { text = text; kind = kind; len = len; takes_byte = false; next = next })
@@ -73,11 +76,11 @@ module _ (prefix : List ℕ → Prefix) (laws : ArePrefixes prefix) {C : Type 0}
       let few = (pending_len (pending c)).0 in
       let left_length = ap length left_is ∙ length-drop n p in
       let taken_length = length-take-le n p within in
-      shows_before state c next text kind len may_follow (take n p) refl
+      shows_before state c next text kind len may_follow (take n p) (ap prefix_rule same)
       (sym (take-append-drop n p) ∙ ap (λ y. take n p ++ y) (sym left_is))
       (is_length ∙ sym taken_length) (omega arith) no_escape
       (λ faulty. (replaced faulty, (omega arith, omega arith, omega arith)))
-      (λ y follows. rw left_is (first y follows))
+      (λ y follows. rw (same, left_is) (first y follows))
 
   -- the pending bytes show what the first of them are
   pub shows_pending : {may_follow : List ℕ → Type 0} (w rest : List ℕ) {x n len : ℕ} {text : Text}
@@ -117,9 +120,9 @@ module _ (prefix : List ℕ → Prefix) (laws : ArePrefixes prefix) {C : Type 0}
       let all = p ++ b ∷ [] in
       let one_longer : length all ≡ length p + 1 = length-append p (b ∷ []) in
       let is_all : n ≡ length all = omega (arith, settles.own) in
-      shows_with state c next text kind len b refl none_left (is_length ∙ is_all ∙ one_longer)
-      settles.no_escape (λ faulty. (settles.replaced faulty, omega arith))
-      (λ z. rw none_left (rw (is_all, take-length all, drop-length all)
+      shows_with state c next text kind len b (ap prefix_rule same) none_left
+      (is_length ∙ is_all ∙ one_longer) settles.no_escape (λ faulty. (settles.replaced faulty, omega arith))
+      (λ z. rw (same, none_left) (rw (is_all, take-length all, drop-length all)
       at (settled_first prefix 0 p b z n text kind are_incomplete settles)))
 
   -- the byte after them shows that the first of them are malformed, and is not one of those
@@ -157,8 +160,8 @@ module _ (prefix : List ℕ → Prefix) (laws : ArePrefixes prefix) {C : Type 0}
       → left ≡ p ++ b ∷ []
       → HandlesByte state c b (Continue next)
   waits b are_incomplete is_incomplete left_is = (
-    ap (multi_byte_state prefix) left_is,
-    rw left_is (undetermined prefix laws (p ++ b ∷ [])
+    ap (λ f. prefix_state f left) same ∙ ap (prefix_state prefix) left_is,
+    rw (same, left_is) (undetermined prefix laws (p ++ b ∷ [])
         (one_more prefix [] p b are_incomplete is_incomplete)),
   )
 
@@ -189,10 +192,10 @@ module _ (prefix : List ℕ → Prefix) (laws : ArePrefixes prefix) {C : Type 0}
   )
     where
       malformed_first : (p : List ℕ) → AreIncomplete prefix [] p → 0 < length p
-          → sequences_of (multi_byte_rule prefix) 0 p ≡ sequence_then p (0xFFFD ∷ []) Malformed []
+          → sequences_of (prefix_rule prefix) 0 p ≡ sequence_then p (0xFFFD ∷ []) Malformed []
       malformed_first [] are_incomplete some = absurd (omega arith)
       malformed_first (a ∷ w) are_incomplete some =
           let rest_length : length (a ∷ w) - 1 ≡ length w = omega arith in
           rw (rest_length, take-length w, drop-length w) at
-          (sequences_of-head (multi_byte_rule prefix) 0 a w _
+          (sequences_of-head (prefix_rule prefix) 0 a w _
           (all_malformed prefix 0 a w are_incomplete))
