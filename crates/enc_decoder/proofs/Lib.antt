@@ -29,6 +29,7 @@ pub mod OutputStageLemmas
 pub mod TakenRunLemmas
 pub mod EventLeavesLemmas
 pub mod JoinedCallLemmas
+pub mod PrefixLaws
 pub mod PrefixLemmas
 pub mod PrefixRule
 pub mod PrefixDivision

@@ -24,14 +24,11 @@ use Rattle.enc_decoder.specs.Prefixes.{prefix_state, AreIncomplete, ArePrefixes}
 use Rattle.enc_decoder.proofs.Latin1Lemmas.{has_bytes_by}
 use Rattle.enc_decoder.proofs.EmissionLemmas.{nothing_pending}
 use Rattle.enc_decoder.proofs.EndLemmas.{by_end_of}
-use Rattle.enc_decoder.proofs.RuleLemmas.{one_small}
+use Rattle.enc_decoder.proofs.PrefixLaws.{one_is_text}
 use Rattle.enc_decoder.proofs.FirstSequenceLemmas.{determined_by_head, looks_at_none, looks_by, IsDeterminedSoon}
 use Rattle.enc_decoder.proofs.FirstSequenceLemmas.{lookahead_by, within_by, undetermined_by_end}
 use Rattle.enc_decoder.proofs.PrefixLemmas.{still_incomplete, one_more, rule_at, Settles}
 use Rattle.enc_decoder.proofs.PrefixLemmas.{settles_complete, settles_malformed, all_malformed}
-
-pub one_is_text : (c : ℕ) → IsPrefixText (One c)
-one_is_text c = record { some = λ no_text. cc; small = one_small c }
 
 module _ (prefix : List ℕ → Prefix) (laws : ArePrefixes prefix) where
   -- each head has a small text

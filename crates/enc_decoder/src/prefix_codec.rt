@@ -5,7 +5,7 @@ ghost use Rattle.std.specs.Prelude.{IfSome, IsNone, IsTrue, IsFalse};
 ghost use Rattle.enc_decoder.specs.Pending.{bytes_of_pending};
 ghost use Rattle.enc_decoder.specs.Prefixes.{prefix_rule, prefix_state, AreIncomplete, AreKept};
 ghost use Rattle.enc_decoder.specs.Prefixes.{ArePrefixes, LeavesIncomplete};
-ghost use Rattle.enc_decoder.specs.CodecLaw.{IsNextOfPending};
+ghost use Rattle.enc_decoder.specs.CodecLaw.{IsNextOfPending, HandlesByte};
 ghost use Rattle.enc_decoder.specs.Taking.{IsWholeChar, IsReplacedCharAt};
 ghost use Rattle.enc_decoder.specs.Latin1.{HasNoByteSequences};
 ghost use Rattle.enc_decoder.specs.Need.{AreEnoughForCodec};
@@ -186,6 +186,33 @@ fn shown_first<C: PrefixCodec>(codec: C) -> Option<Emission<C>>
     None
 }
 
+/// Returns the effect of a byte after an incomplete prefix, which is pending.
+///
+/// Where the number of pending bytes is known, so are most values of it.
+#[inline(always)]
+fn step_after<C: PrefixCodec>(codec: C, pending: Pending, byte: u8) -> HandlerResult<C>
+    requires waiting { pending ≡ C.waiting codec }
+    requires incomplete { AreIncomplete (C.prefix codec) []
+        (bytes_of_pending (C.waiting codec)) }
+    requires lawful { ArePrefixes (C.prefix codec) }
+    requires leaves { C.leaves_others ≡ false → LeavesIncomplete (C.prefix codec) }
+    ensures { HandlesByte (λ d. prefix_state (C.prefix d) (bytes_of_pending (C.waiting d))) codec
+        byte result }
+{
+    match codec.classify(pending, byte) {
+        Prefix::Complete(text) => {
+            let next = codec.with_waiting(Pending::Nothing);
+            HandlerResult::Emit(complete(text, pending.len() + 1, true, next))
+        }
+        Prefix::Malformed(len) => {
+            let takes_byte = len > pending.len();
+            let next = codec.with_waiting(pending.skip(len));
+            HandlerResult::Emit(malformed(len, takes_byte, next))
+        }
+        Prefix::Incomplete => HandlerResult::Continue(codec.with_waiting(pending.with(byte))),
+    }
+}
+
 impl<C: PrefixCodec> ByteCodec for C {
     ghost use Rattle.enc_decoder.specs.Pending.{bytes_of_pending};
     ghost use Rattle.enc_decoder.specs.Prefixes.{prefix_state};
@@ -209,18 +236,13 @@ impl<C: PrefixCodec> ByteCodec for C {
         if let Some(shown) = shown_first(self) {
             return HandlerResult::Emit(shown);
         }
-        let pending = self.waiting();
-        match self.classify(pending, byte) {
-            Prefix::Complete(text) => {
-                let next = self.with_waiting(Pending::Nothing);
-                HandlerResult::Emit(complete(text, pending.len() + 1, true, next))
+        match self.waiting() {
+            Pending::Nothing => step_after(self, Pending::Nothing, byte),
+            Pending::One(first) => step_after(self, Pending::One(first), byte),
+            Pending::Two(first, second) => step_after(self, Pending::Two(first, second), byte),
+            Pending::Three(first, second, third) => {
+                step_after(self, Pending::Three(first, second, third), byte)
             }
-            Prefix::Malformed(len) => {
-                let takes_byte = len > pending.len();
-                let next = self.with_waiting(pending.skip(len));
-                HandlerResult::Emit(malformed(len, takes_byte, next))
-            }
-            Prefix::Incomplete => HandlerResult::Continue(self.with_waiting(pending.with(byte))),
         }
     }
 
