@@ -1,17 +1,19 @@
 -- The laws of UTF-8's prefixes.
-use Rattle.std.proofs.Common.{◌≡◌, ◌≢◌, ℕ, ◌<◌, ◌≤◌, ◌==◌, Bool, true, false, cond, nat_lt, List, [], ◌∷◌, length, refl}
-use Rattle.std.proofs.Common.{ap, arith, subst, drop}
+use Rattle.std.proofs.Common.{◌≡◌, ◌≢◌, ℕ, ◌<◌, ◌≤◌, ◌==◌, zero, suc, Bool, true, false, cond, List, [], ◌∷◌, length, refl}
+use Rattle.std.proofs.Common.{ap, arith, subst, inl, inr}
 use Rattle.std.proofs.Math.Seq.{drop-nil}
 use Rattle.std.proofs.lemmas.Bool.Decides.{nat_tests}
 use Rattle.enc_decoder.specs.declared.byte_codec.Text.TheVariants.{One}
 use Rattle.enc_decoder.specs.declared.prefix.Prefix.{Prefix}
 use Rattle.enc_decoder.specs.declared.prefix.Prefix.TheVariants.{Complete, Malformed, Incomplete}
 use Rattle.enc_decoder.specs.Segmentation.{Head}
-use Rattle.enc_decoder.specs.Prefixes.{prefix_head, malformed_prefix_head, AreIncomplete, LeavesIncomplete}
+use Rattle.enc_decoder.specs.Prefixes.{prefix_head, malformed_prefix_head, LeavesIncomplete}
 use Rattle.enc_decoder.specs.Prefixes.{CanBeOther, ArePrefixes, HasAscii, AreSettledBelowDigits}
+use Rattle.enc_decoder.proofs.FirstSequenceLemmas.{true_or_false}
 use Rattle.enc_decoder.proofs.PrefixLaws.{IsLawfulPrefix, either_lawful, prefixes_by, one_is_text}
 use Rattle.enc_decoder_utf.specs.Utf8.{sequence_len, is_second_byte, is_continuation, second_byte_min, scalar_of}
-use Rattle.enc_decoder_utf.specs.Utf8.{begun_prefix, first_byte_prefix, utf_8_prefix}
+use Rattle.enc_decoder_utf.specs.Utf8.{first_byte_prefix, utf_8_prefix}
+use Rattle.enc_decoder_utf.proofs.Utf8Lemmas.{at_most_four}
 
 begun_lawful : (t : Bool) (len c : ℕ) → len ≤ 3
     → IsLawfulPrefix 3 len (cond t (Complete (One c)) Incomplete)
@@ -147,3 +149,30 @@ utf_8_settled c low a (b ∷ []) incomplete =
     ended (is_continuation c) 2 _ (low_continuation c (omega arith)) incomplete
 utf_8_settled c low a (b ∷ d ∷ []) incomplete = last_ended (is_continuation c) _ incomplete
 utf_8_settled c low a (b ∷ d ∷ e ∷ front) incomplete = last_ended (is_continuation e) _ incomplete
+
+-- three bytes that are incomplete begin a sequence of four
+
+not_whole : (t : Bool) (len n m c : ℕ)
+    → cond t (cond (len == n) (Complete (One c)) Incomplete) (Malformed m) ≡ Incomplete
+    → (len == n) ≡ false
+not_whole true len n m c incomplete = elim (true_or_false (len == n)) [
+  | inl whole ↦ absurd (let is_whole = rw whole at incomplete in cc)
+  | inr longer ↦ longer
+]
+not_whole false len n m c incomplete = absurd (cc)
+
+leads_some : (len c : ℕ)
+    → cond (len == 0) (Malformed 1) (cond (len == 1) (Complete (One c)) Incomplete) ≡ Incomplete
+    → 2 ≤ len
+leads_some zero c incomplete = absurd (cc)
+leads_some (suc zero) c incomplete = absurd (cc)
+leads_some (suc (suc n)) c incomplete = omega arith
+
+pub wants_four : (a b c : ℕ) → utf_8_prefix (a ∷ []) ≡ Incomplete
+    → utf_8_prefix (a ∷ b ∷ []) ≡ Incomplete → utf_8_prefix (a ∷ b ∷ c ∷ []) ≡ Incomplete
+    → sequence_len a ≡ 4
+wants_four a b c first second third =
+    let more = leads_some (sequence_len a) a first in
+    let not_two = not_whole (is_second_byte a b) (sequence_len a) 2 1 _ second in
+    let not_three = not_whole (is_continuation c) (sequence_len a) 3 2 _ third in
+    grind (arith, nat_tests, at_most_four a)

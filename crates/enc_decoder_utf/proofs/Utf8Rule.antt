@@ -1,20 +1,18 @@
 -- UTF-8's rule is that of its prefixes, and so it keeps their laws.
-use Rattle.std.proofs.Common.{◌≡◌, ℕ, ◌+◌, ◌-◌, ◌<◌, ◌≤◌, suc, true, false, List, [], ◌∷◌, ◌++◌, length, refl, ap, sym}
+use Rattle.std.proofs.Common.{◌≡◌, ℕ, ◌≤◌, true, List, [], ◌∷◌, length, refl, sym}
 use Rattle.std.proofs.Common.{◌∙◌, eqb, subst, arith, inl, inr}
 use Rattle.std.proofs.lemmas.Bool.Decides.{nat_tests}
-use Rattle.enc_decoder.specs.declared.prefix.Prefix.{Prefix}
 use Rattle.enc_decoder.specs.declared.prefix.Prefix.TheVariants.{Incomplete}
-use Rattle.enc_decoder.specs.Segmentation.{Head, Rule, sequences_of}
-use Rattle.enc_decoder.specs.Remainder.{IsUndetermined}
+use Rattle.enc_decoder.specs.Segmentation.{Head}
 use Rattle.enc_decoder.specs.RuleLaws.{HasTexts, IsLawfulRule}
 use Rattle.enc_decoder.specs.Division.{IsDividedBelowDigits}
 use Rattle.enc_decoder.specs.Latin1.{HasNoByteSequences}
-use Rattle.enc_decoder.specs.Prefixes.{prefix_head, prefix_rule, AreIncomplete}
+use Rattle.enc_decoder.specs.Prefixes.{prefix_head, prefix_rule}
 use Rattle.enc_decoder.proofs.FirstSequenceLemmas.{true_or_false, within_by}
-use Rattle.enc_decoder.proofs.PrefixRule.{prefixes_are_lawful, prefixes_have_texts, prefixes_have_bytes, undetermined}
+use Rattle.enc_decoder.proofs.PrefixRule.{prefixes_are_lawful, prefixes_have_texts, prefixes_have_bytes}
 use Rattle.enc_decoder.proofs.PrefixDivision.{prefixes_are_divided}
 use Rattle.enc_decoder_utf.specs.Utf8.{sequence_len, is_second_byte, is_continuation, utf_8_prefix, utf_8_rule}
-use Rattle.enc_decoder_utf.specs.Utf8.{is_incomplete_sequence, well_formed_tail_len}
+use Rattle.enc_decoder_utf.specs.Utf8.{begun_prefix, first_byte_prefix}
 use Rattle.enc_decoder_utf.proofs.Utf8Lemmas.{whole_head, short_head, at_most_four, one_begun, two_begun, three_begun}
 use Rattle.enc_decoder_utf.proofs.Utf8Lemmas.{well_formed_tail_len-alone, well_formed_tail_len-no_second}
 use Rattle.enc_decoder_utf.proofs.Utf8Lemmas.{well_formed_tail_len-second, well_formed_tail_len-no_third, three_reached}
@@ -32,14 +30,16 @@ module _ (set a : ℕ) where
       (rw four refl))
   fourth b c (d ∷ z) four second third = elim (true_or_false (is_continuation d)) [
     | inl last ↦ rw (
-      whole_head set a (b ∷ c ∷ d ∷ z) (three_reached a b c d z four second third ∙ rw last refl)
+      whole_head set a (b ∷ c ∷ d ∷ z) {m = 3} (three_reached a b c d z four second third ∙ rw last refl)
           (rw four refl),
       last,
+      prefix_head,
     ) refl
     | inr cut ↦ rw (
-      short_head set a (b ∷ c ∷ d ∷ z) (three_reached a b c d z four second third ∙ rw cut refl)
+      short_head set a (b ∷ c ∷ d ∷ z) {m = 2} (three_reached a b c d z four second third ∙ rw cut refl)
           (rw four refl),
       cut,
+      prefix_head,
     ) refl
   ]
 
@@ -50,20 +50,23 @@ module _ (set a : ℕ) where
   third b (c ∷ z) more second = elim (true_or_false (is_continuation c)) [
     | inl continues ↦ elim (true_or_false (eqb (sequence_len a) 3)) [
       | inl three ↦ (let is_three : sequence_len a ≡ 3 = grind (arith, nat_tests) in rw (
-        whole_head set a (b ∷ c ∷ z)
+        whole_head set a (b ∷ c ∷ z) {m = 2}
             (well_formed_tail_len-second a b (c ∷ z) (omega arith) second ∙ rw (is_three, continues) refl)
             (rw is_three refl),
         continues,
         three,
+        prefix_head,
+        begun_prefix,
       ) refl)
       | inr longer ↦
           let four : sequence_len a ≡ 4 = grind (arith, nat_tests, at_most_four a) in
-          rw (continues, longer) (fourth b c z four second continues)
+          rw (continues, longer, prefix_head, begun_prefix) (fourth b c z four second continues)
     ]
     | inr cut ↦ rw (
       short_head set a (b ∷ c ∷ z) (well_formed_tail_len-no_third a b c z more second cut)
           (grind (arith, nat_tests)),
       cut,
+      prefix_head,
     ) refl
   ]
 
@@ -72,16 +75,19 @@ module _ (set a : ℕ) where
   second (b ∷ z) more = elim (true_or_false (is_second_byte a b)) [
     | inl follows ↦ elim (true_or_false (eqb (sequence_len a) 2)) [
       | inl two ↦ (let is_two : sequence_len a ≡ 2 = grind (arith, nat_tests) in rw (
-        whole_head set a (b ∷ z) (well_formed_tail_len-second a b z more follows ∙ rw is_two refl)
+        whole_head set a (b ∷ z) {m = 1} (well_formed_tail_len-second a b z more follows ∙ rw is_two refl)
             (rw is_two refl),
         follows,
         two,
+        prefix_head,
+        begun_prefix,
       ) refl)
-      | inr longer ↦ rw (follows, longer) (third b z (grind (arith, nat_tests)) follows)
+      | inr longer ↦ rw (follows, longer, prefix_head, begun_prefix) (third b z (grind (arith, nat_tests)) follows)
     ]
     | inr cut ↦ rw (
       short_head set a (b ∷ z) (well_formed_tail_len-no_second a b z more cut) (grind (arith, nat_tests)),
       cut,
+      prefix_head,
     ) refl
   ]
 
@@ -91,14 +97,19 @@ module _ (set a : ℕ) where
     | inl none ↦ (let is_none : sequence_len a ≡ 0 = grind (arith, nat_tests) in rw (
       short_head set a z (well_formed_tail_len-alone a z (omega arith)) (rw is_none refl),
       none,
+      prefix_head,
+      first_byte_prefix,
     ) refl)
     | inr some ↦ elim (true_or_false (eqb (sequence_len a) 1)) [
       | inl one ↦ (let is_one : sequence_len a ≡ 1 = grind (arith, nat_tests) in rw (
         whole_head set a z (well_formed_tail_len-alone a z (omega arith)) (rw is_one refl),
         some,
         one,
+        prefix_head,
+        first_byte_prefix,
+        begun_prefix,
       ) refl)
-      | inr longer ↦ rw (some, longer) (second z (grind (arith, nat_tests)))
+      | inr longer ↦ rw (some, longer, prefix_head, first_byte_prefix, begun_prefix) (second z (grind (arith, nat_tests)))
     ]
   ]
 

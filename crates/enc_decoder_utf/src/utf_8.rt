@@ -199,6 +199,8 @@ impl PrefixCodec for Utf8Decoder {
     ghost lengths = { lengths.Utf8 };
 
     #[inline(always)]
+    #[tactic(auto, using(crate::proofs::Utf8Prefixes::utf_8_prefixes,
+        crate::proofs::Utf8Prefixes::utf_8_leaves))]
     fn laws(self) {
         let _pending = self.pending;
     }
@@ -281,6 +283,7 @@ impl PrefixCodec for Utf8Decoder {
     }
 
     #[inline(always)]
+    #[tactic(auto, using(crate::proofs::Utf8Rule::utf_8_prefixes_have_bytes))]
     fn has_bytes(self) -> bool {
         let _decoder = self;
         true
