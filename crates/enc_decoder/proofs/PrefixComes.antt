@@ -121,7 +121,8 @@ module _ {C : Type 0} (prefix_of : C → List ℕ → Prefix) (pending : C → P
       let one_longer : length all ≡ length p + 1 = length-append p (b ∷ []) in
       let is_all : n ≡ length all = omega (arith, settles.own) in
       shows_with state c next text kind len b (ap prefix_rule same) none_left
-      (is_length ∙ is_all ∙ one_longer) settles.no_escape (λ faulty. (settles.replaced faulty, omega arith))
+      (is_length ∙ is_all ∙ one_longer) settles.no_escape
+      (λ faulty. (settles.replaced faulty, omega arith))
       (λ z. rw (same, none_left) (rw (is_all, take-length all, drop-length all)
       at (settled_first prefix 0 p b z n text kind are_incomplete settles)))
 

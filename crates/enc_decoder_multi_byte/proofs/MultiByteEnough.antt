@@ -47,7 +47,8 @@ module _ (prefix : List ℕ → Prefix) (laws : AreMultiBytePrefixes prefix) whe
 
   few : HasFewUnits (prefix_rule prefix)
   unfolding prefix_rule
-  few = few_by_single_bytes (prefix_rule prefix) (prefixes_are_lawful prefix laws.prefixes).small_texts
+  few = few_by_single_bytes (prefix_rule prefix)
+      (prefixes_are_lawful prefix laws.prefixes).small_texts
       (λ set b z. first_is_basic set b z (prefix (b ∷ [])) refl)
 
   pub multi_bytes_enough : (pending : List ℕ)

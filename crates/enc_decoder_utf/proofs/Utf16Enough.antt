@@ -148,7 +148,8 @@ module _ (units_of : ℕ → List ℕ) (each : ℕ) (most : ℕ → ℕ) (one : 
   past_two set (suc (suc k)) c d z some are_bytes =
       let rest = bytes_bounded set k z are_bytes in omega (arith, rest)
 
-  pending_bounded : (p : Pending) (z : List ℕ) → AreIncomplete (utf_16_prefix s.big_endian) [] (bytes_of_pending p) → AreBytes z
+  pending_bounded : (p : Pending) (z : List ℕ)
+      → AreIncomplete (utf_16_prefix s.big_endian) [] (bytes_of_pending p) → AreBytes z
       → after 0 0 (bytes_of_pending p ++ z) ≤ most (length (bytes_of_pending p ++ z)) + 1
   pending_bounded Nothing z leads are_bytes = omega (arith, bytes_bounded 0 0 z are_bytes)
   pending_bounded (One b) z leads are_bytes = first_bounded 0 b z are_bytes
@@ -160,7 +161,7 @@ module _ (units_of : ℕ → List ℕ) (each : ℕ) (most : ℕ → ℕ) (one : 
   pending_bounded (Three b c d) z leads are_bytes =
       let head = rule 0 b (c ∷ d ∷ z) in
       let more_bytes = some_more s.big_endian 0 b (c ∷ d ∷ z) (omega arith) in
-      let lead_in_range = lead_range (code_unit s.big_endian b c) 
+      let lead_in_range = lead_range (code_unit s.big_endian b c)
       (begins_pair (is_lead_surrogate (code_unit s.big_endian b c))
       (is_trail_surrogate (code_unit s.big_endian b c)) (code_unit s.big_endian b c) leads.1.0) in
       let is_basic = basic _ (basic_by (code_unit s.big_endian b c) (omega arith)) in

@@ -23,7 +23,8 @@ other_first : (big : Bool) (set a : ℕ) (t u : Bool) (c : ℕ)
     → prefix_head (utf_16_prefix big) set (a ∷ 0 ∷ [])
     (cond t Incomplete (cond u (Malformed 2) (Complete (One c)))) []
     ≡ malformed_prefix_head set 1 → ⊥
-other_first big set a true u c same = let more = ap (λ (h : Head). h.more) same in omega (arith, more)
+other_first big set a true u c same =
+    let more = ap (λ (h : Head). h.more) same in omega (arith, more)
 other_first big set a false true c same =
     let more = ap (λ (h : Head). h.more) same in omega (arith, more)
 other_first big set a false false c same = let kind = ap (λ (h : Head). h.kind) same in cc

@@ -1,5 +1,6 @@
 -- The characters of well-formed UTF-8 are pieces.
-use Rattle.std.proofs.Common.{◌≡◌, ℕ, ◌+◌, ◌/◌, ◌<◌, ◌≤◌, ◌⊎◌, true, false, List, [], ◌∷◌, arith, inl, inr, nat_le, subst, sym}
+use Rattle.std.proofs.Common.{◌≡◌, ℕ, ◌+◌, ◌/◌, ◌<◌, ◌≤◌, ◌⊎◌, true, false, List, [], ◌∷◌, arith, inl, inr, nat_le}
+use Rattle.std.proofs.Common.{subst, sym}
 use Rattle.std.proofs.Math.Utf8.{next, scalar_cases}
 use Rattle.std.proofs.str.Laws as laws
 use Rattle.std.proofs.lemmas.Bool.{cases_lt}

@@ -30,13 +30,15 @@ module _ (set a : ℕ) where
       (rw four refl))
   fourth b c (d ∷ z) four second third = elim (true_or_false (is_continuation d)) [
     | inl last ↦ rw (
-      whole_head set a (b ∷ c ∷ d ∷ z) {m = 3} (three_reached a b c d z four second third ∙ rw last refl)
+      whole_head set a (b ∷ c ∷ d ∷ z) {m = 3}
+          (three_reached a b c d z four second third ∙ rw last refl)
           (rw four refl),
       last,
       prefix_head,
     ) refl
     | inr cut ↦ rw (
-      short_head set a (b ∷ c ∷ d ∷ z) {m = 2} (three_reached a b c d z four second third ∙ rw cut refl)
+      short_head set a (b ∷ c ∷ d ∷ z) {m = 2}
+          (three_reached a b c d z four second third ∙ rw cut refl)
           (rw four refl),
       cut,
       prefix_head,
@@ -51,7 +53,8 @@ module _ (set a : ℕ) where
     | inl continues ↦ elim (true_or_false (eqb (sequence_len a) 3)) [
       | inl three ↦ (let is_three : sequence_len a ≡ 3 = grind (arith, nat_tests) in rw (
         whole_head set a (b ∷ c ∷ z) {m = 2}
-            (well_formed_tail_len-second a b (c ∷ z) (omega arith) second ∙ rw (is_three, continues) refl)
+            (well_formed_tail_len-second a b (c ∷ z) (omega arith) second
+            ∙ rw (is_three, continues) refl)
             (rw is_three refl),
         continues,
         three,
@@ -75,17 +78,20 @@ module _ (set a : ℕ) where
   second (b ∷ z) more = elim (true_or_false (is_second_byte a b)) [
     | inl follows ↦ elim (true_or_false (eqb (sequence_len a) 2)) [
       | inl two ↦ (let is_two : sequence_len a ≡ 2 = grind (arith, nat_tests) in rw (
-        whole_head set a (b ∷ z) {m = 1} (well_formed_tail_len-second a b z more follows ∙ rw is_two refl)
+        whole_head set a (b ∷ z) {m = 1}
+            (well_formed_tail_len-second a b z more follows ∙ rw is_two refl)
             (rw is_two refl),
         follows,
         two,
         prefix_head,
         begun_prefix,
       ) refl)
-      | inr longer ↦ rw (follows, longer, prefix_head, begun_prefix) (third b z (grind (arith, nat_tests)) follows)
+      | inr longer ↦ rw (follows, longer, prefix_head, begun_prefix)
+          (third b z (grind (arith, nat_tests)) follows)
     ]
     | inr cut ↦ rw (
-      short_head set a (b ∷ z) (well_formed_tail_len-no_second a b z more cut) (grind (arith, nat_tests)),
+      short_head set a (b ∷ z) (well_formed_tail_len-no_second a b z more cut)
+          (grind (arith, nat_tests)),
       cut,
       prefix_head,
     ) refl
@@ -109,7 +115,8 @@ module _ (set a : ℕ) where
         first_byte_prefix,
         begun_prefix,
       ) refl)
-      | inr longer ↦ rw (some, longer, prefix_head, first_byte_prefix, begun_prefix) (second z (grind (arith, nat_tests)))
+      | inr longer ↦ rw (some, longer, prefix_head, first_byte_prefix, begun_prefix)
+          (second z (grind (arith, nat_tests)))
     ]
   ]
 

@@ -1,5 +1,5 @@
--- What the start of a UTF-8 sequence determines by itself: nothing, for a whole sequence may come of
--- it, and the input may end.
+-- What the start of a UTF-8 sequence determines by itself: nothing, for a whole sequence may come
+-- of it, and the input may end.
 use Rattle.std.proofs.Common.{◌≡◌, ℕ, ◌≤◌, true, List, [], ◌∷◌, ◌++◌, subst, arith}
 use Rattle.std.proofs.Common.{inl, inr}
 use Rattle.std.proofs.lemmas.Bool.Decides.{nat_tests}

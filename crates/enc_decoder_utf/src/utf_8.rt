@@ -199,8 +199,6 @@ impl PrefixCodec for Utf8Decoder {
     ghost lengths = { lengths.Utf8 };
 
     #[inline(always)]
-    #[tactic(auto, using(crate::proofs::Utf8Prefixes::utf_8_prefixes,
-        crate::proofs::Utf8Prefixes::utf_8_leaves))]
     fn laws(self) {
         let _pending = self.pending;
     }

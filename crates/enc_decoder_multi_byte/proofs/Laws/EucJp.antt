@@ -13,7 +13,8 @@ use Rattle.enc_decoder_multi_byte.specs.EucJp.{euc_jp_triple_char, euc_jp_prefix
 use Rattle.enc_decoder_multi_byte.proofs.DoubleByteLemmas.{first_is_basic, ascii_is_basic, char_is_text, first_alone}
 use Rattle.enc_decoder_multi_byte.proofs.DoubleByteLemmas.{first_lawful, trail_lawful, trail_finished}
 use Rattle.enc_decoder_multi_byte.proofs.DoubleByteLemmas.{trail_can_be_malformed}
-use Rattle.enc_decoder.proofs.PrefixLaws.{IsLawfulPrefix, either_lawful, prefixes_by, malformed_with_ff, unless_finished}
+use Rattle.enc_decoder.proofs.PrefixLaws.{IsLawfulPrefix, either_lawful, prefixes_by, malformed_with_ff}
+use Rattle.enc_decoder.proofs.PrefixLaws.{unless_finished}
 
 lawful : (front : List ℕ) → IsLawfulPrefix 2 (length front) (euc_jp_prefix front)
 lawful [] = omega arith
@@ -43,9 +44,11 @@ can_be_other : (front : List ℕ) → 0 < length front → euc_jp_prefix front �
     → CanBeOther euc_jp_prefix front
 can_be_other [] some incomplete = absurd (omega arith)
 can_be_other (a ∷ []) some incomplete =
-    malformed_with_ff euc_jp_prefix (a ∷ []) 2 (omega arith) (omega arith) (pair_can_be_malformed a) (λ same. omega arith)
+    malformed_with_ff euc_jp_prefix (a ∷ []) 2 (omega arith) (omega arith)
+    (pair_can_be_malformed a) (λ same. omega arith)
 can_be_other (a ∷ b ∷ []) some incomplete =
-    malformed_with_ff euc_jp_prefix (a ∷ b ∷ []) 3 (omega arith) (omega arith) refl (λ same. omega arith)
+    malformed_with_ff euc_jp_prefix (a ∷ b ∷ []) 3 (omega arith) (omega arith)
+    refl (λ same. omega arith)
 can_be_other (a ∷ b ∷ c ∷ z) some incomplete =
     absurd (trail_finished 2 c (text_of_char (euc_jp_triple_char b c)) incomplete)
 

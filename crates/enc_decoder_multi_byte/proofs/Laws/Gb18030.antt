@@ -29,7 +29,8 @@ lawful (a ∷ b ∷ []) =
     either_lawful 3 2 (is_digit b) Incomplete _ (omega arith)
     (trail_lawful 3 2 1 b _ (char_is_text (gb18030_pair_char a b)) (omega arith) (omega arith))
 lawful (a ∷ b ∷ c ∷ []) =
-    either_lawful 3 3 (is_gb18030_lead c) Incomplete (Malformed 1) (omega arith) (omega arith, omega arith)
+    either_lawful 3 3 (is_gb18030_lead c) Incomplete (Malformed 1) (omega arith)
+    (omega arith, omega arith)
 lawful (a ∷ b ∷ c ∷ d ∷ z) =
     four_lawful _ (is_digit d) (ranges_code_point (four_byte_pointer a b c d)) (omega arith)
 
@@ -41,11 +42,14 @@ can_be_other : (front : List ℕ) → 0 < length front → gb18030_prefix front 
     → CanBeOther gb18030_prefix front
 can_be_other [] some incomplete = absurd (omega arith)
 can_be_other (a ∷ []) some incomplete =
-    malformed_with_ff gb18030_prefix (a ∷ []) 2 (omega arith) (omega arith) refl (λ same. omega arith)
+    malformed_with_ff gb18030_prefix (a ∷ []) 2 (omega arith) (omega arith)
+    refl (λ same. omega arith)
 can_be_other (a ∷ b ∷ []) some incomplete =
-    malformed_with_ff gb18030_prefix (a ∷ b ∷ []) 1 (omega arith) (omega arith) refl (λ same. omega arith)
+    malformed_with_ff gb18030_prefix (a ∷ b ∷ []) 1 (omega arith) (omega arith)
+    refl (λ same. omega arith)
 can_be_other (a ∷ b ∷ c ∷ []) some incomplete =
-    malformed_with_ff gb18030_prefix (a ∷ b ∷ c ∷ []) 1 (omega arith) (omega arith) refl (λ same. omega arith)
+    malformed_with_ff gb18030_prefix (a ∷ b ∷ c ∷ []) 1 (omega arith) (omega arith)
+    refl (λ same. omega arith)
 can_be_other (a ∷ b ∷ c ∷ d ∷ z) some incomplete =
     let too_short = short (a ∷ b ∷ c ∷ d ∷ z) incomplete in absurd (omega arith)
 

@@ -49,7 +49,8 @@ returns-in-Malformed-clause-shown g c =
     let front = bytes_of_pending c.loop-byte.front in
     rw c.malformed.ensures (
       shows_pending g.C.PrefixCodec.prefix g.C.PrefixCodec.waiting c.args.codec
-          c.with_waiting-next-in-Malformed.result c.laws.ensures.prefixes c.with_waiting-next-in-Malformed.ensures.prefix
+          c.with_waiting-next-in-Malformed.result c.laws.ensures.prefixes
+          c.with_waiting-next-in-Malformed.ensures.prefix
           front _ c.loop-byte.invariant.0
           (sym c.first.ensures ∙ c.in-Some.is) c.loop-byte.invariant.1
           (settles_malformed _ c.laws.ensures.prefixes (front ++ c.in-Some.byte ∷ [])

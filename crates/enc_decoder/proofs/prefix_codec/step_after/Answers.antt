@@ -38,7 +38,8 @@ returns-in-Malformed g c =
     c.with_waiting-next-in-Malformed.ensures.prefix c.args.byte _
     (rw (c.len-in-Malformed.ensures, c.requires.waiting) refl)
     c.requires.incomplete
-    (settles_malformed (g.C.PrefixCodec.prefix c.args.codec) c.requires.lawful (pending ++ c.args.byte ∷ [])
+    (settles_malformed (g.C.PrefixCodec.prefix c.args.codec) c.requires.lawful
+    (pending ++ c.args.byte ∷ [])
     c.in-Malformed.len
     (rw (← c.requires.waiting) (sym c.classify.ensures ∙ c.in-Malformed.is)))
     refl

@@ -21,5 +21,6 @@ returns-clause-within g c =
 
 pub returns-clause-first : goal.returns-clause-first
 returns-clause-first g c =
-    malformed_at g.E.MultiByte.prefix c.laws.ensures.prefixes c.args.src.now c.args.at (omega arith) _
+    malformed_at g.E.MultiByte.prefix c.laws.ensures.prefixes c.args.src.now c.args.at
+    (omega arith) _
     c.in_ok-len.ensures

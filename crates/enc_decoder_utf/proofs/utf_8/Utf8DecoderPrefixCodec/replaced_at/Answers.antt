@@ -21,7 +21,8 @@ returns-then-not-is_lead-clause-first c =
 
 pub returns-then-not-is_second_byte-clause-first : goal.returns-then-not-is_second_byte-clause-first
 returns-then-not-is_second_byte-clause-first c =
-    rw utf_8_by_prefixes (before_byte Malformed _ (one_of c.args.src.now c.args.at c.requires.within) (omega arith)
+    rw utf_8_by_prefixes (before_byte Malformed _
+    (one_of c.args.src.now c.args.at c.requires.within) (omega arith)
     (λ z. one_malformed _ _ z (lead_len _ (sym c.is_lead.ensures ∙ c.if-not-is_lead.false)).0
     (sym c.is_second_byte.ensures ∙ c.if-not-is_second_byte.true)))
 
@@ -39,7 +40,8 @@ returns-then-first-lt224-clause-first c =
 pub returns-then-not-is_continuation-clause-first :
     goal.returns-then-not-is_continuation-clause-first
 returns-then-not-is_continuation-clause-first c =
-    rw utf_8_by_prefixes (before_byte Malformed _ (two_of c.args.src.now c.args.at (omega arith)) (omega arith)
+    rw utf_8_by_prefixes (before_byte Malformed _ (two_of c.args.src.now c.args.at (omega arith))
+    (omega arith)
     (λ z. two_malformed _ _ _ z
     ((lead_len _ (sym c.is_lead.ensures ∙ c.if-not-is_lead.false)).2 c.if-first-lt224.false)
     (sym c.is_second_byte.ensures ∙ c.if-not-is_second_byte.false)
@@ -64,7 +66,8 @@ four_byte_char-requires-clause-len c =
 pub returns-then-not-is_continuation-2-clause-first :
     goal.returns-then-not-is_continuation-2-clause-first
 returns-then-not-is_continuation-2-clause-first c =
-    rw utf_8_by_prefixes (before_byte Malformed _ (three_of c.args.src.now c.args.at (omega arith)) (omega arith)
+    rw utf_8_by_prefixes (before_byte Malformed _ (three_of c.args.src.now c.args.at (omega arith))
+    (omega arith)
     (λ z. three_malformed _ _ _ _ z
     ((lead_len _ (sym c.is_lead.ensures ∙ c.if-not-is_lead.false)).3 c.if-first-lt240.false)
     (sym c.is_second_byte.ensures ∙ c.if-not-is_second_byte.false)
