@@ -9,8 +9,7 @@ use Rattle.enc_decoder.specs.declared.pending.Pending.TheVariants.{Nothing}
 use Rattle.enc_decoder.specs.declared.text_lengths.TextLengths.TheVariants as lengths
 use Rattle.enc_decoder.specs.Need.{AreEnoughForCodec}
 use Rattle.enc_decoder_utf.specs.Utf16.{utf_16_rule}
-use Rattle.enc_decoder_utf.proofs.Utf8Rule.{utf_8_has_texts, utf_8_is_lawful, utf_8_has_bytes}
-use Rattle.enc_decoder_utf.proofs.Utf8Division.{utf_8_is_divided}
+use Rattle.enc_decoder_utf.proofs.Utf8Rule.{utf_8_has_texts, utf_8_is_lawful, utf_8_has_bytes, utf_8_is_divided}
 use Rattle.enc_decoder_utf.proofs.Utf8Enough.{utf_8_enough}
 use Rattle.enc_decoder_utf.proofs.Utf16Rule.{utf_16_has_texts, utf_16_is_lawful, utf_16_has_no_bytes}
 use Rattle.enc_decoder_utf.proofs.Utf16Enough.{utf_16_enough}
@@ -20,8 +19,11 @@ use Rattle.enc_decoder_single_byte.proofs.OneByteLemmas.{single_byte_ascii, x_us
 use Rattle.enc_decoder_single_byte.proofs.OneByteDivision.{one_byte_is_divided}
 use Rattle.enc_decoder_single_byte.proofs.EnoughLemmas.{single_byte_enough, x_user_defined_enough, replacement_enough}
 use Rattle.enc_decoder_single_byte.proofs.ReplacementLemmas.{replacement_is_lawful, replacement_has_no_bytes}
-use Rattle.enc_decoder_multi_byte.specs.declared.multi_byte.Prefix.{Prefix}
-use Rattle.enc_decoder_multi_byte.specs.MultiByte.{multi_byte_rule, ArePrefixes}
+use Rattle.enc_decoder.specs.declared.prefix.Prefix.{Prefix}
+use Rattle.enc_decoder.specs.Prefixes.{prefix_rule}
+use Rattle.enc_decoder.proofs.PrefixRule.{prefixes_are_lawful, prefixes_have_texts, prefixes_have_bytes}
+use Rattle.enc_decoder.proofs.PrefixDivision.{prefixes_are_divided}
+use Rattle.enc_decoder_multi_byte.specs.MultiByte.{AreMultiBytePrefixes}
 use Rattle.enc_decoder_multi_byte.specs.Big5.{big5_prefix}
 use Rattle.enc_decoder_multi_byte.specs.EucKr.{euc_kr_prefix}
 use Rattle.enc_decoder_multi_byte.specs.ShiftJis.{shift_jis_prefix}
@@ -32,10 +34,7 @@ use Rattle.enc_decoder_multi_byte.proofs.Laws.EucKr as euc_kr
 use Rattle.enc_decoder_multi_byte.proofs.Laws.ShiftJis as shift_jis
 use Rattle.enc_decoder_multi_byte.proofs.Laws.EucJp as euc_jp
 use Rattle.enc_decoder_multi_byte.proofs.Laws.Gb18030 as gb18030
-use Rattle.enc_decoder_multi_byte.proofs.MultiByteDivision.{multi_byte_is_divided}
 use Rattle.enc_decoder_multi_byte.proofs.MultiByteEnough.{multi_bytes_enough}
-use Rattle.enc_decoder_multi_byte.proofs.MultiByteRule.{multi_byte_has_texts, multi_byte_is_lawful}
-use Rattle.enc_decoder_multi_byte.proofs.MultiByteRule.{multi_byte_has_bytes}
 use Rattle.enc_decoder_iso_2022_jp.proofs.Iso2022JpEnough.{iso_2022_jp_enough}
 use Rattle.enc_decoder_iso_2022_jp.proofs.Iso2022JpRule.{iso_2022_jp_is_lawful, iso_2022_jp_has_bytes}
 use Rattle.enc_codec.specs.Codecs.{codec_rule, codec_facts, initial_state, utf_16_facts, one_byte_facts}
@@ -85,17 +84,17 @@ one_byte_keeps_laws character has_ascii enough = record {
   bb = one_byte_shows_bb character;
 }
 
-multi_byte_keeps_laws : (prefix : List ℕ → Prefix) → ArePrefixes prefix
-    → DeterminesBbByItself (multi_byte_rule prefix)
-    → KeepsCodecLaws (multi_byte_rule prefix) multi_byte_facts
+multi_byte_keeps_laws : (prefix : List ℕ → Prefix) → AreMultiBytePrefixes prefix
+    → DeterminesBbByItself (prefix_rule prefix)
+    → KeepsCodecLaws (prefix_rule prefix) multi_byte_facts
 multi_byte_keeps_laws prefix laws bb = record {
-  lawful = multi_byte_is_lawful prefix laws;
+  lawful = prefixes_are_lawful prefix laws.prefixes;
   enough = multi_bytes_enough prefix laws [];
-  texts = multi_byte_has_texts prefix laws;
-  bytes = multi_byte_has_bytes prefix 0x61 (One 0x61) (laws.ascii 0x61 (omega arith));
+  texts = prefixes_have_texts prefix laws.prefixes;
+  bytes = prefixes_have_bytes prefix 0x61 (One 0x61) (laws.ascii 0x61 (omega arith));
   ascii = multi_byte_is_ascii_compatible prefix laws.ascii;
   single = multi_byte_is_not_single_byte prefix laws;
-  divided = multi_byte_is_divided prefix laws;
+  divided = prefixes_are_divided prefix laws.prefixes laws.ascii laws.settled;
   bb = bb;
 }
 
@@ -107,13 +106,13 @@ codec_laws codec.Utf8 = record {
   bytes = utf_8_has_bytes;
   ascii = utf_8_is_ascii_compatible;
   single = utf_8_is_not_single_byte;
-  divided = λ c low. utf_8_is_divided c (omega arith);
+  divided = utf_8_is_divided;
   bb = utf_8_shows_bb;
 }
 codec_laws codec.Utf16Be =
-    utf_16_keeps_laws true (utf_16_enough (record { big_endian = true; pending = Nothing }) refl)
+    utf_16_keeps_laws true (utf_16_enough (record { big_endian = true; pending = Nothing }) tt)
 codec_laws codec.Utf16Le =
-    utf_16_keeps_laws false (utf_16_enough (record { big_endian = false; pending = Nothing }) refl)
+    utf_16_keeps_laws false (utf_16_enough (record { big_endian = false; pending = Nothing }) tt)
 codec_laws (codec.SingleByte index) =
     one_byte_keeps_laws _ (single_byte_ascii _) (single_byte_enough (single_byte_runs index))
 codec_laws codec.Big5 =

@@ -16,7 +16,7 @@ second_chars_differ c n m less same = let same_char : m ≡ n = cc in omega arit
 -- UTF-16: 0A 61 is one code unit
 
 pub utf_16_is_not_divided : (big : Bool) → ¬ (IsDividedAfter 0x0A (utf_16_rule big))
-unfolding utf_16_rule code_unit is_lead_surrogate is_trail_surrogate sequences_after
+unfolding prefix_rule code_unit is_lead_surrogate is_trail_surrogate sequences_after
 utf_16_is_not_divided true divided =
     numbers_differ 1 2 (omega arith) (ap length (divided [] (0x61 ∷ [])))
 utf_16_is_not_divided false divided =

@@ -9,10 +9,10 @@ use Rattle.enc_decoder_utf.specs.Utf16.{code_unit, is_lead_surrogate as is_lead_
 use Rattle.enc_decoder_single_byte.specs.OneByte.{one_byte_rule}
 use Rattle.enc_decoder_single_byte.proofs.OneByteLemmas.{no_more}
 use Rattle.enc_decoder_single_byte.specs.Replacement.{replacement_rule}
-use Rattle.enc_decoder_multi_byte.specs.declared.multi_byte.Prefix.{Prefix}
-use Rattle.enc_decoder_multi_byte.specs.declared.multi_byte.Prefix.TheVariants.{Incomplete}
+use Rattle.enc_decoder.specs.declared.prefix.Prefix.{Prefix}
+use Rattle.enc_decoder.specs.declared.prefix.Prefix.TheVariants.{Incomplete}
 use Rattle.enc_decoder_multi_byte.specs.DoubleByte.{trail_prefix}
-use Rattle.enc_decoder_multi_byte.specs.MultiByte.{multi_byte_rule, prefix_head}
+use Rattle.enc_decoder.specs.Prefixes.{prefix_rule, prefix_head}
 use Rattle.enc_decoder_iso_2022_jp.specs.Iso2022Jp.{iso_2022_jp_rule, is_lead_byte, one_byte_char}
 use Rattle.enc_codec.specs.Properties.{DeterminesBbByItself}
 
@@ -27,7 +27,7 @@ utf_8_shows_bb (c ∷ z) ef_alone y = elim (true_or_false (is_continuation c)) [
 
 -- in UTF-16 they are a code unit, and no surrogate
 pub utf_16_shows_bb : (big : Bool) → DeterminesBbByItself (utf_16_rule big)
-unfolding utf_16_rule code_unit is_lead_unit is_trail_surrogate
+unfolding prefix_rule code_unit is_lead_unit is_trail_surrogate
 utf_16_shows_bb true z e y = absurd (cc)
 utf_16_shows_bb false z e y = absurd (cc)
 
@@ -40,8 +40,8 @@ one_byte_shows_bb character z e y =
 -- where EF leads, BB is its trail, or is malformed with it
 pub multi_byte_shows_bb : (prefix : List ℕ → Prefix) (text : Option Text)
     → prefix (0xEF ∷ []) ≡ Incomplete → prefix (0xEF ∷ 0xBB ∷ []) ≡ trail_prefix 1 0xBB text
-    → DeterminesBbByItself (multi_byte_rule prefix)
-unfolding multi_byte_rule
+    → DeterminesBbByItself (prefix_rule prefix)
+unfolding prefix_rule
 multi_byte_shows_bb prefix text f g z e y = absurd (two text (sym first ∙ e))
   where
     first : (prefix_head prefix 0 (0xEF ∷ []) (prefix (0xEF ∷ [])) (0xBB ∷ z)).more

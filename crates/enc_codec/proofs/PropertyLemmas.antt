@@ -13,10 +13,11 @@ use Rattle.enc_decoder_utf.proofs.Utf8Lemmas.{one_valid}
 use Rattle.enc_decoder_single_byte.specs.OneByte.{one_byte_rule}
 use Rattle.enc_decoder_single_byte.specs.Replacement.{replacement_rule}
 use Rattle.enc_decoder_single_byte.proofs.OneByteLemmas.{one_byte_piece}
-use Rattle.enc_decoder_multi_byte.specs.declared.multi_byte.Prefix.{Prefix}
-use Rattle.enc_decoder_multi_byte.specs.declared.multi_byte.Prefix.TheVariants.{Malformed, Incomplete}
-use Rattle.enc_decoder_multi_byte.specs.MultiByte.{multi_byte_rule, prefix_head, HasAscii, ArePrefixes}
-use Rattle.enc_decoder_multi_byte.proofs.MultiBytePieces.{complete_one}
+use Rattle.enc_decoder.specs.declared.prefix.Prefix.{Prefix}
+use Rattle.enc_decoder.specs.declared.prefix.Prefix.TheVariants.{Malformed, Incomplete}
+use Rattle.enc_decoder.specs.Prefixes.{prefix_rule, prefix_head, HasAscii}
+use Rattle.enc_decoder.proofs.PrefixLemmas.{complete_one}
+use Rattle.enc_decoder_multi_byte.specs.MultiByte.{AreMultiBytePrefixes}
 use Rattle.enc_decoder_iso_2022_jp.specs.Iso2022Jp.{iso_2022_jp_rule}
 use Rattle.enc_codec.specs.Properties.{IsAsciiCompatible, IsByteWithText, IsSingleByte}
 
@@ -51,11 +52,11 @@ utf_8_is_not_single_byte =
 -- UTF-16
 
 pub utf_16_is_not_ascii_compatible : (big : Bool) → ¬ (IsAsciiCompatible (utf_16_rule big))
-unfolding utf_16_rule
+unfolding prefix_rule
 utf_16_is_not_ascii_compatible big = replaced (utf_16_rule big) 0x61 (omega arith) refl
 
 pub utf_16_is_not_single_byte : (big : Bool) → ¬ (IsSingleByte (utf_16_rule big))
-unfolding utf_16_rule code_unit is_lead_surrogate is_trail_surrogate
+unfolding prefix_rule code_unit is_lead_surrogate is_trail_surrogate
 utf_16_is_not_single_byte true =
     more_bytes (utf_16_rule true) 0 (0x61 ∷ []) (omega arith, (omega arith, tt)) (λ e. cc)
 utf_16_is_not_single_byte false =
@@ -88,35 +89,30 @@ one_byte_is_single_byte character bytes a = each 0 bytes
 -- legacy multi-byte encodings
 
 pub multi_byte_is_ascii_compatible : (prefix : List ℕ → Prefix) → HasAscii prefix
-    → IsAsciiCompatible (multi_byte_rule prefix)
+    → IsAsciiCompatible (prefix_rule prefix)
 multi_byte_is_ascii_compatible prefix h b l = complete_one prefix b b (h b l)
 
 -- by a lead, and a byte that is malformed with it
 
 broken_pair : (prefix : List ℕ → Prefix) (lead b : ℕ) → lead < 256 → b < 256
     → prefix (lead ∷ []) ≡ Incomplete → prefix (lead ∷ b ∷ []) ≡ Malformed 2
-    → ¬ (IsSingleByte (multi_byte_rule prefix))
-unfolding multi_byte_rule
+    → ¬ (IsSingleByte (prefix_rule prefix))
+unfolding prefix_rule
 broken_pair prefix lead b l m e f =
     let head_is : prefix_head prefix 0 (lead ∷ []) (prefix (lead ∷ [])) (b ∷ [])
     ≡ prefix_head prefix 0 (lead ∷ b ∷ []) (Malformed 2) [] =
     ap (λ r. prefix_head prefix 0 (lead ∷ []) r (b ∷ [])) e
     ∙ ap (λ r. prefix_head prefix 0 (lead ∷ b ∷ []) r []) f in
-    more_bytes (multi_byte_rule prefix) lead (b ∷ []) (l, (m, tt))
+    more_bytes (prefix_rule prefix) lead (b ∷ []) (l, (m, tt))
     (λ o. let one_byte = subst (λ (t : Head). length (head_sequence t lead (b ∷ [])).bytes ≡ 1)
     head_is o in
     cc)
 
-pub multi_byte_is_not_single_byte : (prefix : List ℕ → Prefix) → ArePrefixes prefix
-    → ¬ (IsSingleByte (multi_byte_rule prefix))
+pub multi_byte_is_not_single_byte : (prefix : List ℕ → Prefix) → AreMultiBytePrefixes prefix
+    → ¬ (IsSingleByte (prefix_rule prefix))
 multi_byte_is_not_single_byte prefix laws =
-    let lead = laws.lead in
-    let broken = laws.can_be_malformed (lead ∷ []) (omega arith) laws.leads.incomplete in
-    let bounds = laws.malformed (lead ∷ broken.byte ∷ []) broken.len broken.malformed in
-    let other : broken.len ≡ 1 → ⊥ = broken.other in
-    let len_is_two : broken.len ≡ 2 = omega (arith, bounds.0, bounds.1, other) in
-    broken_pair prefix lead broken.byte laws.leads.is_byte broken.is_byte laws.leads.incomplete
-    (broken.malformed ∙ ap Malformed len_is_two)
+    broken_pair prefix laws.lead 0xFF laws.leads.is_byte (omega arith) laws.leads.incomplete
+    laws.leads.malformed
 
 -- ISO-2022-JP, in which an escape sequence is skipped, and 1B by itself is malformed
 

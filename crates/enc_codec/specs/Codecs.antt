@@ -11,7 +11,7 @@ use Rattle.enc_decoder.specs.declared.text_lengths.TextLengths.TheVariants as le
 use Rattle.enc_decoder_utf.specs.Utf8.{utf_8_rule}
 use Rattle.enc_decoder_utf.specs.Utf16.{utf_16_rule}
 use Rattle.enc_decoder_single_byte.specs.OneByte.{one_byte_rule, single_byte_char, x_user_defined_char}
-use Rattle.enc_decoder_multi_byte.specs.MultiByte.{multi_byte_rule}
+use Rattle.enc_decoder.specs.Prefixes.{prefix_rule}
 use Rattle.enc_decoder_multi_byte.specs.Big5.{big5_prefix}
 use Rattle.enc_decoder_multi_byte.specs.EucKr.{euc_kr_prefix}
 use Rattle.enc_decoder_multi_byte.specs.ShiftJis.{shift_jis_prefix}
@@ -25,12 +25,12 @@ codec_rule codec.Utf8 = utf_8_rule
 codec_rule codec.Utf16Be = utf_16_rule true
 codec_rule codec.Utf16Le = utf_16_rule false
 codec_rule (codec.SingleByte index) = one_byte_rule (single_byte_char (single_byte_runs index))
-codec_rule codec.Big5 = multi_byte_rule big5_prefix
-codec_rule codec.EucKr = multi_byte_rule euc_kr_prefix
-codec_rule codec.ShiftJis = multi_byte_rule shift_jis_prefix
-codec_rule codec.EucJp = multi_byte_rule euc_jp_prefix
-codec_rule codec.Gbk = multi_byte_rule gb18030_prefix
-codec_rule codec.Gb18030 = multi_byte_rule gb18030_prefix
+codec_rule codec.Big5 = prefix_rule big5_prefix
+codec_rule codec.EucKr = prefix_rule euc_kr_prefix
+codec_rule codec.ShiftJis = prefix_rule shift_jis_prefix
+codec_rule codec.EucJp = prefix_rule euc_jp_prefix
+codec_rule codec.Gbk = prefix_rule gb18030_prefix
+codec_rule codec.Gb18030 = prefix_rule gb18030_prefix
 codec_rule codec.XUserDefined = one_byte_rule x_user_defined_char
 codec_rule codec.Replacement = replacement_rule
 codec_rule codec.Iso2022Jp = iso_2022_jp_rule

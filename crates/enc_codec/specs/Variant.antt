@@ -5,12 +5,12 @@ use Rattle.enc_codec.specs.declared.variant.VariantDecoder.TheVariants as decode
 use Rattle.enc_decoder.specs.CodecState.{CodecState}
 use Rattle.enc_decoder.specs.declared.text_lengths.TextLengths.{TextLengths}
 use Rattle.enc_decoder.specs.declared.text_lengths.TextLengths.TheVariants as lengths
-use Rattle.enc_decoder_utf.specs.Utf8State.{utf_8_state}
-use Rattle.enc_decoder_utf.specs.Utf16State.{utf_16_state}
+use Rattle.enc_decoder_utf.specs.Utf8.{utf_8_prefix}
+use Rattle.enc_decoder_utf.specs.Utf16.{utf_16_prefix}
 use Rattle.enc_index.specs.Runs.{single_byte_runs}
 use Rattle.enc_decoder_single_byte.specs.OneByteState.{single_byte_state, x_user_defined_state}
 use Rattle.enc_decoder.specs.Pending.{bytes_of_pending}
-use Rattle.enc_decoder_multi_byte.specs.MultiByte.{multi_byte_state}
+use Rattle.enc_decoder.specs.Prefixes.{prefix_state}
 use Rattle.enc_decoder_multi_byte.specs.Big5.{big5_prefix}
 use Rattle.enc_decoder_multi_byte.specs.EucKr.{euc_kr_prefix}
 use Rattle.enc_decoder_multi_byte.specs.ShiftJis.{shift_jis_prefix}
@@ -20,14 +20,15 @@ use Rattle.enc_decoder_single_byte.specs.Replacement.{replacement_state}
 use Rattle.enc_decoder_iso_2022_jp.specs.Iso2022JpState.{iso_2022_jp_state}
 
 abbrev pub variant_decoder_state : VariantDecoder → CodecState
-variant_decoder_state (decoder.Utf8 d) = utf_8_state d
-variant_decoder_state (decoder.Utf16 d) = utf_16_state d
+variant_decoder_state (decoder.Utf8 d) = prefix_state utf_8_prefix (bytes_of_pending d)
+variant_decoder_state (decoder.Utf16 d) =
+    prefix_state (utf_16_prefix d.big_endian) (bytes_of_pending d.pending)
 variant_decoder_state (decoder.SingleByte d) = single_byte_state (single_byte_runs d.index)
-variant_decoder_state (decoder.Big5 d) = multi_byte_state big5_prefix (bytes_of_pending d.pending)
-variant_decoder_state (decoder.EucKr d) = multi_byte_state euc_kr_prefix (bytes_of_pending d.pending)
-variant_decoder_state (decoder.ShiftJis d) = multi_byte_state shift_jis_prefix (bytes_of_pending d.pending)
-variant_decoder_state (decoder.EucJp d) = multi_byte_state euc_jp_prefix (bytes_of_pending d.pending)
-variant_decoder_state (decoder.Gb18030 d) = multi_byte_state gb18030_prefix (bytes_of_pending d.pending)
+variant_decoder_state (decoder.Big5 d) = prefix_state big5_prefix (bytes_of_pending d.pending)
+variant_decoder_state (decoder.EucKr d) = prefix_state euc_kr_prefix (bytes_of_pending d.pending)
+variant_decoder_state (decoder.ShiftJis d) = prefix_state shift_jis_prefix (bytes_of_pending d.pending)
+variant_decoder_state (decoder.EucJp d) = prefix_state euc_jp_prefix (bytes_of_pending d.pending)
+variant_decoder_state (decoder.Gb18030 d) = prefix_state gb18030_prefix (bytes_of_pending d.pending)
 variant_decoder_state (decoder.XUserDefined d) = x_user_defined_state
 variant_decoder_state (decoder.Replacement d) = replacement_state d
 variant_decoder_state (decoder.Iso2022Jp d) = iso_2022_jp_state d

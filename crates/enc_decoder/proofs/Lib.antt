@@ -28,3 +28,8 @@ pub mod OutputStageLemmas
 pub mod TakenRunLemmas
 pub mod EventLeavesLemmas
 pub mod JoinedCallLemmas
+pub mod PrefixLaws
+pub mod PrefixLemmas
+pub mod PrefixRule
+pub mod PrefixDivision
+pub mod PrefixComes

@@ -12,6 +12,7 @@ pub mod Taking
 pub mod Latin1
 pub mod Lengths
 pub mod Need
+pub mod Prefixes
 pub mod Lookahead
 pub mod Replacing
 pub mod Converting

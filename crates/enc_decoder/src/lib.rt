@@ -1,5 +1,6 @@
 //! The contract of every decoder, the loop over the bytes of a call that keeps it for every codec,
-//! and calls over held bytes and the bytes that follow them. No call takes memory.
+//! the decoder of every encoding by prefixes, and calls over held bytes and the bytes that follow
+//! them. No call takes memory.
 #![tactic(auto)]
 
 mod byte_codec;
@@ -9,6 +10,8 @@ mod latin1;
 mod machine;
 mod outcome;
 mod pending;
+mod prefix;
+mod prefix_codec;
 mod raw_decoder;
 mod replaced;
 mod text_lengths;
@@ -20,6 +23,8 @@ pub use latin1::latin1_up_to;
 pub use machine::{report_or_run, run};
 pub use outcome::{DecoderOutcome, DecoderStop, HeldFirstOutcome};
 pub use pending::Pending;
+pub use prefix::Prefix;
+pub use prefix_codec::PrefixCodec;
 pub use raw_decoder::RawDecoder;
 pub use replaced::replace_each;
 pub use text_lengths::TextLengths;

@@ -3,30 +3,22 @@ use Rattle.std.proofs.Common.{◌≡◌, ◌≢◌, ℕ, ◌+◌, ◌<◌, ◌�
 use Rattle.std.proofs.Common.{◌∷◌, ◌++◌, length, refl, ap, ◌∙◌, arith, subst}
 use Rattle.enc_decoder.specs.declared.byte_codec.Text.{Text}
 use Rattle.enc_decoder.specs.declared.byte_codec.Text.TheVariants.{One}
-use Rattle.enc_decoder_multi_byte.specs.declared.multi_byte.Prefix.{Prefix}
-use Rattle.enc_decoder_multi_byte.specs.declared.multi_byte.Prefix.TheVariants.{Complete, Malformed, Incomplete}
+use Rattle.enc_decoder.specs.declared.prefix.Prefix.{Prefix}
+use Rattle.enc_decoder.specs.declared.prefix.Prefix.TheVariants.{Complete, Malformed, Incomplete}
 use Rattle.enc_decoder_multi_byte.specs.DoubleByte.{text_of_char, single_prefix, first_prefix, trail_prefix}
-use Rattle.enc_decoder_multi_byte.specs.DoubleByte.{double_byte_prefix, IsPairText, ArePairs}
-use Rattle.enc_decoder_multi_byte.specs.MultiByte.{CanBeMalformed, AreSettledBelowDigits, ArePrefixes}
-use Rattle.enc_decoder.proofs.RuleLemmas.{one_small}
+use Rattle.enc_decoder_multi_byte.specs.DoubleByte.{double_byte_prefix, ArePairs}
+use Rattle.enc_decoder_multi_byte.specs.MultiByte.{AreMultiBytePrefixes}
+use Rattle.enc_decoder.specs.Prefixes.{IsPrefixText, CanBeOther, AreSettledBelowDigits}
+use Rattle.enc_decoder.proofs.PrefixLaws.{one_is_text, IsLawfulPrefix, prefixes_by, malformed_with_ff}
 use Rattle.enc_decoder.specs.CodecLaw.{text_chars}
 use Rattle.enc_decoder.specs.Need.{IsBmpText}
 use Rattle.enc_decoder.proofs.EnoughLemmas.{basic_by}
 use Rattle.std.proofs.lemmas.Bool.Decides.{nat_tests}
 
-pub one_is_text : (c : ℕ) → IsPairText (One c)
-one_is_text c = record { some = λ no_text. cc; small = one_small c }
-
-pub char_is_text : (c : Option ℕ) (text : Text) → text_of_char c ≡ Some text → IsPairText text
+pub char_is_text : (c : Option ℕ) (text : Text) → text_of_char c ≡ Some text → IsPrefixText text
 char_is_text None text is_char = cc
 char_is_text (Some c) text is_char =
-    subst IsPairText (let text_is : One c ≡ text = cc in text_is) (one_is_text c)
-
--- What the laws say of the kind of a prefix, by its length and that of the longest incomplete one.
-abbrev pub IsLawfulPrefix : ℕ → ℕ → Prefix → Type 0
-IsLawfulPrefix most len (Complete text) = IsPairText text
-IsLawfulPrefix most len (Malformed n) = (0 < n) × (n ≤ len)
-IsLawfulPrefix most len Incomplete = len ≤ most
+    subst IsPrefixText (let text_is : One c ≡ text = cc in text_is) (one_is_text c)
 
 -- the first byte
 pub first_lawful : (most : ℕ) (leads : Bool) (c : Option ℕ) → 1 ≤ most
@@ -63,7 +55,7 @@ ascii_is_basic b c is_char = grind (arith, nat_tests)
 -- a byte after n others
 
 pub trail_lawful : (most len n b : ℕ) (t : Option Text)
-    → ((text : Text) → t ≡ Some text → IsPairText text) → 0 < n → n < len
+    → ((text : Text) → t ≡ Some text → IsPrefixText text) → 0 < n → n < len
     → IsLawfulPrefix most len (trail_prefix n b t)
 trail_lawful most len n b None is_text some within =
     (grind (arith, nat_tests), grind (arith, nat_tests))
@@ -78,45 +70,23 @@ pub trail_can_be_malformed : (n : ℕ) (t : Option Text) → t ≡ None
     → trail_prefix n 0xFF t ≡ Malformed (n + 1)
 trail_can_be_malformed n t no_text = ap (trail_prefix n 0xFF) no_text
 
--- FF makes these bytes malformed
-pub malformed_with_ff : (prefix : List ℕ → Prefix) (front : List ℕ) (len : ℕ)
-    → prefix (front ++ 0xFF ∷ []) ≡ Malformed len → len ≢ length front
-    → CanBeMalformed prefix front
-malformed_with_ff prefix front len malformed other =
-    record { byte = 0xFF; is_byte = omega arith; len = len; malformed = malformed; other = other }
-
--- a prefix that a test shows not to be incomplete
-
-pub unless_lawful : (most len : ℕ) (t : Bool) (r : Prefix) → len ≤ most
-    → IsLawfulPrefix most len r → IsLawfulPrefix most len (cond t Incomplete r)
-unless_lawful most len true r short lawful = short
-unless_lawful most len false r short lawful = lawful
-
-pub unless_finished : (t : Bool) (r : Prefix) → t ≡ false → r ≢ Incomplete
-    → cond t Incomplete r ≢ Incomplete
-unless_finished true r is_false finished incomplete = absurd (let no = is_false in cc)
-unless_finished false r is_false finished incomplete = finished incomplete
-
 -- encodings of one byte and two
 pub double_byte_laws : (is_lead : ℕ → Bool) (single : ℕ → Option ℕ) (pair : ℕ → ℕ → Option Text)
     → ArePairs is_lead single pair
-    → ArePrefixes (double_byte_prefix is_lead single pair)
+    → AreMultiBytePrefixes (double_byte_prefix is_lead single pair)
 double_byte_laws is_lead single pair laws =
     record {
-      nothing = refl;
+      prefixes = prefixes_by (double_byte_prefix is_lead single pair) 1 (omega arith) refl lawful
+          can_be_other;
       ascii = λ b l. first_alone (is_lead b) (single b) b (laws.ascii b l).0 (laws.ascii b l).1;
       lead = laws.lead;
       leads = record {
         is_byte = laws.is_byte;
         incomplete = first_leads (is_lead laws.lead) (single laws.lead) laws.leads;
+        malformed = trail_can_be_malformed 1 (pair laws.lead 0xFF) (laws.no_trail laws.lead);
       };
-      texts = λ front text e. subst (IsLawfulPrefix 1 (length front)) e (lawful front);
       alone = λ b text e.
           first_is_basic (is_lead b) (single b) text (laws.basic b) e;
-      malformed = λ front n e. subst (IsLawfulPrefix 1 (length front)) e (lawful front);
-      short = λ front e.
-          let short = subst (IsLawfulPrefix 1 (length front)) e (lawful front) in omega arith;
-      can_be_malformed = can_be_malformed;
       settled = settled;
     }
   where
@@ -127,14 +97,14 @@ double_byte_laws is_lead single pair laws =
     lawful (a ∷ b ∷ z) =
         trail_lawful 1 _ 1 b (pair a b) (laws.texts a b) (omega arith) (omega arith)
 
-    can_be_malformed : (front : List ℕ) → 0 < length front
+    can_be_other : (front : List ℕ) → 0 < length front
         → double_byte_prefix is_lead single pair front ≡ Incomplete
-        → CanBeMalformed (double_byte_prefix is_lead single pair) front
-    can_be_malformed [] some incomplete = absurd (omega arith)
-    can_be_malformed (a ∷ []) some incomplete =
-        malformed_with_ff _ (a ∷ []) 2
+        → CanBeOther (double_byte_prefix is_lead single pair) front
+    can_be_other [] some incomplete = absurd (omega arith)
+    can_be_other (a ∷ []) some incomplete =
+        malformed_with_ff _ (a ∷ []) 2 (omega arith) (omega arith)
         (trail_can_be_malformed 1 (pair a 0xFF) (laws.no_trail a)) (λ same. omega arith)
-    can_be_malformed (a ∷ b ∷ z) some incomplete =
+    can_be_other (a ∷ b ∷ z) some incomplete =
         absurd (trail_finished 1 b (pair a b) incomplete)
 
     settled : AreSettledBelowDigits (double_byte_prefix is_lead single pair)

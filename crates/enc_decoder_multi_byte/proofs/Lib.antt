@@ -1,7 +1,3 @@
-pub mod MultiByteLemmas
-pub mod MultiByteRule
-pub mod MultiByteDivision
-pub mod MultiByteComes
 pub mod DoubleByteLemmas
 pub mod Laws
 pub mod PlaceNumbers

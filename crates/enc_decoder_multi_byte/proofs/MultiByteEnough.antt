@@ -5,12 +5,13 @@ use Rattle.enc_decoder.specs.declared.text_lengths.TextLengths.TheVariants as le
 use Rattle.enc_decoder.specs.Segmentation.{Head}
 use Rattle.enc_decoder.specs.Need.{AreEnoughForCodec, IsBmpText}
 use Rattle.enc_decoder.proofs.EnoughLemmas.{HasFewUnits, few_by_single_bytes, multi_byte_enough, basic_by}
-use Rattle.enc_decoder_multi_byte.specs.declared.multi_byte.Prefix.{Prefix}
-use Rattle.enc_decoder_multi_byte.specs.declared.multi_byte.Prefix.TheVariants.{Complete, Malformed, Incomplete}
-use Rattle.enc_decoder_multi_byte.specs.MultiByte.{prefix_head, multi_byte_rule, multi_byte_state, ArePrefixes}
-use Rattle.enc_decoder_multi_byte.proofs.MultiByteRule.{multi_byte_is_lawful}
+use Rattle.enc_decoder.specs.declared.prefix.Prefix.{Prefix}
+use Rattle.enc_decoder.specs.declared.prefix.Prefix.TheVariants.{Complete, Malformed, Incomplete}
+use Rattle.enc_decoder.specs.Prefixes.{prefix_head, prefix_rule, prefix_state}
+use Rattle.enc_decoder.proofs.PrefixRule.{prefixes_are_lawful}
+use Rattle.enc_decoder_multi_byte.specs.MultiByte.{AreMultiBytePrefixes}
 
-module _ (prefix : List ℕ → Prefix) (laws : ArePrefixes prefix) where
+module _ (prefix : List ℕ → Prefix) (laws : AreMultiBytePrefixes prefix) where
   -- A sequence of one byte is malformed if that byte is incomplete.
   abbrev IsFew : Head → Type 0
   IsFew h = IsBmpText h.text ⊎ (1 ≤ h.more)
@@ -44,11 +45,12 @@ module _ (prefix : List ℕ → Prefix) (laws : ArePrefixes prefix) where
       none_taken zero l f = omega arith
       none_taken (suc k) l f = omega (arith, f)
 
-  few : HasFewUnits (multi_byte_rule prefix)
-  unfolding multi_byte_rule
-  few = few_by_single_bytes (multi_byte_rule prefix) (multi_byte_is_lawful prefix laws).small_texts
+  few : HasFewUnits (prefix_rule prefix)
+  unfolding prefix_rule
+  few = few_by_single_bytes (prefix_rule prefix)
+      (prefixes_are_lawful prefix laws.prefixes).small_texts
       (λ set b z. first_is_basic set b z (prefix (b ∷ [])) refl)
 
   pub multi_bytes_enough : (pending : List ℕ)
-      → AreEnoughForCodec lengths.MultiByte (multi_byte_state prefix pending)
-  multi_bytes_enough pending = multi_byte_enough (multi_byte_state prefix pending) few
+      → AreEnoughForCodec lengths.MultiByte (prefix_state prefix pending)
+  multi_bytes_enough pending = multi_byte_enough (prefix_state prefix pending) few

@@ -1,4 +1,4 @@
--- Pieces of a multi-byte encoding: a byte that is a character, and two.
+-- Places of the bytes of a multi-byte encoding: of a byte that is a character, and of two.
 use Rattle.std.proofs.Common.{◌≡◌, ◌∙◌, ℕ, ◌<◌, Bool, true, false, cond, nat_le, List, [], ◌∷◌, sym, subst, arith, refl}
 use Rattle.std.proofs.lemmas.Bool.Decides.{nat_tests}
 use Rattle.enc_decoder.specs.declared.byte_codec.Kind.TheVariants.{Valid}
@@ -8,30 +8,18 @@ use Rattle.enc_index.specs.Grid.{Shape, IsPlaceOf}
 use Rattle.enc_index.proofs.GridLemmas.{grid_char-of_ascii}
 use Rattle.enc_index.proofs.PlaceLemmas.{places_of, same_some}
 use Rattle.enc_units.specs.Pairs.{byte_or_pair}
-use Rattle.enc_decoder_multi_byte.specs.declared.multi_byte.Prefix.{Prefix}
-use Rattle.enc_decoder_multi_byte.specs.declared.multi_byte.Prefix.TheVariants.{Complete, Incomplete}
-use Rattle.enc_decoder_multi_byte.specs.MultiByte.{multi_byte_rule, HasAscii, IsCharPair}
-use Rattle.enc_decoder_multi_byte.proofs.MultiByteLemmas.{settled_first, settles_complete}
-
-pub complete_one : (prefix : List ℕ → Prefix) (b c : ℕ) → prefix (b ∷ []) ≡ Complete (One c)
-    → IsWholeChar (multi_byte_rule prefix) 0 (b ∷ []) c
-complete_one prefix b c e y =
-    settled_first prefix 0 [] b y 1 (One c) Valid tt
-    (settles_complete prefix (b ∷ []) (One c) (omega arith) e)
-
-pub complete_two : (prefix : List ℕ → Prefix) (a b c : ℕ) → prefix (a ∷ []) ≡ Incomplete
-    → prefix (a ∷ b ∷ []) ≡ Complete (One c)
-    → IsWholeChar (multi_byte_rule prefix) 0 (a ∷ b ∷ []) c
-complete_two prefix a b c u e y =
-    settled_first prefix 0 (a ∷ []) b y 2 (One c) Valid (u, tt)
-    (settles_complete prefix (a ∷ b ∷ []) (One c) (omega arith) e)
+use Rattle.enc_decoder.specs.declared.prefix.Prefix.{Prefix}
+use Rattle.enc_decoder.specs.declared.prefix.Prefix.TheVariants.{Complete, Incomplete}
+use Rattle.enc_decoder.specs.Prefixes.{prefix_rule, HasAscii}
+use Rattle.enc_decoder.proofs.PrefixLemmas.{complete_one, complete_two}
+use Rattle.enc_decoder_multi_byte.specs.MultiByte.{IsCharPair}
 
 -- the place of a byte: that of the pair that it leads, and its own number if it is ASCII
 module _ (shape : Shape) (prefix : List ℕ → Prefix) (a b pair : ℕ) (ascii : HasAscii prefix)
     (of_pair : IsPlaceOf shape (IsCharPair prefix a b) pair) where
   abbrev IsPlace : Bool → ℕ → Type 0
   IsPlace leads place =
-      IsPlaceOf shape (IsWholeChar (multi_byte_rule prefix) 0 (byte_or_pair leads a b)) place
+      IsPlaceOf shape (IsWholeChar (prefix_rule prefix) 0 (byte_or_pair leads a b)) place
 
   either_place : (t : Bool) → nat_le 0x80 a ≡ t → IsPlace t (cond t pair a)
   either_place true e = places_of of_pair (λ c p. complete_two prefix a b c p.first p.both)
@@ -39,7 +27,7 @@ module _ (shape : Shape) (prefix : List ℕ → Prefix) (a b pair : ℕ) (ascii 
       let low : a < 0x80 = grind (arith, nat_tests, e) in
       record {
         within = omega arith;
-        char = λ c has. subst (IsWholeChar (multi_byte_rule prefix) 0 (a ∷ []))
+        char = λ c has. subst (IsWholeChar (prefix_rule prefix) 0 (a ∷ []))
             (same_some a c (sym (grid_char-of_ascii shape a low) ∙ has))
             (complete_one prefix a a (ascii a low));
       }

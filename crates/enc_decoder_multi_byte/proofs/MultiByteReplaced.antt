@@ -5,9 +5,10 @@ use Rattle.enc_decoder.specs.declared.byte_codec.Text.TheVariants.{One}
 use Rattle.enc_decoder.specs.Taking.{IsReplacedCharAt}
 use Rattle.enc_decoder.proofs.PieceLemmas.{one_of, two_of}
 use Rattle.enc_decoder.proofs.ReplacedCharLemmas.{whole_at, before_byte}
-use Rattle.enc_decoder_multi_byte.specs.declared.multi_byte.Prefix.{Prefix}
-use Rattle.enc_decoder_multi_byte.specs.MultiByte.{multi_byte_rule, ArePrefixes, IsMalformedFront}
-use Rattle.enc_decoder_multi_byte.proofs.MultiByteLemmas.{settles_malformed, settled_first}
+use Rattle.enc_decoder.specs.declared.prefix.Prefix.{Prefix}
+use Rattle.enc_decoder.specs.Prefixes.{prefix_rule, ArePrefixes}
+use Rattle.enc_decoder.proofs.PrefixLemmas.{settles_malformed, settled_first}
+use Rattle.enc_decoder_multi_byte.specs.MultiByte.{IsMalformedFront}
 
 module _ (prefix : List ℕ → Prefix) (laws : ArePrefixes prefix) where
   -- there are one or two of them
@@ -29,7 +30,7 @@ module _ (prefix : List ℕ → Prefix) (laws : ArePrefixes prefix) where
     next = get_or src (at + 1) 0
 
     abbrev IsReplaced : ℕ → Type 0
-    IsReplaced n = IsReplacedCharAt (multi_byte_rule prefix) 0 src at n 0xFFFD
+    IsReplaced n = IsReplacedCharAt (prefix_rule prefix) 0 src at n 0xFFFD
 
     one_malformed : IsMalformedFront prefix lead next 1 → IsReplaced 1
     one_malformed malformed = elim malformed [

@@ -1,13 +1,12 @@
 -- Encodings with characters of one byte and two (Encoding Standard 10 to 13): bytes that stand
 -- alone, and a lead byte with a trail byte.
-use Rattle.std.specs.Prelude.{◌≡◌, ◌≢◌, ℕ, ◌+◌, ◌<◌, Bool, true, false, nat_lt, Option, Some, None, List, []}
+use Rattle.std.specs.Prelude.{◌≡◌, ℕ, ◌+◌, ◌<◌, Bool, true, false, nat_lt, Option, Some, None, List, []}
 use Rattle.std.specs.Prelude.{◌∷◌, if◌then◌else◌}
 use Rattle.enc_decoder.specs.declared.byte_codec.Text.{Text}
 use Rattle.enc_decoder.specs.declared.byte_codec.Text.TheVariants.{One}
-use Rattle.enc_decoder_multi_byte.specs.declared.multi_byte.Prefix.{Prefix}
-use Rattle.enc_decoder_multi_byte.specs.declared.multi_byte.Prefix.TheVariants.{Complete, Malformed, Incomplete}
-use Rattle.enc_decoder.specs.CodecLaw.{text_chars}
-use Rattle.enc_decoder.specs.RuleLaws.{IsSmallText}
+use Rattle.enc_decoder.specs.declared.prefix.Prefix.{Prefix}
+use Rattle.enc_decoder.specs.declared.prefix.Prefix.TheVariants.{Complete, Malformed, Incomplete}
+use Rattle.enc_decoder.specs.Prefixes.{IsPrefixText}
 
 -- the text of a character
 abbrev pub text_of_char : Option ℕ → Option Text
@@ -37,11 +36,6 @@ double_byte_prefix is_lead single pair [] = Incomplete
 double_byte_prefix is_lead single pair (a ∷ []) = first_prefix (is_lead a) (single a)
 double_byte_prefix is_lead single pair (a ∷ b ∷ z) = trail_prefix 1 b (pair a b)
 
--- a text of a pair has a character, and is small
-pub record IsPairText (text : Text) : Type 0 where
-  pub some : text_chars text ≢ []
-  pub small : IsSmallText (text_chars text)
-
 -- The laws of leads, single bytes and pairs: an ASCII byte is no lead, and is the character with
 -- its number; there is a lead; single bytes are characters of the Basic Multilingual Plane, pairs
 -- have small texts, and FF is no trail byte.
@@ -53,7 +47,7 @@ pub record ArePairs
   pub is_byte : lead < 256
   pub leads : is_lead lead ≡ true
   pub basic : (b c : ℕ) → single b ≡ Some c → c < 0x1_0000
-  pub texts : (a b : ℕ) (text : Text) → pair a b ≡ Some text → IsPairText text
+  pub texts : (a b : ℕ) (text : Text) → pair a b ≡ Some text → IsPrefixText text
   pub no_trail : (a : ℕ) → pair a 0xFF ≡ None
 
 -- a lead byte and the byte after it are one character

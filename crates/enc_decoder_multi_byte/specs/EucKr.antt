@@ -2,7 +2,7 @@
 -- decoder").
 use Rattle.std.specs.Prelude.{ℕ, ◌+◌, ◌-◌, ◌*◌, Bool, ◌&&◌, nat_le, nat_lt, Option, Some, None, List, if◌then◌else◌}
 use Rattle.enc_decoder.specs.declared.byte_codec.Text.{Text}
-use Rattle.enc_decoder_multi_byte.specs.declared.multi_byte.Prefix.{Prefix}
+use Rattle.enc_decoder.specs.declared.prefix.Prefix.{Prefix}
 use Rattle.enc_index.specs.Runs.{euc_kr_at}
 use Rattle.enc_decoder_multi_byte.specs.DoubleByte.{text_of_char, double_byte_prefix}
 

@@ -3,7 +3,7 @@
 use Rattle.std.specs.Prelude.{ℕ, ◌+◌, ◌-◌, ◌*◌, Bool, ◌&&◌, ◌||◌, nat_le, nat_lt, Option, Some, None, List}
 use Rattle.std.specs.Prelude.{if◌then◌else◌}
 use Rattle.enc_decoder.specs.declared.byte_codec.Text.{Text}
-use Rattle.enc_decoder_multi_byte.specs.declared.multi_byte.Prefix.{Prefix}
+use Rattle.enc_decoder.specs.declared.prefix.Prefix.{Prefix}
 use Rattle.enc_index.specs.Runs.{jis0208_at}
 use Rattle.enc_decoder_multi_byte.specs.Katakana.{is_katakana_byte, katakana_of_byte}
 use Rattle.enc_decoder_multi_byte.specs.DoubleByte.{text_of_char, double_byte_prefix}

@@ -6,8 +6,8 @@ ghost use Rattle.enc_decoder.specs.declared.byte_codec.Text.{Text};
 ghost use Rattle.enc_decoder_multi_byte.specs.DoubleByte.{text_of_char, first_prefix, trail_prefix};
 ghost use Rattle.enc_decoder_multi_byte.specs.DoubleByte.{IsLeadPair};
 
-use crate::multi_byte::{MultiByte, Prefix};
-use enc_decoder::{Pending, Text};
+use crate::multi_byte::MultiByte;
+use enc_decoder::{Pending, Prefix, Text};
 use enc_index::DoubleByteIndex;
 use std::marker::PhantomData;
 use std::simd::prelude::*;

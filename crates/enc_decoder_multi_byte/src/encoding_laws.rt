@@ -3,7 +3,7 @@
 //! Written by scripts/make-sources from data/templates: change the text there, and not this file.
 
 ghost use Rattle.enc_decoder_multi_byte.specs.DoubleByte.{ArePairs};
-ghost use Rattle.enc_decoder_multi_byte.specs.MultiByte.{ArePrefixes};
+ghost use Rattle.enc_decoder_multi_byte.specs.MultiByte.{AreMultiBytePrefixes};
 
 use crate::big5::Big5;
 use crate::double_byte::{Double, DoubleByte};
@@ -17,7 +17,7 @@ use crate::shift_jis::ShiftJis;
 pub trait PrefixLaws: MultiByte {
     /// The laws of all prefixes. The call does nothing.
     fn laws()
-        ensures { ArePrefixes Self.prefix };
+        ensures { AreMultiBytePrefixes Self.prefix };
 }
 
 /// An encoding of one byte and two whose leads, single bytes and pairs keep their laws.

@@ -8,8 +8,8 @@ ghost use Rattle.enc_decoder_multi_byte.specs.EucJp.{euc_jp_prefix};
 
 use crate::double_byte::{classify_first, classify_trail, text_of};
 use crate::katakana::katakana;
-use crate::multi_byte::{MultiByte, MultiByteDecoder, Prefix};
-use enc_decoder::Pending;
+use crate::multi_byte::{MultiByte, MultiByteDecoder};
+use enc_decoder::{Pending, Prefix};
 use enc_index::indexes::Jis0208Index;
 use enc_index::{DoubleByteIndex, List};
 use enc_units::{numbers_in, places_at};

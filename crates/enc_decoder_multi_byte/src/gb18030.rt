@@ -7,8 +7,8 @@ ghost use Rattle.enc_decoder_multi_byte.specs.Gb18030.{gb18030_pair_char, four_b
 ghost use Rattle.enc_decoder_multi_byte.specs.Gb18030.{ranges_code_point, gb18030_prefix};
 
 use crate::double_byte::{classify_first, classify_trail, text_of};
-use crate::multi_byte::{MultiByte, MultiByteDecoder, Prefix};
-use enc_decoder::{Pending, Text};
+use crate::multi_byte::{MultiByte, MultiByteDecoder};
+use enc_decoder::{Pending, Prefix, Text};
 use enc_index::indexes::Gb18030Index;
 use enc_index::{DoubleByteIndex, List};
 use enc_units::{numbers_in, places_at};

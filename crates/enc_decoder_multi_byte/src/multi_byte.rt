@@ -1,39 +1,21 @@
 //! The decoders of the legacy multi-byte encodings without escape sequences.
 
-ghost use Rattle.std.specs.Prelude.{◌≡◌, ℕ, ◌+◌, ◌<◌, List, [], ◌∷◌, ◌++◌, true, false, Some};
-ghost use Rattle.std.specs.Prelude.{IfSome, IsNone};
+ghost use Rattle.std.specs.Prelude.{◌≡◌, ℕ, List, [], ◌∷◌, ◌++◌, IfSome};
 ghost use Rattle.enc_index.specs.Grid.{ArePairPlaces};
 ghost use Rattle.enc_decoder.specs.Pending.{bytes_of_pending};
-ghost use Rattle.enc_decoder.specs.Taking.{IsWholeChar};
-ghost use Rattle.enc_decoder.specs.CodecLaw.{IsNextOfPending};
-ghost use Rattle.enc_decoder_multi_byte.specs.MultiByte.{multi_byte_state, AreIncomplete};
-ghost use Rattle.enc_decoder_multi_byte.specs.MultiByte.{ArePrefixes, IsCharPair};
-ghost use Rattle.enc_decoder_multi_byte.specs.MultiByte.{multi_byte_rule, IsMalformedFront};
+ghost use Rattle.enc_decoder.specs.Prefixes.{AreIncomplete};
+ghost use Rattle.enc_decoder_multi_byte.specs.MultiByte.{IsCharPair, IsMalformedFront};
 
 use crate::encoding_laws::PrefixLaws;
-use enc_decoder::{
-    ByteCodec, DecoderStop, Emission, ErrorMode, HandlerResult, Kind, Pending, RawDecoder, Text,
-    TextLengths, latin1_up_to, replace_each, run,
-};
+use enc_decoder::{Pending, Prefix, PrefixCodec, Text, TextLengths};
 use enc_index::DoubleByteIndex;
 use enc_units::{Pieces, Places, Units, put_run};
 use std::marker::PhantomData;
 use std::simd::prelude::*;
 
-/// The kind of the first bytes of an input.
-#[derive(Clone, Copy)]
-pub enum Prefix {
-    /// A valid sequence, with its text.
-    Complete(Text),
-    /// Malformed: this many of them from the first on.
-    Malformed(u8),
-    /// Neither: the next byte is needed.
-    Incomplete,
-}
-
 /// A legacy multi-byte encoding without escape sequences, by the kinds of prefixes.
 pub trait MultiByte: Copy {
-    ghost use Rattle.enc_decoder_multi_byte.specs.declared.multi_byte.Prefix.{Prefix};
+    ghost use Rattle.enc_decoder.specs.declared.prefix.Prefix.{Prefix};
 
     // the kind of a prefix, if all shorter ones are incomplete
     ghost prefix: { List ℕ → Prefix };
@@ -95,88 +77,6 @@ impl<E: MultiByte> MultiByteDecoder<E> {
     }
 }
 
-impl<E: PrefixLaws> MultiByteDecoder<E> {
-    /// Returns the sequence that the pending bytes determine by themselves. `None` if all of them
-    /// are an incomplete prefix.
-    #[inline(always)]
-    fn shown_first(self) -> Option<Emission<MultiByteDecoder<E>>>
-        ensures shown { IfSome result (λ shown. IsNextOfPending
-            (λ d. multi_byte_state E.prefix (bytes_of_pending d.pending)) self (Some shown)) }
-        ensures incomplete { IsNone result → AreIncomplete E.prefix []
-            (bytes_of_pending self.pending) }
-        ensures lawful { ArePrefixes E.prefix }
-    {
-        E::laws();
-        let mut front = Pending::Nothing;
-        let mut rest = self.pending;
-        while let Some(byte) = rest.first() {
-            match E::classify(front, byte) {
-                Prefix::Complete(text) => {
-                    let len = front.len() + 1;
-                    return Some(complete(text, len, false, self.pending.skip(len)));
-                }
-                Prefix::Malformed(len) => {
-                    return Some(malformed(len, false, self.pending.skip(len)));
-                }
-                Prefix::Incomplete => {
-                    front = front.with(byte);
-                    rest = rest.skip(1);
-                }
-            }
-        }
-        None
-    }
-}
-
-/// Returns a valid sequence, with or without the byte that determines it.
-fn complete<E: MultiByte>(
-    text: Text,
-    len: u8,
-    takes_byte: bool,
-    rest: Pending,
-) -> Emission<MultiByteDecoder<E>>
-    ensures is { result ≡ record {
-      text = text;
-      kind = Kind.Valid;
-      len = len;
-      takes_byte = takes_byte;
-      next = result.next;
-    } }
-    ensures next { result.next.pending ≡ rest }
-{
-    Emission {
-        text,
-        kind: Kind::Valid,
-        len,
-        takes_byte,
-        next: MultiByteDecoder::holding(rest),
-    }
-}
-
-/// Returns a malformed sequence, with or without the byte that determines it.
-fn malformed<E: MultiByte>(
-    len: u8,
-    takes_byte: bool,
-    rest: Pending,
-) -> Emission<MultiByteDecoder<E>>
-    ensures is { result ≡ record {
-      text = Text.One 0xFFFD;
-      kind = Kind.Malformed;
-      len = len;
-      takes_byte = takes_byte;
-      next = result.next;
-    } }
-    ensures next { result.next.pending ≡ rest }
-{
-    Emission {
-        text: Text::One('\u{FFFD}'),
-        kind: Kind::Malformed,
-        len,
-        takes_byte,
-        next: MultiByteDecoder::holding(rest),
-    }
-}
-
 /// Returns how many of two bytes are a malformed sequence. `None` if they begin with another
 /// sequence, or if a third byte is needed to determine that.
 #[inline(always)]
@@ -195,14 +95,14 @@ fn malformed_len<E: MultiByte>(lead: u8, byte: u8) -> Option<u8>
 }
 
 impl<E: PrefixLaws> Pieces for MultiByteDecoder<E> {
-    ghost use Rattle.enc_decoder_multi_byte.specs.MultiByte.{multi_byte_rule};
+    ghost use Rattle.enc_decoder.specs.Prefixes.{prefix_rule};
     ghost use Rattle.enc_decoder.specs.Taking.{IsWholeChar};
     ghost use Rattle.enc_index.specs.Grid.{IsPlaceOf};
 
-    ghost means = { λ _. IsWholeChar (multi_byte_rule E.prefix) 0 };
+    ghost means = { λ _. IsWholeChar (prefix_rule E.prefix) 0 };
 
     ghost stands_for = { λ _ place bytes. IsPlaceOf E.Index.shape
-        (IsWholeChar (multi_byte_rule E.prefix) 0 bytes) place };
+        (IsWholeChar (prefix_rule E.prefix) 0 bytes) place };
 
     #[inline(always)]
     fn piece(self, src: &[u8], at: usize) -> Option<(char, usize)> {
@@ -253,22 +153,54 @@ impl<E: PrefixLaws> Pieces for MultiByteDecoder<E> {
     }
 }
 
-impl<E: PrefixLaws> ByteCodec for MultiByteDecoder<E> {
-    ghost use Rattle.enc_decoder.specs.Pending.{bytes_of_pending};
-    ghost use Rattle.enc_decoder_multi_byte.specs.MultiByte.{multi_byte_state};
+impl<E: PrefixLaws> PrefixCodec for MultiByteDecoder<E> {
+    ghost use Rattle.std.specs.Prelude.{true};
+    ghost use Rattle.enc_decoder.specs.declared.text_lengths.TextLengths.TheVariants as lengths;
 
-    ghost state = { λ d. multi_byte_state E.prefix (bytes_of_pending d.pending) };
+    ghost prefix = { λ _. E.prefix };
+
+    ghost waiting = { λ d. d.pending };
+
+    ghost leaves_others = { true };
+
+    ghost lengths = { lengths.MultiByte };
 
     #[inline(always)]
-    fn take_run<U: Units>(self, src: &[u8], out: &mut U) -> (MultiByteDecoder<E>, usize) {
-        match self.pending {
-            Pending::Nothing => (self, put_run(out, self, src)),
-            _ => (self, 0),
-        }
+    fn laws(self) {
+        let _pending = self.pending;
+        E::laws();
+    }
+
+    /// In gb18030, that is.
+    #[inline(always)]
+    fn leaves_others() -> bool {
+        true
     }
 
     #[inline(always)]
-    fn replaced_char(self, src: &[u8], at: usize) -> Option<(char, usize)> {
+    fn waiting(self) -> Pending {
+        self.pending
+    }
+
+    #[inline(always)]
+    fn with_waiting(self, pending: Pending) -> MultiByteDecoder<E> {
+        let _before = self;
+        MultiByteDecoder::holding(pending)
+    }
+
+    #[inline(always)]
+    fn classify(self, front: Pending, byte: u8) -> Prefix {
+        let _decoder = self;
+        E::classify(front, byte)
+    }
+
+    #[inline(always)]
+    fn put_front<U: Units>(self, src: &[u8], out: &mut U) -> usize {
+        put_run(out, self, src)
+    }
+
+    #[inline(always)]
+    fn replaced_at(self, src: &[u8], at: usize) -> Option<(char, usize)> {
         E::laws();
         if let Some(found) = self.piece(src, at) {
             return Some(found);
@@ -280,84 +212,21 @@ impl<E: PrefixLaws> ByteCodec for MultiByteDecoder<E> {
         Some(('\u{FFFD}', len as usize))
     }
 
-    fn next_step(self, byte: u8) -> HandlerResult<MultiByteDecoder<E>> {
-        if let Some(shown) = self.shown_first() {
-            return HandlerResult::Emit(shown);
-        }
-        match E::classify(self.pending, byte) {
-            Prefix::Complete(text) => {
-                let len = self.pending.len() + 1;
-                HandlerResult::Emit(complete(text, len, true, Pending::Nothing))
-            }
-            Prefix::Malformed(len) => {
-                let takes_byte = len > self.pending.len();
-                HandlerResult::Emit(malformed(len, takes_byte, self.pending.skip(len)))
-            }
-            Prefix::Incomplete => HandlerResult::Continue(MultiByteDecoder::holding(
-                self.pending.with(byte),
-            )),
-        }
-    }
-
-    fn ready(self) -> Option<Emission<MultiByteDecoder<E>>> {
-        self.shown_first()
-    }
-
-    /// An incomplete prefix is malformed as a whole.
-    fn at_end(self) -> Option<Emission<MultiByteDecoder<E>>> {
-        if let Some(shown) = self.shown_first() {
-            return Some(shown);
-        }
-        match self.pending {
-            Pending::Nothing => None,
-            pending => Some(malformed(pending.len(), false, Pending::Nothing)),
-        }
-    }
-
-    fn held(self) -> u8 {
-        self.pending.len()
-    }
-}
-
-impl<E: PrefixLaws> RawDecoder for MultiByteDecoder<E> {
-    ghost use Rattle.enc_decoder.specs.declared.text_lengths.TextLengths.TheVariants as lengths;
-    ghost use Rattle.enc_decoder.specs.Pending.{bytes_of_pending};
-    ghost use Rattle.enc_decoder_multi_byte.specs.MultiByte.{multi_byte_state};
-
-    ghost state = { λ d. multi_byte_state E.prefix (bytes_of_pending d.pending) };
-
-    ghost formulas = { λ _. lengths.MultiByte };
-
-    fn decode<U: Units>(
-        &mut self,
-        src: &[u8],
-        out: &mut U,
-        last: bool,
-        mode: ErrorMode,
-    ) -> DecoderStop {
-        E::laws();
-        run(self, src, out, last, mode)
-    }
-
-    /// Where runs of random bytes are long, it takes none.
+    /// Where runs of random bytes are long, they are not.
     #[inline(always)]
-    fn replace_run<U: Units>(&self, src: &[u8], out: &mut U) -> usize {
-        if E::few() == 0 {
-            return 0;
-        }
-        replace_each(*self, src, out)
+    fn replaces_each() -> bool {
+        E::few() != 0
     }
 
-    fn held(&self) -> usize {
-        ByteCodec::held(*self) as usize
-    }
-
-    fn latin1_byte_compatible_up_to(&self, bytes: &[u8]) -> Option<usize> {
+    #[inline(always)]
+    fn has_bytes(self) -> bool {
+        let _decoder = self;
         E::laws();
-        latin1_up_to(*self, bytes)
+        true
     }
 
-    fn text_lengths(&self) -> TextLengths {
+    fn lengths(self) -> TextLengths {
+        let _decoder = self;
         E::laws();
         TextLengths::MultiByte
     }

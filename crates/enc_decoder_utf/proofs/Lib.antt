@@ -1,14 +1,11 @@
+pub mod Utf8Prefixes
 pub mod Utf8Lemmas
-pub mod Utf8Lookahead
-pub mod Utf8Undetermined
-pub mod Utf8Comes
 pub mod Utf8Rule
-pub mod Utf8Division
+pub mod Utf8Undetermined
 pub mod Utf8Pieces
+pub mod Utf16Prefixes
 pub mod Utf16Lemmas
 pub mod Utf16Rule
-pub mod Utf16Undetermined
-pub mod Utf16Comes
 pub mod Utf16Pieces
 pub mod PlainLemmas
 pub mod Utf16Enough

@@ -1,5 +1,5 @@
 -- Which lengths are enough for UTF-16.
-use Rattle.std.proofs.Common.{◌≡◌, ℕ, ◌+◌, ◌*◌, ◌/◌, ◌<◌, ◌≤◌, suc, Bool, true, false, Some, List, [], ◌∷◌, ◌++◌}
+use Rattle.std.proofs.Common.{◌≡◌, ℕ, ◌+◌, ◌*◌, ◌/◌, ◌<◌, ◌≤◌, suc, Bool, true, false, cond, Some, List, [], ◌∷◌, ◌++◌}
 use Rattle.std.proofs.Common.{zero, length, drop, refl, ap, arith}
 use Rattle.std.proofs.lemmas.List.{length-append}
 use Rattle.std.specs.Char.{encode_utf8}
@@ -8,7 +8,7 @@ use Rattle.enc_units.specs.Output.{units_of_text}
 use Rattle.enc_units.specs.Checked.{checked_add, checked_mul, checked_half}
 use Rattle.enc_decoder.specs.Segmentation.{Head, Rule, head_sequence, sequences_of, sequences_after}
 use Rattle.enc_decoder.specs.Remainder.{AreBytes}
-use Rattle.enc_decoder.specs.CodecState.{remainder_of}
+use Rattle.enc_decoder.specs.CodecState.{CodecState, remainder_of}
 use Rattle.enc_decoder.specs.Call.{DecodeErrorMode, Replacement, Fatal}
 use Rattle.enc_decoder.specs.RuleLaws.{IsSmallText}
 use Rattle.enc_decoder.specs.declared.pending.Pending.{Pending}
@@ -19,14 +19,28 @@ use Rattle.enc_decoder.specs.Need.{NeedExceeds, AreEnoughForCodec, IsBmpText}
 use Rattle.enc_decoder.proofs.RuleLemmas.{one_small}
 use Rattle.enc_decoder.proofs.NeedLemmas.{units, units-both, units-one}
 use Rattle.enc_decoder.proofs.EnoughLemmas.{plus_is, times_is, half_is, sum_is, needed_less, needs_all, basic_by}
-use Rattle.enc_decoder_utf.specs.Utf16.{code_unit, pair_scalar, utf_16_rule}
-use Rattle.enc_decoder_utf.specs.Utf16State.{Utf16State, begins_with_lead, utf_16_state}
-use Rattle.enc_decoder_utf.proofs.Utf16Lemmas.{lead_range, holds_of_first, has_form}
+use Rattle.enc_decoder.specs.declared.byte_codec.Text.TheVariants.{One as One_char}
+use Rattle.enc_decoder.specs.declared.prefix.Prefix.TheVariants.{Complete, Malformed, Incomplete}
+use Rattle.enc_decoder.specs.Prefixes.{AreIncomplete, prefix_state}
+use Rattle.enc_decoder_utf.specs.Utf16.{code_unit, is_lead_surrogate, is_trail_surrogate, pair_scalar, utf_16_prefix}
+use Rattle.enc_decoder_utf.specs.Utf16.{utf_16_rule}
+use Rattle.enc_decoder_utf.specs.Utf16State.{Utf16State}
+use Rattle.enc_decoder_utf.proofs.Utf16Lemmas.{lead_range, holds_of_first, some_more}
 
 unit_below : (big : Bool) (b c : ℕ) → b < 256 → c < 256 → code_unit big b c < 0x1_0000
 unfolding code_unit
 unit_below true b c first_is_byte second_is_byte = omega (arith, first_is_byte, second_is_byte)
 unit_below false b c first_is_byte second_is_byte = omega (arith, first_is_byte, second_is_byte)
+
+abbrev state : Utf16State → CodecState
+state s = prefix_state (utf_16_prefix s.big_endian) (bytes_of_pending s.pending)
+
+-- incomplete bytes of a whole code unit are a lead surrogate
+begins_pair : (t u : Bool) (c : ℕ)
+    → cond t Incomplete (cond u (Malformed 2) (Complete (One_char c))) ≡ Incomplete → t ≡ true
+begins_pair true u c incomplete = refl
+begins_pair false true c incomplete = absurd (cc)
+begins_pair false false c incomplete = absurd (cc)
 
 -- `each` units for two bytes, and `most` for n of them. A character beyond the Basic Multilingual
 -- Plane has one more, and no more than twice as many.
@@ -134,33 +148,36 @@ module _ (units_of : ℕ → List ℕ) (each : ℕ) (most : ℕ → ℕ) (one : 
   past_two set (suc (suc k)) c d z some are_bytes =
       let rest = bytes_bounded set k z are_bytes in omega (arith, rest)
 
-  pending_bounded : (p : Pending) (z : List ℕ) → begins_with_lead s.big_endian p ≡ true → AreBytes z
+  pending_bounded : (p : Pending) (z : List ℕ)
+      → AreIncomplete (utf_16_prefix s.big_endian) [] (bytes_of_pending p) → AreBytes z
       → after 0 0 (bytes_of_pending p ++ z) ≤ most (length (bytes_of_pending p ++ z)) + 1
   pending_bounded Nothing z leads are_bytes = omega (arith, bytes_bounded 0 0 z are_bytes)
   pending_bounded (One b) z leads are_bytes = first_bounded 0 b z are_bytes
   pending_bounded (Two b c) z leads are_bytes =
       let head = rule 0 b (c ∷ z) in
-      let some_more = (has_form s.big_endian 0 b (c ∷ z)).some_more (omega arith) in
-      let rest = past_one head.set head.more c z some_more are_bytes in
+      let more_bytes = some_more s.big_endian 0 b (c ∷ z) (omega arith) in
+      let rest = past_one head.set head.more c z more_bytes are_bytes in
       omega (arith, with_rest 0 b (c ∷ z) 1 0 (any_is_within b (c ∷ z)) (omega (arith, rest)))
   pending_bounded (Three b c d) z leads are_bytes =
       let head = rule 0 b (c ∷ d ∷ z) in
-      let some_more = (has_form s.big_endian 0 b (c ∷ d ∷ z)).some_more (omega arith) in
-      let lead_in_range = lead_range (code_unit s.big_endian b c) leads in
+      let more_bytes = some_more s.big_endian 0 b (c ∷ d ∷ z) (omega arith) in
+      let lead_in_range = lead_range (code_unit s.big_endian b c)
+      (begins_pair (is_lead_surrogate (code_unit s.big_endian b c))
+      (is_trail_surrogate (code_unit s.big_endian b c)) (code_unit s.big_endian b c) leads.1.0) in
       let is_basic = basic _ (basic_by (code_unit s.big_endian b c) (omega arith)) in
-      let rest = past_two head.set head.more c d z some_more are_bytes in
+      let rest = past_two head.set head.more c d z more_bytes are_bytes in
       omega (arith, with_rest 0 b (c ∷ d ∷ z) 0 1 (omega (arith, is_basic)) rest)
 
-  never : begins_with_lead s.big_endian s.pending ≡ true
+  never : AreIncomplete (utf_16_prefix s.big_endian) [] (bytes_of_pending s.pending)
       → (mode : DecodeErrorMode) (src : List ℕ) (last : Bool) (n : ℕ) → AreBytes src
       → most (length (bytes_of_pending s.pending) + length src) + 1 ≤ n
-      → NeedExceeds units_of mode (remainder_of (utf_16_state s)) src last n → ⊥
+      → NeedExceeds units_of mode (remainder_of (state s)) src last n → ⊥
   never leads mode src last n are_bytes enough exceeds =
       let pending = bytes_of_pending s.pending in
       let bound = pending_bounded s.pending src leads are_bytes in
       let same_most = ap most (length-append pending src) in
       let less = needed_less units_of mode (sequences_of rule 0 (pending ++ src)) in
-      omega (arith, needs_all units_of mode (utf_16_state s) src last n exceeds)
+      omega (arith, needs_all units_of mode (state s) src last n exceeds)
 
 -- the formulas: as many code units as pairs of bytes, rounded up, and one more
 
@@ -186,8 +203,9 @@ once n h q e =
     let sum = plus_is (checked_half (checked_add (checked_add (Some n) h) 1)) 1 q e in
     omega (arith, halved n h sum.0 sum.1)
 
-pub utf_16_enough : (s : Utf16State) → begins_with_lead s.big_endian s.pending ≡ true
-    → AreEnoughForCodec lengths.Utf16 (utf_16_state s)
+pub utf_16_enough : (s : Utf16State)
+    → AreIncomplete (utf_16_prefix s.big_endian) [] (bytes_of_pending s.pending)
+    → AreEnoughForCodec lengths.Utf16 (state s)
 utf_16_enough s lead_first =
     let held = length (bytes_of_pending s.pending) in
     let never_utf_8 =

@@ -1,14 +1,13 @@
 -- The first sequence by UTF-16's rule in each of its forms, and its scalar values. UTF-16 has no
 -- character sets: `set` is handed on.
-use Rattle.std.proofs.Common.{◌≡◌, ℕ, ◌<◌, ◌≤◌, Bool, true, false, List, [], ◌∷◌, length, refl, ◌∙◌, sym, arith}
+use Rattle.std.proofs.Common.{◌≡◌, ℕ, ◌<◌, ◌≤◌, Bool, true, false, List, [], ◌∷◌, length, refl, arith}
 use Rattle.std.proofs.Common.{inl, inr}
-use Rattle.std.proofs.lemmas.Bool.{false≢true}
 use Rattle.std.proofs.lemmas.Bool.Decides.{nat_tests}
 use Rattle.std.specs.Char.{InScalarRange}
-use Rattle.enc_decoder.specs.Sequence.{is_malformed}
 use Rattle.enc_decoder.specs.Segmentation.{Head, character_head, malformed_head}
+use Rattle.enc_decoder.specs.Prefixes.{prefix_head, prefix_rule}
 use Rattle.enc_decoder_utf.specs.Utf16.{code_unit, is_lead_surrogate, is_trail_surrogate, pair_scalar}
-use Rattle.enc_decoder_utf.specs.Utf16.{lead_surrogate_head, utf_16_rule}
+use Rattle.enc_decoder_utf.specs.Utf16.{unit_prefix, utf_16_rule}
 use Rattle.enc_decoder.proofs.FirstSequenceLemmas.{true_or_false}
 
 -- what the tests say
@@ -49,32 +48,39 @@ module _ (big : Bool) where
   -- it, a pair, a lead alone. The number in a head is that of the bytes after the first.
 
   pub one_head : (set b : ℕ) → utf_16_rule big set b [] ≡ malformed_head set 0
-  unfolding utf_16_rule
+  unfolding prefix_rule
   one_head set b = refl
 
   pub character_first : (set b c : ℕ) (z : List ℕ) → Leads false b c → Trails false b c
       → utf_16_rule big set b (c ∷ z) ≡ character_head set 1 (code_unit big b c)
-  unfolding utf_16_rule
-  character_first set b c z no_lead no_trail = rw (no_lead, no_trail) refl
+  unfolding prefix_rule
+  character_first set b c z no_lead no_trail = rw (no_lead, no_trail, prefix_head, unit_prefix) refl
 
   pub trail_first : (set b c : ℕ) (z : List ℕ) → Leads false b c → Trails true b c
       → utf_16_rule big set b (c ∷ z) ≡ malformed_head set 1
-  unfolding utf_16_rule
-  trail_first set b c z no_lead trails = rw (no_lead, trails) refl
+  unfolding prefix_rule
+  trail_first set b c z no_lead trails = rw (no_lead, trails, prefix_head, unit_prefix) refl
 
-  pub lead_first : (set b c : ℕ) (z : List ℕ) → Leads true b c
-      → utf_16_rule big set b (c ∷ z) ≡ lead_surrogate_head big set (code_unit big b c) z
-  unfolding utf_16_rule
-  lead_first set b c z leads = rw leads refl
+  lead_at_end : (set b c : ℕ) → Leads true b c
+      → utf_16_rule big set b (c ∷ []) ≡ malformed_head set 1
+  unfolding prefix_rule
+  lead_at_end set b c leads = rw (leads, prefix_head, unit_prefix) refl
+
+  lead_and_byte : (set b c d : ℕ) → Leads true b c
+      → utf_16_rule big set b (c ∷ d ∷ []) ≡ malformed_head set 2
+  unfolding prefix_rule
+  lead_and_byte set b c d leads = rw (leads, prefix_head, unit_prefix) refl
 
   pub pair_first : (set b c d e : ℕ) (z : List ℕ) → Leads true b c → Trails true d e
       → utf_16_rule big set b (c ∷ d ∷ e ∷ z)
       ≡ character_head set 3 (pair_scalar (code_unit big b c) (code_unit big d e))
-  pair_first set b c d e z leads trails = lead_first set b c (d ∷ e ∷ z) leads ∙ rw trails refl
+  unfolding prefix_rule
+  pair_first set b c d e z leads trails = rw (leads, trails, prefix_head, unit_prefix) refl
 
-  pub lead_alone : (set b c d e : ℕ) (z : List ℕ) → Leads true b c → Trails false d e
+  lead_alone : (set b c d e : ℕ) (z : List ℕ) → Leads true b c → Trails false d e
       → utf_16_rule big set b (c ∷ d ∷ e ∷ z) ≡ malformed_head set 1
-  lead_alone set b c d e z leads other = lead_first set b c (d ∷ e ∷ z) leads ∙ rw other refl
+  unfolding prefix_rule
+  lead_alone set b c d e z leads other = rw (leads, other, prefix_head, unit_prefix) refl
 
 -- A property of the first byte, all bytes after it and the head, if it holds in each form. Then it
 -- holds of what the rule gives (`holds_of_first`).
@@ -98,9 +104,9 @@ module _ {big : Bool} {set : ℕ} {Holds : ℕ → List ℕ → Head → Type 0}
     (each : HoldsOfEachForm big set Holds) where
   lead_holds : (b c : ℕ) (z : List ℕ) → Leads big true b c
       → Holds b (c ∷ z) (utf_16_rule big set b (c ∷ z))
-  lead_holds b c [] leads = rw (lead_first big set b c [] leads) (each.lead_at_end b c leads)
+  lead_holds b c [] leads = rw (lead_at_end big set b c leads) (each.lead_at_end b c leads)
   lead_holds b c (d ∷ []) leads =
-      rw (lead_first big set b c (d ∷ []) leads) (each.lead_and_byte b c d leads)
+      rw (lead_and_byte big set b c d leads) (each.lead_and_byte b c d leads)
   lead_holds b c (d ∷ e ∷ z) leads = elim (true_or_false (is_trail_surrogate (code_unit big d e))) [
     | inl trails ↦
         rw (pair_first big set b c d e z leads trails) (each.pair b c d e z leads trails)
@@ -120,38 +126,15 @@ module _ {big : Bool} {set : ℕ} {Holds : ℕ → List ℕ → Head → Type 0}
     ]
   ]
 
--- what all forms have in common: one character, and not one byte alone if any follow it
-pub record HasForm (z : List ℕ) (h : Head) : Type 0 where
-  pub character : ℕ
-  pub text : h.text ≡ character ∷ []
-  pub replacement : is_malformed h.kind ≡ true → character ≡ 0xFFFD
-  pub some_more : 0 < length z → 0 < h.more
-
-valid_form : (z : List ℕ) (h : Head) {c : ℕ} → h.text ≡ c ∷ [] → is_malformed h.kind ≡ false
-    → (0 < length z → 0 < h.more) → HasForm z h
-valid_form z h text valid some_more = record {
-  character = _;
-  text = text;
-  replacement = λ malformed. absurd (false≢true (sym valid ∙ malformed));
-  some_more = some_more;
-}
-
-malformed_form : (z : List ℕ) (h : Head) → h.text ≡ 0xFFFD ∷ [] → (0 < length z → 0 < h.more)
-    → HasForm z h
-malformed_form z h text some_more = record {
-  character = 0xFFFD;
-  text = text;
-  replacement = λ _. refl;
-  some_more = some_more;
-}
-
-pub has_form : (big : Bool) (set b : ℕ) (z : List ℕ) → HasForm z (utf_16_rule big set b z)
-has_form big set = holds_of_first {Holds = λ _ z h. HasForm z h} (record {
-  one_byte = λ b. malformed_form [] _ refl (λ some. some);
-  character = λ b c z _ _. valid_form (c ∷ z) _ refl refl (λ _. omega arith);
-  trail = λ b c z _ _. malformed_form (c ∷ z) _ refl (λ _. omega arith);
-  lead_at_end = λ b c _. malformed_form (c ∷ []) _ refl (λ _. omega arith);
-  lead_and_byte = λ b c d _. malformed_form (c ∷ d ∷ []) _ refl (λ _. omega arith);
-  pair = λ b c d e z _ _. valid_form (c ∷ d ∷ e ∷ z) _ refl refl (λ _. omega arith);
-  lead_alone = λ b c d e z _ _. malformed_form (c ∷ d ∷ e ∷ z) _ refl (λ _. omega arith);
+-- a sequence is not one byte alone if any follow it
+pub some_more : (big : Bool) (set b : ℕ) (z : List ℕ) → 0 < length z
+    → 0 < (utf_16_rule big set b z).more
+some_more big set = holds_of_first {Holds = λ _ z h. 0 < length z → 0 < h.more} (record {
+  one_byte = λ b some. some;
+  character = λ b c z _ _ _. omega arith;
+  trail = λ b c z _ _ _. omega arith;
+  lead_at_end = λ b c _ _. omega arith;
+  lead_and_byte = λ b c d _ _. omega arith;
+  pair = λ b c d e z _ _ _. omega arith;
+  lead_alone = λ b c d e z _ _ _. omega arith;
 })

@@ -141,7 +141,7 @@ pub well_formed_tail_len-end : (a : ℕ) → well_formed_tail_len a [] ≡ 0
 well_formed_tail_len-end a =
     elim (sequence_len a - 1) as (λ n. continuing_len a n [] ≡ 0) [ zero ↦ refl | suc n ↦ refl ]
 
-well_formed_tail_len-alone : (b : ℕ) (z : List ℕ) → sequence_len b ≤ 1
+pub well_formed_tail_len-alone : (b : ℕ) (z : List ℕ) → sequence_len b ≤ 1
     → well_formed_tail_len b z ≡ 0
 well_formed_tail_len-alone b z at_most_one =
     let none_more : sequence_len b - 1 ≡ 0 = omega arith in rw none_more refl
@@ -162,6 +162,13 @@ continuations-none : (n c : ℕ) (z : List ℕ) → is_continuation c ≡ false
     → continuations n (c ∷ z) ≡ 0
 continuations-none zero c z ends = refl
 continuations-none (suc n) c z ends = rw ends refl
+
+pub well_formed_tail_len-no_third : (a b c : ℕ) (z : List ℕ) → 3 ≤ sequence_len a
+    → is_second_byte a b ≡ true → is_continuation c ≡ false
+    → well_formed_tail_len a (b ∷ c ∷ z) ≡ 1
+well_formed_tail_len-no_third a b c z leads follows ends =
+    well_formed_tail_len-second a b (c ∷ z) (omega arith) follows
+    ∙ ap suc (continuations-none (sequence_len a - 2) c z ends)
 
 pub continuations-end : (n : ℕ) → continuations n [] ≡ 0
 continuations-end zero = refl
@@ -225,9 +232,7 @@ module _ (a b c : ℕ) (z : List ℕ) where
   pub two_malformed : 3 ≤ sequence_len a → is_second_byte a b ≡ true → is_continuation c ≡ false
       → IsMalformedBefore (c ∷ z) (a ∷ b ∷ [])
   two_malformed leads follows ends =
-      malformed_first a (b ∷ c ∷ z) 1
-      (well_formed_tail_len-second a b (c ∷ z) (omega arith) follows
-      ∙ ap suc (continuations-none (sequence_len a - 2) c z ends))
+      malformed_first a (b ∷ c ∷ z) 1 (well_formed_tail_len-no_third a b c z leads follows ends)
       (grind (arith, nat_tests))
 
   pub three_valid : sequence_len a ≡ 3 → is_second_byte a b ≡ true → is_continuation c ≡ true
@@ -242,7 +247,7 @@ module _ (a b c : ℕ) (z : List ℕ) where
 
 module _ (a b c d : ℕ) (z : List ℕ) (four_bytes : sequence_len a ≡ 4)
     (follows : is_second_byte a b ≡ true) (continues : is_continuation c ≡ true) where
-  three_reached : well_formed_tail_len a (b ∷ c ∷ d ∷ z) ≡ suc (suc (continuations 1 (d ∷ z)))
+  pub three_reached : well_formed_tail_len a (b ∷ c ∷ d ∷ z) ≡ suc (suc (continuations 1 (d ∷ z)))
   three_reached = well_formed_tail_len-second a b (c ∷ d ∷ z) (omega arith) follows
       ∙ rw (four_bytes, continues) refl
 

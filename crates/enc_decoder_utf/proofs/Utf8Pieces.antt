@@ -1,5 +1,6 @@
 -- The characters of well-formed UTF-8 are pieces.
 use Rattle.std.proofs.Common.{◌≡◌, ℕ, ◌+◌, ◌/◌, ◌<◌, ◌≤◌, ◌⊎◌, true, false, List, [], ◌∷◌, arith, inl, inr, nat_le}
+use Rattle.std.proofs.Common.{subst, sym}
 use Rattle.std.proofs.Math.Utf8.{next, scalar_cases}
 use Rattle.std.proofs.str.Laws as laws
 use Rattle.std.proofs.lemmas.Bool.{cases_lt}
@@ -7,6 +8,9 @@ use Rattle.std.proofs.lemmas.Bool.Decides.{nat_tests}
 use Rattle.enc_units.specs.Pieces.{IsUtf8Char}
 use Rattle.enc_decoder_utf.specs.Utf8.{sequence_len, is_second_byte, is_continuation, scalar_of, utf_8_rule}
 use Rattle.enc_decoder.specs.Taking.{IsWholeChar}
+use Rattle.enc_decoder.specs.Prefixes.{prefix_rule}
+use Rattle.enc_decoder_utf.specs.Utf8.{utf_8_prefix}
+use Rattle.enc_decoder_utf.proofs.Utf8Rule.{utf_8_by_prefixes}
 use Rattle.enc_decoder_utf.proofs.Utf8Lemmas.{len_by_range, one_valid, two_valid, three_valid, four_valid}
 
 pub valued : (bytes : List ℕ) (c : ℕ) → c ≡ scalar_of bytes
@@ -90,3 +94,9 @@ utf8_piece bytes c encodes =
         ]
       ]
     ]
+
+-- by the prefixes
+pub utf8_prefix_piece : (bytes : List ℕ) (c : ℕ) → IsUtf8Char bytes c
+    → IsWholeChar (prefix_rule utf_8_prefix) 0 bytes c
+utf8_prefix_piece bytes c encodes =
+    subst (λ rule. IsWholeChar rule 0 bytes c) (sym utf_8_by_prefixes) (utf8_piece bytes c encodes)

@@ -1,4 +1,3 @@
 pub mod Utf8
-pub mod Utf8State
 pub mod Utf16
 pub mod Utf16State

@@ -1,7 +1,11 @@
 -- The rule of UTF-16, big-endian or little-endian (Encoding Standard 14.2, "shared UTF-16
 -- decoder").
 use Rattle.std.specs.Prelude.{ℕ, ◌+◌, ◌-◌, ◌*◌, Bool, true, false, ◌&&◌, nat_le, List, [], ◌∷◌, if◌then◌else◌}
-use Rattle.enc_decoder.specs.Segmentation.{Head, Rule, character_head, malformed_head}
+use Rattle.enc_decoder.specs.declared.byte_codec.Text.TheVariants.{One}
+use Rattle.enc_decoder.specs.declared.prefix.Prefix.{Prefix}
+use Rattle.enc_decoder.specs.declared.prefix.Prefix.TheVariants.{Complete, Malformed, Incomplete}
+use Rattle.enc_decoder.specs.Segmentation.{Rule}
+use Rattle.enc_decoder.specs.Prefixes.{prefix_rule}
 
 -- the code unit of two bytes, big-endian or little-endian
 unfoldable pub code_unit : Bool → ℕ → ℕ → ℕ
@@ -19,25 +23,25 @@ is_trail_surrogate u = nat_le 0xDC00 u && nat_le u 0xDFFF
 unfoldable pub pair_scalar : ℕ → ℕ → ℕ
 pair_scalar lead trail = 0x10000 + (lead - 0xD800) * 0x400 + (trail - 0xDC00)
 
--- a code unit that begins no pair
-abbrev pub unit_head : ℕ → ℕ → Head
-unit_head set u = if is_trail_surrogate u then malformed_head set 1 else character_head set 1 u
+-- the two bytes of a code unit: they begin a pair, or are a character or an unpaired surrogate
+abbrev pub unit_prefix : ℕ → Prefix
+unit_prefix u =
+    if is_lead_surrogate u then Incomplete
+    else if is_trail_surrogate u then Malformed 2 else Complete (One u)
 
--- A lead surrogate, by the bytes after it: it begins a pair, or is malformed. A following code unit
--- that is no trail surrogate is restored. A single byte at the end of the input is malformed with
--- it.
-abbrev pub lead_surrogate_head : Bool → ℕ → ℕ → List ℕ → Head
-lead_surrogate_head big set lead [] = malformed_head set 1
-lead_surrogate_head big set lead (d ∷ []) = malformed_head set 2
-lead_surrogate_head big set lead (d ∷ e ∷ z) =
-    if is_trail_surrogate (code_unit big d e)
-    then character_head set 3 (pair_scalar lead (code_unit big d e))
-    else malformed_head set 1
+-- The kind of a prefix, big-endian or little-endian. A code unit after a lead surrogate that is no
+-- trail surrogate is restored.
+abbrev pub utf_16_prefix : Bool → List ℕ → Prefix
+utf_16_prefix big [] = Incomplete
+utf_16_prefix big (a ∷ []) = Incomplete
+utf_16_prefix big (a ∷ b ∷ []) = unit_prefix (code_unit big a b)
+utf_16_prefix big (a ∷ b ∷ c ∷ []) = Incomplete
+utf_16_prefix big (a ∷ b ∷ c ∷ d ∷ z) =
+    if is_trail_surrogate (code_unit big c d)
+    then Complete (One (pair_scalar (code_unit big a b) (code_unit big c d)))
+    else Malformed 2
 
 -- The first sequence, big-endian or little-endian. A single byte at the end of the input is
--- malformed.
-unfoldable pub utf_16_rule : Bool → Rule
-utf_16_rule big set b [] = malformed_head set 0
-utf_16_rule big set b (c ∷ z) =
-    if is_lead_surrogate (code_unit big b c) then lead_surrogate_head big set (code_unit big b c) z
-    else unit_head set (code_unit big b c)
+-- malformed, and so is a lead surrogate there, with the byte after it if there is one.
+abbrev pub utf_16_rule : Bool → Rule
+utf_16_rule big = prefix_rule (utf_16_prefix big)

@@ -5,6 +5,10 @@ use Rattle.std.specs.Prelude.{ℕ, ◌+◌, ◌-◌, ◌*◌, Bool, false, ◌&&
 use Rattle.std.specs.Prelude.{if◌then◌else◌}
 use Rattle.std.proofs.Common.{zero, suc}
 use Rattle.enc_decoder.specs.declared.byte_codec.Kind.TheVariants.{Valid, Malformed}
+use Rattle.enc_decoder.specs.declared.byte_codec.Text.TheVariants.{One}
+use Rattle.enc_decoder.specs.declared.prefix.Prefix.{Prefix}
+use Rattle.enc_decoder.specs.declared.prefix.Prefix.TheVariants.{Complete, Incomplete}
+use Rattle.enc_decoder.specs.declared.prefix.Prefix.TheVariants as kind
 use Rattle.enc_decoder.specs.Segmentation.{Rule}
 
 -- the length of the well-formed sequences that begin with a byte, or 0 if none does
@@ -71,3 +75,23 @@ utf_8_rule set b z =
       set = set;
     }
     else record { more = well_formed_tail_len b z; text = 0xFFFD ∷ []; kind = Malformed; set = set }
+
+-- The same by the kinds of prefixes (`utf_8_by_prefixes`).
+
+-- bytes that all continue the first, n of them with it: a sequence of `len` bytes, or its start
+abbrev pub begun_prefix : ℕ → ℕ → List ℕ → Prefix
+begun_prefix len n bytes = if len == n then Complete (One (scalar_of bytes)) else Incomplete
+
+abbrev pub first_byte_prefix : ℕ → ℕ → Prefix
+first_byte_prefix len a = if len == 0 then kind.Malformed 1 else begun_prefix len 1 (a ∷ [])
+
+-- the kind of a prefix
+abbrev pub utf_8_prefix : List ℕ → Prefix
+utf_8_prefix [] = Incomplete
+utf_8_prefix (a ∷ []) = first_byte_prefix (sequence_len a) a
+utf_8_prefix (a ∷ b ∷ []) =
+    if is_second_byte a b then begun_prefix (sequence_len a) 2 (a ∷ b ∷ []) else kind.Malformed 1
+utf_8_prefix (a ∷ b ∷ c ∷ []) =
+    if is_continuation c then begun_prefix (sequence_len a) 3 (a ∷ b ∷ c ∷ []) else kind.Malformed 2
+utf_8_prefix (a ∷ b ∷ c ∷ d ∷ z) =
+    if is_continuation d then Complete (One (scalar_of (a ∷ b ∷ c ∷ d ∷ []))) else kind.Malformed 3

@@ -1,16 +1,14 @@
 //! The UTF-16 codecs (Encoding Standard 14.2 to 14.4).
 
-ghost use Rattle.std.specs.Prelude.{◌≡◌, true, false, IsTrue};
+ghost use Rattle.std.specs.Prelude.{◌≡◌, [], ◌∷◌, true, false};
 ghost use Rattle.enc_decoder_utf.specs.Utf16.{code_unit as unit_of};
 ghost use Rattle.enc_decoder_utf.specs.Utf16.{is_lead_surrogate as begins_pair};
 ghost use Rattle.enc_decoder_utf.specs.Utf16.{is_trail_surrogate as ends_pair, pair_scalar};
-ghost use Rattle.enc_decoder_utf.specs.Utf16State.{with_pending, begins_with_lead, utf_16_state};
-ghost use Rattle.enc_decoder.specs.CodecLaw.{HandlesByte};
+ghost use Rattle.enc_decoder_utf.specs.Utf16.{utf_16_prefix};
+ghost use Rattle.enc_decoder_utf.specs.Utf16State.{with_pending};
+ghost use Rattle.enc_decoder.specs.declared.prefix.Prefix.TheVariants.{Incomplete};
 
-use enc_decoder::{
-    ByteCodec, DecoderStop, Emission, ErrorMode, HandlerResult, Kind, Pending, RawDecoder, Text,
-    TextLengths, run,
-};
+use enc_decoder::{Pending, Prefix, PrefixCodec, Text, TextLengths};
 use enc_units::{Pieces, Units, put_run};
 use std::marker::Model;
 
@@ -24,14 +22,18 @@ pub struct Utf16Decoder {
 }
 
 impl Model for Utf16Decoder {
-    ghost use Rattle.std.specs.Prelude.{IsTrue};
-    ghost use Rattle.enc_decoder_utf.specs.Utf16State.{Utf16State, begins_with_lead};
+    ghost use Rattle.std.specs.Prelude.{false};
+    ghost use Rattle.enc_decoder.specs.Pending.{bytes_of_pending};
+    ghost use Rattle.enc_decoder.specs.Prefixes.{AreKept};
+    ghost use Rattle.enc_decoder_utf.specs.Utf16.{utf_16_prefix};
+    ghost use Rattle.enc_decoder_utf.specs.Utf16State.{Utf16State};
 
     ghost Value = { Utf16State };
 
     ghost view = { λ d. record { big_endian = d.big_endian; pending = d.pending } };
 
-    ghost invariant = { λ d. IsTrue (begins_with_lead d.big_endian d.pending) };
+    ghost invariant = { λ d. AreKept false (utf_16_prefix d.big_endian)
+        (bytes_of_pending d.pending) };
 
     ghost inverse = { λ s. record { big_endian = s.big_endian; pending = s.pending } };
 }
@@ -96,102 +98,33 @@ fn pair_char(lead: u16, trail: u16) -> char
     char::from_u32(scalar).unwrap()
 }
 
-/// A byte completes a character.
-fn valid(big_endian: bool, character: char, len: u8) -> HandlerResult<Utf16Decoder>
-    ensures { result ≡ HandlerResult.Emit (record {
-      text = Text.One character;
-      kind = Kind.Valid;
-      len = len;
-      takes_byte = true;
-      next = with_pending big_endian Pending.Nothing;
-    }) }
-{
-    HandlerResult::Emit(Emission {
-        text: Text::One(character),
-        kind: Kind::Valid,
-        len,
-        takes_byte: true,
-        next: Utf16Decoder::new(big_endian),
-    })
-}
-
-/// Returns a malformed sequence, with or without the byte that determines it.
-fn malformed(len: u8, takes_byte: bool, next: Utf16Decoder) -> Emission<Utf16Decoder>
-    ensures { result ≡ record {
-      text = Text.One 0xFFFD;
-      kind = Kind.Malformed;
-      len = len;
-      takes_byte = takes_byte;
-      next = next;
-    } }
-{
-    Emission {
-        text: Text::One('\u{FFFD}'),
-        kind: Kind::Malformed,
-        len,
-        takes_byte,
-        next,
-    }
-}
-
-fn step_first(big_endian: bool, byte: u8) -> HandlerResult<Utf16Decoder>
-    ensures { HandlesByte utf_16_state (with_pending big_endian Pending.Nothing) byte result }
-{
-    HandlerResult::Continue(Utf16Decoder {
-        big_endian,
-        pending: Pending::One(byte),
-    })
-}
-
-fn step_second(big_endian: bool, first: u8, byte: u8) -> HandlerResult<Utf16Decoder>
-    ensures { HandlesByte utf_16_state (with_pending big_endian (Pending.One first)) byte result }
+/// Classifies the second byte of a code unit.
+fn read_second(big_endian: bool, first: u8, byte: u8) -> Prefix
+    ensures { result ≡ utf_16_prefix big_endian (first ∷ byte ∷ []) }
 {
     let unit = code_unit(big_endian, first, byte);
     if is_lead_surrogate(unit) {
-        HandlerResult::Continue(Utf16Decoder {
-            big_endian,
-            pending: Pending::Two(first, byte),
-        })
+        Prefix::Incomplete
     } else if is_trail_surrogate(unit) {
-        HandlerResult::Emit(malformed(2, true, Utf16Decoder::new(big_endian)))
+        Prefix::Malformed(2)
     } else {
-        valid(big_endian, unit_char(unit), 2)
+        Prefix::Complete(Text::One(unit_char(unit)))
     }
 }
 
-fn step_third(big_endian: bool, first: u8, second: u8, byte: u8) -> HandlerResult<Utf16Decoder>
-    requires lead { IsTrue (begins_with_lead big_endian (Pending.Two first second)) }
-    ensures { HandlesByte utf_16_state (with_pending big_endian (Pending.Two first second)) byte
-        result }
-{
-    HandlerResult::Continue(Utf16Decoder {
-        big_endian,
-        pending: Pending::Three(first, second, byte),
-    })
-}
-
-/// If the second code unit ends no pair, it is restored.
-fn step_fourth(
-    big_endian: bool,
-    first: u8,
-    second: u8,
-    third: u8,
-    byte: u8,
-) -> HandlerResult<Utf16Decoder>
-    requires lead { IsTrue (begins_with_lead big_endian (Pending.Three first second third)) }
-    ensures { HandlesByte utf_16_state (with_pending big_endian (Pending.Three first second third))
-        byte result }
+/// Classifies the second byte of the code unit after a lead surrogate.
+///
+/// If it ends no pair, it is restored.
+fn read_fourth(big_endian: bool, first: u8, second: u8, third: u8, byte: u8) -> Prefix
+    requires lead { utf_16_prefix big_endian (first ∷ second ∷ []) ≡ Incomplete }
+    ensures { result ≡ utf_16_prefix big_endian (first ∷ second ∷ third ∷ byte ∷ []) }
 {
     let lead = code_unit(big_endian, first, second);
     let unit = code_unit(big_endian, third, byte);
     if is_trail_surrogate(unit) {
-        valid(big_endian, pair_char(lead, unit), 4)
+        Prefix::Complete(Text::One(pair_char(lead, unit)))
     } else {
-        let next = Utf16Decoder {
-            big_endian,
-            pending: Pending::One(third),
-        };
-        HandlerResult::Emit(malformed(2, false, next))
+        Prefix::Malformed(2)
     }
 }
 
@@ -236,77 +169,73 @@ impl Pieces for Utf16Decoder {
     }
 }
 
-impl ByteCodec for Utf16Decoder {
-    ghost use Rattle.enc_decoder_utf.specs.Utf16State.{utf_16_state};
+impl PrefixCodec for Utf16Decoder {
+    ghost use Rattle.std.specs.Prelude.{false};
+    ghost use Rattle.enc_decoder.specs.declared.text_lengths.TextLengths.TheVariants as lengths;
+    ghost use Rattle.enc_decoder_utf.specs.Utf16.{utf_16_prefix};
 
-    ghost state = { utf_16_state };
+    ghost prefix = { λ d. utf_16_prefix d.big_endian };
+
+    ghost waiting = { λ d. d.pending };
+
+    ghost leaves_others = { false };
+
+    ghost lengths = { lengths.Utf16 };
 
     #[inline(always)]
-    fn take_run<U: Units>(self, src: &[u8], out: &mut U) -> (Utf16Decoder, usize) {
-        match self.pending {
-            Pending::Nothing => (self, put_run(out, self, src)),
-            _ => (self, 0),
+    fn laws(self) {
+        let _pending = self.pending;
+    }
+
+    #[inline(always)]
+    fn leaves_others() -> bool {
+        false
+    }
+
+    #[inline(always)]
+    fn waiting(self) -> Pending {
+        self.pending
+    }
+
+    #[inline(always)]
+    fn with_waiting(self, pending: Pending) -> Utf16Decoder {
+        Utf16Decoder {
+            big_endian: self.big_endian,
+            pending,
         }
     }
 
-    fn next_step(self, byte: u8) -> HandlerResult<Utf16Decoder> {
-        match self.pending {
-            Pending::Nothing => step_first(self.big_endian, byte),
-            Pending::One(first) => step_second(self.big_endian, first, byte),
-            Pending::Two(first, second) => step_third(self.big_endian, first, second, byte),
+    #[inline(always)]
+    fn classify(self, front: Pending, byte: u8) -> Prefix {
+        match front {
+            Pending::Nothing => Prefix::Incomplete,
+            Pending::One(first) => read_second(self.big_endian, first, byte),
+            Pending::Two(_, _) => Prefix::Incomplete,
             Pending::Three(first, second, third) => {
-                step_fourth(self.big_endian, first, second, third, byte)
+                read_fourth(self.big_endian, first, second, third, byte)
             }
         }
     }
 
-    fn ready(self) -> Option<Emission<Utf16Decoder>> {
+    #[inline(always)]
+    fn put_front<U: Units>(self, src: &[u8], out: &mut U) -> usize {
+        put_run(out, self, src)
+    }
+
+    #[inline(always)]
+    fn replaces_each() -> bool {
+        false
+    }
+
+    #[inline(always)]
+    fn has_bytes(self) -> bool {
+        let _decoder = self;
+        false
+    }
+
+    /// They are enough, since a whole pending code unit is a lead surrogate.
+    fn lengths(self) -> TextLengths {
         let _pending = self.pending;
-        None
-    }
-
-    fn at_end(self) -> Option<Emission<Utf16Decoder>> {
-        match self.pending {
-            Pending::Nothing => None,
-            _ => Some(malformed(self.held(), false, Utf16Decoder::new(self.big_endian))),
-        }
-    }
-
-    fn held(self) -> u8 {
-        self.pending.len()
-    }
-}
-
-impl RawDecoder for Utf16Decoder {
-    ghost use Rattle.enc_decoder.specs.declared.text_lengths.TextLengths.TheVariants as lengths;
-    ghost use Rattle.enc_decoder_utf.specs.Utf16State.{utf_16_state};
-
-    ghost state = { utf_16_state };
-
-    ghost formulas = { λ _. lengths.Utf16 };
-
-    fn decode<U: Units>(
-        &mut self,
-        src: &[u8],
-        out: &mut U,
-        last: bool,
-        mode: ErrorMode,
-    ) -> DecoderStop {
-        run(self, src, out, last, mode)
-    }
-
-    fn held(&self) -> usize {
-        ByteCodec::held(*self) as usize
-    }
-
-    fn latin1_byte_compatible_up_to(&self, bytes: &[u8]) -> Option<usize> {
-        let _bytes = bytes;
-        None
-    }
-
-    fn text_lengths(&self) -> TextLengths {
-        // The formulas are enough, since a whole pending code unit is a lead surrogate.
-        let _ = &self.pending;
         TextLengths::Utf16
     }
 }

@@ -1,16 +1,13 @@
 //! The UTF-8 codec (Encoding Standard 8.1.1).
 
-ghost use Rattle.std.specs.Prelude.{◌≡◌, ◌<◌, [], ◌∷◌, true, false, nat_le, IsTrue};
+ghost use Rattle.std.specs.Prelude.{◌≡◌, [], ◌∷◌, true, nat_le};
 ghost use Rattle.enc_decoder_utf.specs.Utf8.{sequence_len as len_by_lead};
 ghost use Rattle.enc_decoder_utf.specs.Utf8.{is_second_byte as second_follows};
 ghost use Rattle.enc_decoder_utf.specs.Utf8.{is_continuation as continues, scalar_of};
-ghost use Rattle.enc_decoder_utf.specs.Utf8State.{is_incomplete, utf_8_state};
-ghost use Rattle.enc_decoder.specs.CodecLaw.{HandlesByte};
+ghost use Rattle.enc_decoder_utf.specs.Utf8.{utf_8_prefix};
+ghost use Rattle.enc_decoder.specs.declared.prefix.Prefix.TheVariants.{Incomplete};
 
-use enc_decoder::{
-    ByteCodec, DecoderStop, Emission, ErrorMode, HandlerResult, Kind, Pending, RawDecoder, Text,
-    TextLengths, latin1_up_to, replace_each, run,
-};
+use enc_decoder::{Pending, Prefix, PrefixCodec, Text, TextLengths};
 use enc_units::Units;
 use std::marker::Model;
 
@@ -23,15 +20,17 @@ pub struct Utf8Decoder {
 }
 
 impl Model for Utf8Decoder {
-    ghost use Rattle.std.specs.Prelude.{IsTrue};
+    ghost use Rattle.std.specs.Prelude.{false};
     ghost use Rattle.enc_decoder.specs.declared.pending.Pending.{Pending};
-    ghost use Rattle.enc_decoder_utf.specs.Utf8State.{is_incomplete};
+    ghost use Rattle.enc_decoder.specs.Pending.{bytes_of_pending};
+    ghost use Rattle.enc_decoder.specs.Prefixes.{AreKept};
+    ghost use Rattle.enc_decoder_utf.specs.Utf8.{utf_8_prefix};
 
     ghost Value = { Pending };
 
     ghost view = { λ d. d.pending };
 
-    ghost invariant = { λ d. IsTrue (is_incomplete d.pending) };
+    ghost invariant = { λ d. AreKept false utf_8_prefix (bytes_of_pending d.pending) };
 
     ghost inverse = { λ p. record { pending = p } };
 }
@@ -132,112 +131,113 @@ pub fn four_byte_char(first: u8, second: u8, third: u8, fourth: u8) -> char
     char::from_u32(scalar).unwrap()
 }
 
-/// A byte completes a character.
-fn valid(character: char, len: u8) -> HandlerResult<Utf8Decoder>
-    ensures { result ≡ HandlerResult.Emit (record {
-      text = Text.One character;
-      kind = Kind.Valid;
-      len = len;
-      takes_byte = true;
-      next = Pending.Nothing;
-    }) }
-{
-    HandlerResult::Emit(Emission {
-        text: Text::One(character),
-        kind: Kind::Valid,
-        len,
-        takes_byte: true,
-        next: Utf8Decoder::new(),
-    })
-}
-
-/// Returns a malformed sequence, with or without the byte that determines it.
-fn malformed(len: u8, takes_byte: bool) -> Emission<Utf8Decoder>
-    ensures { result ≡ record {
-      text = Text.One 0xFFFD;
-      kind = Kind.Malformed;
-      len = len;
-      takes_byte = takes_byte;
-      next = Pending.Nothing;
-    } }
-{
-    Emission {
-        text: Text::One('\u{FFFD}'),
-        kind: Kind::Malformed,
-        len,
-        takes_byte,
-        next: Utf8Decoder::new(),
-    }
-}
-
-fn step_first(byte: u8) -> HandlerResult<Utf8Decoder>
-    ensures { HandlesByte utf_8_state Pending.Nothing byte result }
+/// Classifies the first byte.
+fn read_first(byte: u8) -> Prefix
+    ensures { result ≡ utf_8_prefix (byte ∷ []) }
 {
     match sequence_len(byte) {
-        0 => HandlerResult::Emit(malformed(1, true)),
-        1 => valid(byte as char, 1),
-        _ => HandlerResult::Continue(Utf8Decoder {
-            pending: Pending::One(byte),
-        }),
+        0 => Prefix::Malformed(1),
+        1 => Prefix::Complete(Text::One(byte as char)),
+        _ => Prefix::Incomplete,
     }
 }
 
-fn step_second(first: u8, byte: u8) -> HandlerResult<Utf8Decoder>
-    requires incomplete { IsTrue (is_incomplete (Pending.One first)) }
-    ensures { HandlesByte utf_8_state (Pending.One first) byte result }
+/// Classifies the byte after a lead byte.
+fn read_second(first: u8, byte: u8) -> Prefix
+    requires first { utf_8_prefix (first ∷ []) ≡ Incomplete }
+    ensures { result ≡ utf_8_prefix (first ∷ byte ∷ []) }
 {
     if !is_second_byte(first, byte) {
-        HandlerResult::Emit(malformed(1, false))
+        Prefix::Malformed(1)
     } else if sequence_len(first) == 2 {
-        valid(two_byte_char(first, byte), 2)
+        Prefix::Complete(Text::One(two_byte_char(first, byte)))
     } else {
-        HandlerResult::Continue(Utf8Decoder {
-            pending: Pending::Two(first, byte),
-        })
+        Prefix::Incomplete
     }
 }
 
-fn step_third(first: u8, second: u8, byte: u8) -> HandlerResult<Utf8Decoder>
-    requires incomplete { IsTrue (is_incomplete (Pending.Two first second)) }
-    ensures { HandlesByte utf_8_state (Pending.Two first second) byte result }
+/// Classifies the byte after two.
+fn read_third(first: u8, second: u8, byte: u8) -> Prefix
+    requires first { utf_8_prefix (first ∷ []) ≡ Incomplete }
+    requires second { utf_8_prefix (first ∷ second ∷ []) ≡ Incomplete }
+    ensures { result ≡ utf_8_prefix (first ∷ second ∷ byte ∷ []) }
 {
     if !is_continuation(byte) {
-        HandlerResult::Emit(malformed(2, false))
+        Prefix::Malformed(2)
     } else if sequence_len(first) == 3 {
-        valid(three_byte_char(first, second, byte), 3)
+        Prefix::Complete(Text::One(three_byte_char(first, second, byte)))
     } else {
-        HandlerResult::Continue(Utf8Decoder {
-            pending: Pending::Three(first, second, byte),
-        })
+        Prefix::Incomplete
     }
 }
 
-fn step_fourth(first: u8, second: u8, third: u8, byte: u8) -> HandlerResult<Utf8Decoder>
-    requires incomplete { IsTrue (is_incomplete (Pending.Three first second third)) }
-    ensures { HandlesByte utf_8_state (Pending.Three first second third) byte result }
+/// Classifies the byte after three.
+fn read_fourth(first: u8, second: u8, third: u8, byte: u8) -> Prefix
+    requires first { utf_8_prefix (first ∷ []) ≡ Incomplete }
+    requires second { utf_8_prefix (first ∷ second ∷ []) ≡ Incomplete }
+    requires third { utf_8_prefix (first ∷ second ∷ third ∷ []) ≡ Incomplete }
+    ensures { result ≡ utf_8_prefix (first ∷ second ∷ third ∷ byte ∷ []) }
 {
     if !is_continuation(byte) {
-        HandlerResult::Emit(malformed(3, false))
+        Prefix::Malformed(3)
     } else {
-        valid(four_byte_char(first, second, third, byte), 4)
+        Prefix::Complete(Text::One(four_byte_char(first, second, third, byte)))
     }
 }
 
-impl ByteCodec for Utf8Decoder {
-    ghost use Rattle.enc_decoder_utf.specs.Utf8State.{utf_8_state};
+impl PrefixCodec for Utf8Decoder {
+    ghost use Rattle.std.specs.Prelude.{false};
+    ghost use Rattle.enc_decoder.specs.declared.text_lengths.TextLengths.TheVariants as lengths;
+    ghost use Rattle.enc_decoder_utf.specs.Utf8.{utf_8_prefix};
 
-    ghost state = { utf_8_state };
+    ghost prefix = { λ _. utf_8_prefix };
+
+    ghost waiting = { λ pending. pending };
+
+    ghost leaves_others = { false };
+
+    ghost lengths = { lengths.Utf8 };
 
     #[inline(always)]
-    fn take_run<U: Units>(self, src: &[u8], out: &mut U) -> (Utf8Decoder, usize) {
-        match self.pending {
-            Pending::Nothing => (self, out.put_utf8(src)),
-            _ => (self, 0),
+    fn laws(self) {
+        let _pending = self.pending;
+    }
+
+    #[inline(always)]
+    fn leaves_others() -> bool {
+        false
+    }
+
+    #[inline(always)]
+    fn waiting(self) -> Pending {
+        self.pending
+    }
+
+    #[inline(always)]
+    fn with_waiting(self, pending: Pending) -> Utf8Decoder {
+        let _before = self;
+        Utf8Decoder { pending }
+    }
+
+    #[inline(always)]
+    fn classify(self, front: Pending, byte: u8) -> Prefix {
+        let _decoder = self;
+        match front {
+            Pending::Nothing => read_first(byte),
+            Pending::One(first) => read_second(first, byte),
+            Pending::Two(first, second) => read_third(first, second, byte),
+            Pending::Three(first, second, third) => read_fourth(first, second, third, byte),
         }
     }
 
     #[inline(always)]
-    fn replaced_char(self, src: &[u8], at: usize) -> Option<(char, usize)> {
+    fn put_front<U: Units>(self, src: &[u8], out: &mut U) -> usize {
+        let _decoder = self;
+        out.put_utf8(src)
+    }
+
+    #[inline(always)]
+    fn replaced_at(self, src: &[u8], at: usize) -> Option<(char, usize)> {
         let first = src[at];
         if first < 0x80 {
             return Some((first as char, 1));
@@ -275,66 +275,20 @@ impl ByteCodec for Utf8Decoder {
         Some((four_byte_char(first, second, third, fourth), 4))
     }
 
-    fn next_step(self, byte: u8) -> HandlerResult<Utf8Decoder> {
-        match self.pending {
-            Pending::Nothing => step_first(byte),
-            Pending::One(first) => step_second(first, byte),
-            Pending::Two(first, second) => step_third(first, second, byte),
-            Pending::Three(first, second, third) => step_fourth(first, second, third, byte),
-        }
-    }
-
-    fn ready(self) -> Option<Emission<Utf8Decoder>> {
-        let _pending = self.pending;
-        None
-    }
-
-    fn at_end(self) -> Option<Emission<Utf8Decoder>> {
-        match self.pending {
-            Pending::Nothing => None,
-            _ => Some(malformed(self.held(), false)),
-        }
-    }
-
-    fn held(self) -> u8 {
-        self.pending.len()
-    }
-}
-
-impl RawDecoder for Utf8Decoder {
-    ghost use Rattle.enc_decoder.specs.declared.text_lengths.TextLengths.TheVariants as lengths;
-    ghost use Rattle.enc_decoder_utf.specs.Utf8State.{utf_8_state};
-
-    ghost state = { utf_8_state };
-
-    ghost formulas = { λ _. lengths.Utf8 };
-
-    #[tactic(auto, using(crate::proofs::Utf8Rule::utf_8_is_lawful))]
-    fn decode<U: Units>(
-        &mut self,
-        src: &[u8],
-        out: &mut U,
-        last: bool,
-        mode: ErrorMode,
-    ) -> DecoderStop {
-        run(self, src, out, last, mode)
+    #[inline(always)]
+    fn replaces_each() -> bool {
+        true
     }
 
     #[inline(always)]
-    fn replace_run<U: Units>(&self, src: &[u8], out: &mut U) -> usize {
-        replace_each(*self, src, out)
+    #[tactic(auto, using(crate::proofs::Utf8Rule::utf_8_prefixes_have_bytes))]
+    fn has_bytes(self) -> bool {
+        let _decoder = self;
+        true
     }
 
-    fn held(&self) -> usize {
-        ByteCodec::held(*self) as usize
-    }
-
-    #[tactic(auto, using(crate::proofs::Utf8Rule::utf_8_has_bytes))]
-    fn latin1_byte_compatible_up_to(&self, bytes: &[u8]) -> Option<usize> {
-        latin1_up_to(*self, bytes)
-    }
-
-    fn text_lengths(&self) -> TextLengths {
+    fn lengths(self) -> TextLengths {
+        let _decoder = self;
         TextLengths::Utf8
     }
 }

@@ -17,7 +17,7 @@ use Rattle.enc_decoder.proofs.SegmentationLemmas.{sequences_of-head}
 use Rattle.enc_decoder_utf.specs.Utf8.{sequence_len, is_second_byte, continuing_len, well_formed_tail_len}
 use Rattle.enc_decoder_utf.specs.Utf8.{utf_8_rule, is_incomplete_sequence}
 use Rattle.enc_decoder_utf.proofs.Utf8Lemmas.{continuations_as_second, continuing_len-within}
-use Rattle.enc_decoder_utf.proofs.Utf8Lookahead.{within}
+use Rattle.enc_decoder_utf.proofs.Utf8Rule.{within}
 use Rattle.enc_decoder_utf.proofs.Utf8Rule.{utf_8_has_texts}
 use Rattle.enc_codec.specs.Properties.{IsAsciiCompatible}
 use Rattle.enc_stream.specs.declared.constants.TheConstants.{UTF_8}

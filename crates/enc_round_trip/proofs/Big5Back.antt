@@ -6,7 +6,7 @@ use Rattle.std.proofs.lemmas.Bool.Decides.{nat_tests}
 use Rattle.enc_index.specs.Runs.{big5_at}
 use Rattle.enc_index_pointers.specs.Pointers.{big5_pointer, is_big5_pointer, is_last_in_big5}
 use Rattle.enc_decoder_multi_byte.specs.DoubleByte.{text_of_char}
-use Rattle.enc_decoder_multi_byte.specs.MultiByte.{multi_byte_rule}
+use Rattle.enc_decoder.specs.Prefixes.{prefix_rule}
 use Rattle.enc_decoder_multi_byte.specs.Big5 as big5
 use Rattle.enc_encode.specs.Big5.{big5_trail_byte, big5_bytes}
 use Rattle.enc_round_trip.proofs.ReadBackLemmas.{IsReadBack}
@@ -48,7 +48,7 @@ by_big5_pointer c p found =
           ∙ text_at p (Some c) has_pointer.counted has_pointer.has;
     }
 
-pub big5_is_read : IsReadBack (multi_byte_rule big5.big5_prefix) big5_bytes (λ c. c)
+pub big5_is_read : IsReadBack (prefix_rule big5.big5_prefix) big5_bytes (λ c. c)
 big5_is_read =
     by_pairs big5.is_big5_lead big5.big5_pair_text (λ p. p / 157 + 0x81)
     (λ p. big5_trail_byte (p % 157)) big5_pointer

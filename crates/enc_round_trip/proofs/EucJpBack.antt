@@ -7,10 +7,10 @@ use Rattle.enc_index.specs.Runs.{jis0208_at}
 use Rattle.enc_index_pointers.specs.Pointers.{jis0208_pointer, any_pointer}
 use Rattle.enc_decoder.specs.Taking.{IsWholeChar}
 use Rattle.enc_decoder_multi_byte.specs.DoubleByte.{text_of_char, first_prefix, single_prefix, trail_prefix}
-use Rattle.enc_decoder_multi_byte.specs.MultiByte.{multi_byte_rule}
+use Rattle.enc_decoder.specs.Prefixes.{prefix_rule}
 use Rattle.enc_decoder_multi_byte.specs.EucJp.{euc_pair_pointer, is_euc_jp_lead, euc_jp_single_char}
 use Rattle.enc_decoder_multi_byte.specs.EucJp.{euc_jp_pair_char as read_pair, euc_jp_prefix}
-use Rattle.enc_decoder_multi_byte.proofs.MultiBytePieces.{complete_one, complete_two}
+use Rattle.enc_decoder.proofs.PrefixLemmas.{complete_one, complete_two}
 use Rattle.enc_encode.specs.Japanese.{is_halfwidth_katakana, katakana_byte, with_fullwidth_minus}
 use Rattle.enc_encode.specs.EucJp.{euc_jp_pair_bytes, euc_jp_other, euc_jp_bytes}
 use Rattle.enc_decoder.proofs.FirstSequenceLemmas.{true_or_false}
@@ -21,7 +21,7 @@ use Rattle.enc_round_trip.proofs.DoubleByteBack.{within}
 use Rattle.enc_round_trip.proofs.JapaneseBack.{at_jis0208_pointer, katakana_byte_is_read, low_not_latin, latin_is_read}
 
 abbrev Piece : List ℕ → ℕ → Type 0
-Piece b c = IsWholeChar (multi_byte_rule euc_jp_prefix) 0 b c
+Piece b c = IsWholeChar (prefix_rule euc_jp_prefix) 0 b c
 
 low_piece : (b : ℕ) → b < 0x80 → Piece (b ∷ []) b
 low_piece b l =
@@ -72,7 +72,7 @@ itself : (c : ℕ) → (c == 0x2212) ≡ false → with_fullwidth_minus c ≡ c
 itself c no_minus = cond-false _ _ _ no_minus
 
 beyond : (c : ℕ) → IfSome (euc_jp_other c) (λ b. Piece b (ascii_twin_or with_fullwidth_minus c))
-beyond c = latin_is_read (multi_byte_rule euc_jp_prefix) _ with_fullwidth_minus c low_piece
+beyond c = latin_is_read (prefix_rule euc_jp_prefix) _ with_fullwidth_minus c low_piece
     (λ not_yen not_line. elim (true_or_false (is_halfwidth_katakana c)) [
       | inl is_katakana ↦ rw (itself c (grind (arith, nat_tests)), is_katakana)
           (katakana_piece c is_katakana)
@@ -82,10 +82,10 @@ beyond c = latin_is_read (multi_byte_rule euc_jp_prefix) _ with_fullwidth_minus 
           (at_jis0208_pointer (with_fullwidth_minus c) p found)))
     ])
 
-pub euc_jp_is_read : IsReadBack (multi_byte_rule euc_jp_prefix) euc_jp_bytes
+pub euc_jp_is_read : IsReadBack (prefix_rule euc_jp_prefix) euc_jp_bytes
     (ascii_twin_or with_fullwidth_minus)
 euc_jp_is_read =
-    with_ascii_is_read (multi_byte_rule euc_jp_prefix) euc_jp_other
+    with_ascii_is_read (prefix_rule euc_jp_prefix) euc_jp_other
     (ascii_twin_or with_fullwidth_minus)
     (λ c low. rw (
       low_not_latin with_fullwidth_minus c (omega arith),

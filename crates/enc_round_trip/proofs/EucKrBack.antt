@@ -6,7 +6,7 @@ use Rattle.std.proofs.lemmas.Bool.Decides.{nat_tests}
 use Rattle.enc_index.specs.Runs.{euc_kr_at}
 use Rattle.enc_index_pointers.specs.Pointers.{euc_kr_pointer, any_pointer, no_character}
 use Rattle.enc_decoder_multi_byte.specs.DoubleByte.{text_of_char}
-use Rattle.enc_decoder_multi_byte.specs.MultiByte.{multi_byte_rule}
+use Rattle.enc_decoder.specs.Prefixes.{prefix_rule}
 use Rattle.enc_decoder_multi_byte.specs.EucKr as euc_kr
 use Rattle.enc_encode.specs.EucKr.{euc_kr_bytes}
 use Rattle.enc_round_trip.proofs.ReadBackLemmas.{IsReadBack}
@@ -29,7 +29,7 @@ has_pair c p found =
           ∙ ap euc_kr_at (pointer_is p) ∙ has_pointer.has);
     }
 
-pub euc_kr_is_read : IsReadBack (multi_byte_rule euc_kr.euc_kr_prefix) euc_kr_bytes (λ c. c)
+pub euc_kr_is_read : IsReadBack (prefix_rule euc_kr.euc_kr_prefix) euc_kr_bytes (λ c. c)
 euc_kr_is_read =
     by_pairs euc_kr.is_euc_kr_lead euc_kr.euc_kr_pair_text (λ p. p / 190 + 0x81)
     (λ p. p % 190 + 0x41) euc_kr_pointer

@@ -11,12 +11,12 @@ use Rattle.enc_index_pointers.specs.Pointers.{any_pointer, no_character, is_char
 use Rattle.enc_decoder.specs.declared.byte_codec.Kind.TheVariants.{Valid}
 use Rattle.enc_decoder.specs.declared.byte_codec.Text.TheVariants.{One}
 use Rattle.enc_decoder.specs.Taking.{IsWholeChar}
-use Rattle.enc_decoder_multi_byte.specs.declared.multi_byte.Prefix.TheVariants.{Complete, Incomplete}
+use Rattle.enc_decoder.specs.declared.prefix.Prefix.TheVariants.{Complete, Incomplete}
 use Rattle.enc_decoder_multi_byte.specs.DoubleByte.{text_of_char, first_prefix, single_prefix, trail_prefix}
-use Rattle.enc_decoder_multi_byte.specs.MultiByte.{multi_byte_rule}
+use Rattle.enc_decoder.specs.Prefixes.{prefix_rule}
 use Rattle.enc_decoder_multi_byte.specs.Gb18030 as decoder
-use Rattle.enc_decoder_multi_byte.proofs.MultiByteLemmas.{settled_first, settles_complete}
-use Rattle.enc_decoder_multi_byte.proofs.MultiBytePieces.{complete_one, complete_two}
+use Rattle.enc_decoder.proofs.PrefixLemmas.{settled_first, settles_complete}
+use Rattle.enc_decoder.proofs.PrefixLemmas.{complete_one, complete_two}
 use Rattle.enc_encode.specs.Gb18030.{gb18030_trail_byte, gb18030_pair_bytes, gb18030_four_bytes, two_or_four_bytes}
 use Rattle.enc_encode.specs.PrivateUse.{private_use_rows}
 use Rattle.enc_encode.specs.Gb18030.{row_bytes, row_or_index_bytes, gb18030_other, gb18030_bytes}
@@ -29,7 +29,7 @@ use Rattle.enc_round_trip.proofs.PointerLemmas.{IsPointer, is_pointer, by_pointe
 use Rattle.enc_round_trip.proofs.DoubleByteBack.{within}
 
 abbrev Piece : List ℕ → ℕ → Type 0
-Piece b c = IsWholeChar (multi_byte_rule decoder.gb18030_prefix) 0 b c
+Piece b c = IsWholeChar (prefix_rule decoder.gb18030_prefix) 0 b c
 
 low_piece : (b : ℕ) → b < 0x80 → Piece (b ∷ []) b
 low_piece b l =
@@ -233,10 +233,10 @@ low_itself c low =
     itself_if_none private_use_rows replaced_characters c rows_are_read (no_private_use_row c out)
 
 pub gb18030_is_read : (is_gbk : Bool)
-    → IsReadBack (multi_byte_rule decoder.gb18030_prefix) (gb18030_bytes is_gbk)
+    → IsReadBack (prefix_rule decoder.gb18030_prefix) (gb18030_bytes is_gbk)
     (char_by_rows replaced_characters)
 gb18030_is_read is_gbk =
-    with_ascii_is_read (multi_byte_rule decoder.gb18030_prefix) (gb18030_other is_gbk)
+    with_ascii_is_read (prefix_rule decoder.gb18030_prefix) (gb18030_other is_gbk)
     (char_by_rows replaced_characters) (λ c low. rw (low_itself c low) (low_piece c low))
     (λ c high. beyond is_gbk c)
 

@@ -9,7 +9,7 @@ use Rattle.enc_index_pointers.specs.Pointers.{shift_jis_pointer, is_shift_jis_po
 use Rattle.enc_decoder.specs.declared.byte_codec.Text.TheVariants.{One}
 use Rattle.enc_decoder.specs.Taking.{IsWholeChar}
 use Rattle.enc_decoder_multi_byte.specs.DoubleByte.{text_of_char}
-use Rattle.enc_decoder_multi_byte.specs.MultiByte.{multi_byte_rule}
+use Rattle.enc_decoder.specs.Prefixes.{prefix_rule}
 use Rattle.enc_decoder_multi_byte.specs.ShiftJis as decoder
 use Rattle.enc_encode.specs.Japanese.{is_halfwidth_katakana, katakana_byte, with_fullwidth_minus}
 use Rattle.enc_encode.specs.ShiftJis.{shift_jis_lead_byte, shift_jis_trail_byte, shift_jis_pair_bytes, shift_jis_other}
@@ -65,7 +65,7 @@ is_pair c p has_pointer =
 -- single bytes
 
 abbrev Piece : List ℕ → ℕ → Type 0
-Piece b c = IsWholeChar (multi_byte_rule decoder.shift_jis_prefix) 0 b c
+Piece b c = IsWholeChar (prefix_rule decoder.shift_jis_prefix) 0 b c
 
 low_piece : (b : ℕ) → b ≤ 0x80 → Piece (b ∷ []) b
 low_piece b l =
@@ -108,7 +108,7 @@ beyond : (c : ℕ) → 0x80 ≤ c
 beyond c high = elim (true_or_false (c == 0x80)) [
   | inl is_80 ↦
       let same : c ≡ 0x80 = grind (arith, nat_tests) in rw same (low_piece 0x80 (omega arith))
-  | inr not_80 ↦ rw not_80 (latin_is_read (multi_byte_rule decoder.shift_jis_prefix) _
+  | inr not_80 ↦ rw not_80 (latin_is_read (prefix_rule decoder.shift_jis_prefix) _
       char_read_in_shift_jis c (λ a low. low_piece a (omega arith))
       (λ not_yen not_line. elim (true_or_false (is_halfwidth_katakana c)) [
         | inl is_katakana ↦
@@ -128,9 +128,9 @@ beyond c high = elim (true_or_false (c == 0x80)) [
       ]))
 ]
 
-pub shift_jis_is_read : IsReadBack (multi_byte_rule decoder.shift_jis_prefix) shift_jis_bytes
+pub shift_jis_is_read : IsReadBack (prefix_rule decoder.shift_jis_prefix) shift_jis_bytes
     (ascii_twin_or char_read_in_shift_jis)
 shift_jis_is_read =
-    with_ascii_is_read (multi_byte_rule decoder.shift_jis_prefix) shift_jis_other
+    with_ascii_is_read (prefix_rule decoder.shift_jis_prefix) shift_jis_other
     (ascii_twin_or char_read_in_shift_jis)
     (λ c low. rw (low_itself c (omega arith)) (low_piece c (omega arith))) beyond

@@ -6,7 +6,7 @@ use Rattle.enc_decoder_multi_byte.specs.EucKr.{is_euc_kr_lead, euc_kr_single_cha
 use Rattle.enc_decoder_multi_byte.proofs.DoubleByteLemmas.{char_is_text, ascii_is_basic, double_byte_laws}
 use Rattle.std.proofs.lemmas.Bool.{cond-true, lt-ltb}
 use Rattle.std.proofs.lemmas.Bool.Decides.{nat_tests}
-use Rattle.enc_decoder_multi_byte.specs.MultiByte.{ArePrefixes}
+use Rattle.enc_decoder_multi_byte.specs.MultiByte.{AreMultiBytePrefixes}
 
 pub pairs : ArePairs is_euc_kr_lead euc_kr_single_char euc_kr_pair_text
 pairs = record {
@@ -19,5 +19,5 @@ pairs = record {
   no_trail = λ a. refl;
 }
 
-pub laws : ArePrefixes euc_kr_prefix
+pub laws : AreMultiBytePrefixes euc_kr_prefix
 laws = double_byte_laws _ _ _ pairs

@@ -3,14 +3,16 @@ use Rattle.std.proofs.Common.{◌≡◌, ◌≢◌, ℕ, ◌<◌, ◌≤◌, Boo
 use Rattle.std.proofs.Common.{refl, arith, subst}
 use Rattle.std.proofs.lemmas.Bool.{cond-true, lt-ltb}
 use Rattle.std.proofs.lemmas.Bool.Decides.{nat_tests}
-use Rattle.enc_decoder_multi_byte.specs.declared.multi_byte.Prefix.TheVariants.{Malformed, Incomplete}
-use Rattle.enc_decoder_multi_byte.specs.MultiByte.{CanBeMalformed, AreSettledBelowDigits, ArePrefixes}
+use Rattle.enc_decoder.specs.declared.prefix.Prefix.TheVariants.{Malformed, Incomplete}
+use Rattle.enc_decoder.specs.Prefixes.{CanBeOther, AreSettledBelowDigits}
+use Rattle.enc_decoder_multi_byte.specs.MultiByte.{AreMultiBytePrefixes}
 use Rattle.enc_decoder_multi_byte.specs.DoubleByte.{text_of_char}
 use Rattle.enc_decoder_multi_byte.specs.Gb18030.{is_gb18030_lead, is_digit, gb18030_single_char, gb18030_pair_char}
 use Rattle.enc_decoder_multi_byte.specs.Gb18030.{ranges_code_point, four_byte_pointer, four_byte_prefix, gb18030_prefix}
-use Rattle.enc_decoder_multi_byte.proofs.DoubleByteLemmas.{first_alone, first_is_basic, one_is_text, char_is_text}
-use Rattle.enc_decoder_multi_byte.proofs.DoubleByteLemmas.{IsLawfulPrefix, first_lawful, trail_lawful, unless_lawful}
-use Rattle.enc_decoder_multi_byte.proofs.DoubleByteLemmas.{malformed_with_ff, trail_finished, unless_finished}
+use Rattle.enc_decoder_multi_byte.proofs.DoubleByteLemmas.{first_alone, first_is_basic, char_is_text}
+use Rattle.enc_decoder_multi_byte.proofs.DoubleByteLemmas.{first_lawful, trail_lawful, trail_finished}
+use Rattle.enc_decoder.proofs.PrefixLaws.{one_is_text, IsLawfulPrefix, either_lawful, prefixes_by, malformed_with_ff}
+use Rattle.enc_decoder.proofs.PrefixLaws.{unless_finished}
 
 -- four bytes
 
@@ -24,10 +26,11 @@ lawful : (front : List ℕ) → IsLawfulPrefix 3 (length front) (gb18030_prefix 
 lawful [] = omega arith
 lawful (a ∷ []) = first_lawful 3 (is_gb18030_lead a) (gb18030_single_char a) (omega arith)
 lawful (a ∷ b ∷ []) =
-    unless_lawful 3 2 (is_digit b) _ (omega arith)
+    either_lawful 3 2 (is_digit b) Incomplete _ (omega arith)
     (trail_lawful 3 2 1 b _ (char_is_text (gb18030_pair_char a b)) (omega arith) (omega arith))
 lawful (a ∷ b ∷ c ∷ []) =
-    unless_lawful 3 3 (is_gb18030_lead c) (Malformed 1) (omega arith) (omega arith, omega arith)
+    either_lawful 3 3 (is_gb18030_lead c) Incomplete (Malformed 1) (omega arith)
+    (omega arith, omega arith)
 lawful (a ∷ b ∷ c ∷ d ∷ z) =
     four_lawful _ (is_digit d) (ranges_code_point (four_byte_pointer a b c d)) (omega arith)
 
@@ -35,16 +38,19 @@ short : (front : List ℕ) → gb18030_prefix front ≡ Incomplete → length fr
 short front incomplete = subst (IsLawfulPrefix 3 (length front)) incomplete (lawful front)
 
 -- FF is neither a trail, nor a third or a fourth byte
-can_be_malformed : (front : List ℕ) → 0 < length front → gb18030_prefix front ≡ Incomplete
-    → CanBeMalformed gb18030_prefix front
-can_be_malformed [] some incomplete = absurd (omega arith)
-can_be_malformed (a ∷ []) some incomplete =
-    malformed_with_ff gb18030_prefix (a ∷ []) 2 refl (λ same. omega arith)
-can_be_malformed (a ∷ b ∷ []) some incomplete =
-    malformed_with_ff gb18030_prefix (a ∷ b ∷ []) 1 refl (λ same. omega arith)
-can_be_malformed (a ∷ b ∷ c ∷ []) some incomplete =
-    malformed_with_ff gb18030_prefix (a ∷ b ∷ c ∷ []) 1 refl (λ same. omega arith)
-can_be_malformed (a ∷ b ∷ c ∷ d ∷ z) some incomplete =
+can_be_other : (front : List ℕ) → 0 < length front → gb18030_prefix front ≡ Incomplete
+    → CanBeOther gb18030_prefix front
+can_be_other [] some incomplete = absurd (omega arith)
+can_be_other (a ∷ []) some incomplete =
+    malformed_with_ff gb18030_prefix (a ∷ []) 2 (omega arith) (omega arith)
+    refl (λ same. omega arith)
+can_be_other (a ∷ b ∷ []) some incomplete =
+    malformed_with_ff gb18030_prefix (a ∷ b ∷ []) 1 (omega arith) (omega arith)
+    refl (λ same. omega arith)
+can_be_other (a ∷ b ∷ c ∷ []) some incomplete =
+    malformed_with_ff gb18030_prefix (a ∷ b ∷ c ∷ []) 1 (omega arith) (omega arith)
+    refl (λ same. omega arith)
+can_be_other (a ∷ b ∷ c ∷ d ∷ z) some incomplete =
     let too_short = short (a ∷ b ∷ c ∷ d ∷ z) incomplete in absurd (omega arith)
 
 -- a byte below 30 is neither a digit nor a third byte
@@ -69,19 +75,15 @@ settled c low a (b ∷ d ∷ e ∷ front) incomplete =
 single_is_basic : (b c : ℕ) → gb18030_single_char b ≡ Some c → c < 0x1_0000
 single_is_basic b c is_char = grind (arith, nat_tests)
 
-pub laws : ArePrefixes gb18030_prefix
+pub laws : AreMultiBytePrefixes gb18030_prefix
 laws = record {
-  nothing = refl;
+  prefixes = prefixes_by gb18030_prefix 3 (omega arith) refl lawful can_be_other;
   ascii = λ b l.
       first_alone (is_gb18030_lead b) (gb18030_single_char b) b (grind (arith, nat_tests))
       (cond-true _ _ _ (lt-ltb b 0x80 l));
   lead = 0x81;
-  leads = record { is_byte = omega arith; incomplete = refl };
-  texts = λ front text e. subst (IsLawfulPrefix 3 (length front)) e (lawful front);
+  leads = record { is_byte = omega arith; incomplete = refl; malformed = refl };
   alone = λ b text e.
       first_is_basic (is_gb18030_lead b) (gb18030_single_char b) text (single_is_basic b) e;
-  malformed = λ front n e. subst (IsLawfulPrefix 3 (length front)) e (lawful front);
-  short = short;
-  can_be_malformed = can_be_malformed;
   settled = settled;
 }

@@ -5,7 +5,7 @@ use Rattle.enc_decoder_multi_byte.specs.ShiftJis.{is_shift_jis_lead, shift_jis_s
 use Rattle.enc_decoder_multi_byte.specs.ShiftJis.{shift_jis_prefix}
 use Rattle.enc_decoder_multi_byte.proofs.DoubleByteLemmas.{char_is_text, double_byte_laws}
 use Rattle.std.proofs.lemmas.Bool.Decides.{nat_tests}
-use Rattle.enc_decoder_multi_byte.specs.MultiByte.{ArePrefixes}
+use Rattle.enc_decoder_multi_byte.specs.MultiByte.{AreMultiBytePrefixes}
 
 single_is_basic : (b c : ℕ) → shift_jis_single_char b ≡ Some c → c < 0x1_0000
 single_is_basic b c e = grind (arith, nat_tests)
@@ -21,5 +21,5 @@ pairs = record {
   no_trail = λ a. refl;
 }
 
-pub laws : ArePrefixes shift_jis_prefix
+pub laws : AreMultiBytePrefixes shift_jis_prefix
 laws = double_byte_laws _ _ _ pairs

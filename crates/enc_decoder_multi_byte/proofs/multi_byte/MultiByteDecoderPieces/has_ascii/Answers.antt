@@ -1,4 +1,4 @@
-use Rattle.enc_decoder_multi_byte.proofs.MultiBytePieces.{complete_one}
+use Rattle.enc_decoder.proofs.PrefixLemmas.{complete_one}
 use Rattle.enc_decoder_multi_byte.proofs.multi_byte.MultiByteDecoderPieces.has_ascii.Goals as goal
 
 pub returns : goal.returns

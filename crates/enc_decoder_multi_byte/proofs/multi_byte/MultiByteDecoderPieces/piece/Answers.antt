@@ -1,7 +1,7 @@
 use Rattle.std.proofs.Common.{◌∙◌, ap, sym}
-use Rattle.enc_decoder_multi_byte.specs.declared.multi_byte.Prefix.TheVariants.{Complete}
+use Rattle.enc_decoder.specs.declared.prefix.Prefix.TheVariants.{Complete}
 use Rattle.enc_decoder.proofs.PieceLemmas.{one_of, two_of, same_piece}
-use Rattle.enc_decoder_multi_byte.proofs.MultiBytePieces.{complete_one, complete_two}
+use Rattle.enc_decoder.proofs.PrefixLemmas.{complete_one, complete_two}
 use Rattle.enc_decoder_multi_byte.proofs.multi_byte.MultiByteDecoderPieces.piece.Goals as goal
 
 pub returns-then-lead-lt128-clause-means : goal.returns-then-lead-lt128-clause-means

@@ -1,6 +1,0 @@
-use Rattle.std.proofs.Common.{refl}
-use Rattle.enc_decoder_utf.proofs.Utf8Enough.{utf_8_enough}
-use Rattle.enc_decoder_utf.proofs.utf_8.Utf8DecoderRawDecoder.text_lengths.Goals as goal
-
-pub returns-clause-enough : goal.returns-clause-enough
-returns-clause-enough c = utf_8_enough _ refl
