@@ -325,9 +325,9 @@ def computed():
     return {
         "crates/enc_decoder_single_byte/src/user_defined_words.rt": user_defined_source(),
         "crates/enc_decoder_iso_2022_jp/src/replaced_bytes.rt": replaced_bytes_source(),
-        "crates/enc_units/src/ends.rt": ends_source(),
-        "crates/enc_units/src/marked.rt": marked_source(),
-        "crates/enc_units/src/utf8_faults.rt": utf8_faults_source(),
+        "crates/enc_utf8/src/ends.rt": ends_source(),
+        "crates/enc_output/src/marked.rt": marked_source(),
+        "crates/enc_utf8/src/utf8_faults.rt": utf8_faults_source(),
     }
 
 

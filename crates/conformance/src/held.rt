@@ -3,7 +3,7 @@
 use crate::fault::RowFault;
 use crate::words::{Unreadable, Words, number_of};
 use enc_codec::{ErrorMode, RawDecoder, VariantDecoder};
-use enc_units::{DecoderResult, Units, Utf8Slice, Utf16Slice};
+use enc_output::{DecoderResult, Units, Utf8Slice, Utf16Slice};
 use std::alloc::Global;
 use test_support::decoding::{Answer, Given, Output};
 

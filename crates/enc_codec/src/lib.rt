@@ -15,5 +15,5 @@ pub use enc_decoder_multi_byte::{
 pub use enc_decoder_single_byte::{ReplacementDecoder, SingleByteDecoder, XUserDefinedDecoder};
 pub use enc_decoder_utf::{Utf8Decoder, Utf16Decoder};
 pub use enc_index::{Codec, List, Planes, SingleByteIndex};
-pub use enc_units::DecoderResult;
+pub use enc_output::DecoderResult;
 pub use variant::VariantDecoder;

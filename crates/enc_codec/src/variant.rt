@@ -9,7 +9,7 @@ use enc_decoder_multi_byte::{
 };
 use enc_decoder_single_byte::{ReplacementDecoder, SingleByteDecoder, XUserDefinedDecoder};
 use enc_decoder_utf::{Utf8Decoder, Utf16Decoder};
-use enc_units::Units;
+use enc_output::Units;
 
 /// A decoder of any encoding. It does what the decoder in it does.
 #[derive(Clone, Copy)]

@@ -5,9 +5,9 @@ use Rattle.std.proofs.Common.{◌≡◌, ℕ, ◌+◌, ◌-◌, ◌<◌, ◌≤�
 use Rattle.std.proofs.Common.{refl, ap, ◌∙◌, sym, arith, append_assoc, ◌||◌, inl, inr, subst, ◌⊎◌}
 use Rattle.std.proofs.lemmas.Bool.{false≢true}
 use Rattle.std.proofs.lemmas.List.{append-nil, length-append, take-append-le, drop-append-le}
-use Rattle.enc_units.specs.declared.decoder_result.DecoderResult.{DecoderResult}
-use Rattle.enc_units.specs.declared.decoder_result.DecoderResult.TheVariants.{InputEmpty, OutputFull, Malformed}
-use Rattle.enc_units.specs.Output.{Output, with_appended}
+use Rattle.enc_output.specs.declared.decoder_result.DecoderResult.{DecoderResult}
+use Rattle.enc_output.specs.declared.decoder_result.DecoderResult.TheVariants.{InputEmpty, OutputFull, Malformed}
+use Rattle.enc_output.specs.Output.{Output, with_appended}
 use Rattle.enc_decoder.specs.Sequence.{Sequence, is_repeated_escape}
 use Rattle.enc_decoder.specs.Remainder.{Remainder, AreBytes, Determines, AreDetermined}
 use Rattle.enc_decoder.specs.Call.{DecoderCallInto, DecoderStops, ReadsToReported}
@@ -16,7 +16,7 @@ use Rattle.enc_decoder.specs.Converting.{PrefixedCallInto}
 use Rattle.enc_decoder.proofs.ByteLemmas.{bytes-append, determines_with}
 use Rattle.enc_decoder.proofs.StageLemmas.{reports_in}
 use Rattle.enc_decoder.proofs.TwoCallsLemmas.{two_calls}
-use Rattle.enc_units.proofs.OutputLemmas.{with_appended-with_appended, room_left}
+use Rattle.enc_output.proofs.OutputLemmas.{with_appended-with_appended, room_left}
 use Rattle.std.proofs.Math.ListN.{drop_of_length-le}
 
 -- the same for all bytes, held and others

@@ -1,5 +1,5 @@
 -- How far bytes are the characters of their own numbers, for every codec.
-use Rattle.enc_units.proofs.OverwrittenTextLemmas.{is_text}
+use Rattle.enc_output.proofs.OverwrittenTextLemmas.{is_text}
 use Rattle.std.proofs.Common.{◌≡◌, ℕ, ◌+◌, ◌<◌, ◌≤◌, Bool, true, false, List, [], ◌∷◌, ◌++◌, length}
 use Rattle.std.proofs.Common.{get_or, take, refl, ap, ◌∙◌}
 use Rattle.std.proofs.Common.{sym, subst, arith, append_assoc}

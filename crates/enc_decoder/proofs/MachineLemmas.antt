@@ -4,10 +4,11 @@ use Rattle.std.proofs.Common.{ap, ◌∙◌, sym, arith, subst, append-nil, nat_
 use Rattle.std.proofs.lemmas.Bool.{false≢true, leb-true, leb-false}
 use Rattle.enc_decoder.specs.declared.byte_codec.Emission.{Emission}
 use Rattle.enc_decoder.specs.declared.machine.NextEvent.TheVariants.{NeedsInput, HoldsByte, Emits}
-use Rattle.enc_units.specs.declared.decoder_result.DecoderResult.{DecoderResult}
-use Rattle.enc_units.specs.declared.decoder_result.DecoderResult.TheVariants.{InputEmpty, OutputFull, Malformed}
-use Rattle.enc_units.specs.Output.{Output, AreScalars, with_appended, units_of_text}
-use Rattle.enc_units.proofs.OutputLemmas.{with_appended-nil}
+use Rattle.enc_output.specs.declared.decoder_result.DecoderResult.{DecoderResult}
+use Rattle.enc_output.specs.declared.decoder_result.DecoderResult.TheVariants.{InputEmpty, OutputFull, Malformed}
+use Rattle.enc_output.specs.Output.{Output, with_appended}
+use Rattle.enc_utf8.specs.Text.{AreScalars, units_of_text}
+use Rattle.enc_output.proofs.OutputLemmas.{with_appended-nil}
 use Rattle.enc_decoder.specs.Sequence.{is_malformed}
 use Rattle.enc_decoder.specs.Remainder.{Remainder}
 use Rattle.enc_decoder.specs.CodecState.{CodecState, remainder_of}

@@ -1,15 +1,16 @@
 -- What a call needs, by what it does.
-use Rattle.enc_units.proofs.OverwrittenTextLemmas.{is_text}
+use Rattle.enc_output.proofs.OverwrittenTextLemmas.{is_text}
 use Rattle.std.proofs.Common.{◌↔◌}
 use Rattle.std.proofs.Common.{◌≡◌, ◌⊎◌, ℕ, ◌+◌, ◌<◌, ◌≤◌, Bool, true, false, cond, ◌||◌, List, [], ◌∷◌, ◌++◌}
 use Rattle.std.proofs.Common.{length, drop, refl, ap, ◌∙◌, sym, arith, subst, append_assoc, inl, inr}
 use Rattle.std.proofs.lemmas.List.{append-nil, length-append}
 use Rattle.std.proofs.Math.ListN.{drop_of_length-le}
 use Rattle.std.proofs.lemmas.Bool.{false≢true, cond-true, cond-false}
-use Rattle.enc_units.specs.declared.decoder_result.DecoderResult.{DecoderResult}
-use Rattle.enc_units.specs.declared.decoder_result.DecoderResult.TheVariants.{InputEmpty, OutputFull, Malformed}
-use Rattle.enc_units.specs.declared.decoder_result.DecoderResult.TheVariants as stop
-use Rattle.enc_units.specs.Output.{Output, units_of_text}
+use Rattle.enc_output.specs.declared.decoder_result.DecoderResult.{DecoderResult}
+use Rattle.enc_output.specs.declared.decoder_result.DecoderResult.TheVariants.{InputEmpty, OutputFull, Malformed}
+use Rattle.enc_output.specs.declared.decoder_result.DecoderResult.TheVariants as stop
+use Rattle.enc_output.specs.Output.{Output}
+use Rattle.enc_utf8.specs.Text.{units_of_text}
 use Rattle.enc_decoder.specs.Sequence.{Sequence, is_malformed, any_malformed, sequence_text}
 use Rattle.enc_decoder.specs.Remainder.{Remainder, AreFirstSequences, Determines, AreDetermined}
 use Rattle.enc_decoder.specs.Call.{DecodeErrorMode, Replacement, Fatal, is_replacement_mode, keeps_room}

@@ -4,10 +4,10 @@ use Rattle.enc_decoder.proofs.StageLemmas.{start_stage}
 use Rattle.enc_decoder.proofs.LeavesLemmas.{nothing_read}
 use Rattle.std.proofs.Common.{◌≡◌, ℕ, ◌+◌, ◌-◌, ◌≤◌, Bool, true, false, List, [], ◌++◌, length, drop, refl, ap, ◌∙◌}
 use Rattle.std.proofs.Common.{sym, append-nil, subst}
-use Rattle.enc_units.specs.declared.decoder_result.DecoderResult.{DecoderResult}
-use Rattle.enc_units.specs.declared.decoder_result.DecoderResult.TheVariants.{Malformed}
-use Rattle.enc_units.specs.Output.{Output, with_appended}
-use Rattle.enc_units.proofs.OutputLemmas.{with_appended-nil, with_appended-with_appended, room_left}
+use Rattle.enc_output.specs.declared.decoder_result.DecoderResult.{DecoderResult}
+use Rattle.enc_output.specs.declared.decoder_result.DecoderResult.TheVariants.{Malformed}
+use Rattle.enc_output.specs.Output.{Output, with_appended}
+use Rattle.enc_output.proofs.OutputLemmas.{with_appended-nil, with_appended-with_appended, room_left}
 use Rattle.enc_decoder.specs.Sequence.{Sequence}
 use Rattle.enc_decoder.specs.Remainder.{Remainder, AreBytes}
 use Rattle.enc_decoder.specs.Call.{DecoderCallInto, DecodeErrorMode, is_replacement_mode, keeps_room}

@@ -2,9 +2,11 @@
 use Rattle.enc_decoder.proofs.RuleLemmas.{has_bytes}
 use Rattle.std.proofs.Common.{◌≡◌, ℕ, suc, ◌+◌, ◌<◌, false, List, [], ◌∷◌, ◌++◌, length, take, drop, refl, ap, ◌∙◌, sym}
 use Rattle.std.proofs.Common.{subst, arith, append_assoc, drop-cons, get_or}
-use Rattle.enc_units.specs.Output.{Output, AreScalars, with_appended, units_of_text}
-use Rattle.enc_units.specs.Pieces.{Piece, piece_chars, EachMeansChar, PutsPieces, piece_bytes}
-use Rattle.enc_units.specs.Pieces as piece
+use Rattle.enc_output.specs.Output.{Output, with_appended}
+use Rattle.enc_utf8.specs.Text.{AreScalars, units_of_text}
+use Rattle.enc_utf8.specs.Pieces.{Piece, piece_chars, EachMeansChar, piece_bytes}
+use Rattle.enc_output.specs.PieceRuns.{PutsPieces}
+use Rattle.enc_utf8.specs.Pieces as piece
 use Rattle.enc_decoder.specs.declared.byte_codec.Kind.TheVariants.{Valid}
 use Rattle.enc_decoder.specs.Sequence.{Sequence, sequence_bytes, sequence_text, any_malformed, set_after}
 use Rattle.enc_decoder.specs.Segmentation.{Rule, sequences_of}

@@ -3,7 +3,8 @@ use Rattle.std.proofs.Common.{◌≡◌, ℕ, ◌+◌, ◌<◌, ◌≤◌, true,
 use Rattle.std.proofs.Common.{◌∙◌, sym, subst, arith, append-nil, length-drop}
 use Rattle.std.proofs.Common.{nat_le}
 use Rattle.std.proofs.lemmas.Bool.{leb-true}
-use Rattle.enc_units.specs.Output.{Output, AreScalars, with_appended}
+use Rattle.enc_output.specs.Output.{Output, with_appended}
+use Rattle.enc_utf8.specs.Text.{AreScalars}
 use Rattle.enc_decoder.specs.declared.byte_codec.Kind.{Kind}
 use Rattle.enc_decoder.specs.Sequence.{Sequence}
 use Rattle.enc_decoder.specs.Segmentation.{Rule, sequences_of}

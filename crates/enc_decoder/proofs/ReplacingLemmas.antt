@@ -2,10 +2,10 @@
 use Rattle.std.proofs.Common.{◌≡◌, ℕ, ◌+◌, ◌-◌, ◌<◌, true, false, List, length, drop, refl}
 use Rattle.std.proofs.Common.{ap, ◌∙◌, sym, arith, subst, nat_le, length-drop, ◌||◌}
 use Rattle.std.proofs.lemmas.Bool.{false≢true, le-leb}
-use Rattle.enc_units.specs.declared.decoder_result.DecoderResult.{DecoderResult}
-use Rattle.enc_units.specs.declared.decoder_result.DecoderResult.TheVariants.{Malformed}
-use Rattle.enc_units.specs.Output.{Output, with_appended}
-use Rattle.enc_units.proofs.OutputLemmas.{with_appended-with_appended, room_left}
+use Rattle.enc_output.specs.declared.decoder_result.DecoderResult.{DecoderResult}
+use Rattle.enc_output.specs.declared.decoder_result.DecoderResult.TheVariants.{Malformed}
+use Rattle.enc_output.specs.Output.{Output, with_appended}
+use Rattle.enc_output.proofs.OutputLemmas.{with_appended-with_appended, room_left}
 use Rattle.enc_decoder.specs.Sequence.{any_malformed}
 use Rattle.enc_decoder.specs.Remainder.{Remainder}
 use Rattle.enc_decoder.specs.Call.{DecoderCallInto, Replacement, Fatal, is_replacement_mode, keeps_room}

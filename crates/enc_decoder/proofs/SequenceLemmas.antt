@@ -3,9 +3,9 @@ use Rattle.std.proofs.Common.{◌≡◌, ℕ, List, [], ◌∷◌, ◌++◌, ref
 use Rattle.std.proofs.Common.{◌||◌}
 use Rattle.std.proofs.lemmas.List.{append-nil}
 pub use Rattle.std.proofs.Math.Bool.{or_assoc, or-false as or_false, or-true as or_true}
-use Rattle.enc_units.specs.Output.{AreScalars, units_of_text}
+use Rattle.enc_utf8.specs.Text.{AreScalars, units_of_text}
 use Rattle.enc_decoder.specs.Sequence.{Sequence, sequence_bytes, sequence_text, is_malformed, any_malformed, set_after}
-use Rattle.enc_units.proofs.ScalarLemmas.{scalars-append}
+use Rattle.enc_utf8.proofs.ScalarLemmas.{scalars-append}
 
 pub sequence_bytes-append : (ss ts : List Sequence)
     → sequence_bytes (ss ++ ts) ≡ sequence_bytes ss ++ sequence_bytes ts

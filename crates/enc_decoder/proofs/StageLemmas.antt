@@ -2,9 +2,9 @@
 use Rattle.std.proofs.Common.{◌≡◌, ℕ, ◌+◌, ◌-◌, ◌≤◌, Bool, false, List, [], ◌++◌, length, refl, ap, ◌∙◌, sym}
 use Rattle.std.proofs.Common.{arith, ◌||◌, drop}
 use Rattle.std.proofs.lemmas.List.{length-append}
-use Rattle.enc_units.specs.declared.decoder_result.DecoderResult.{DecoderResult}
-use Rattle.enc_units.specs.declared.decoder_result.DecoderResult.TheVariants.{InputEmpty, OutputFull, Malformed}
-use Rattle.enc_units.specs.Output.{AreScalars, units_of_text}
+use Rattle.enc_output.specs.declared.decoder_result.DecoderResult.{DecoderResult}
+use Rattle.enc_output.specs.declared.decoder_result.DecoderResult.TheVariants.{InputEmpty, OutputFull, Malformed}
+use Rattle.enc_utf8.specs.Text.{AreScalars, units_of_text}
 use Rattle.enc_decoder.specs.Sequence.{Sequence, sequence_text, any_malformed, is_malformed}
 use Rattle.enc_decoder.specs.Call.{DecodeErrorMode, is_replacement_mode, keeps_room}
 use Rattle.enc_decoder.specs.CallRecord.{Call, IsCall}

@@ -3,8 +3,9 @@ use Rattle.std.proofs.Common.{◌≡◌, ℕ, zero, suc, ◌+◌, ◌<◌, List,
 use Rattle.std.proofs.Common.{drop, refl, ap, ◌∙◌, sym, subst, arith, append_assoc, length-append}
 use Rattle.std.proofs.Common.{length-drop, take-add, drop-cons, get_or-drop, inl, inr}
 use Rattle.std.proofs.lemmas.Bool.{cases_lt}
-use Rattle.enc_units.specs.Output.{Output, units_of_text}
-use Rattle.enc_units.proofs.OutputLemmas.{with_appended-nil, with_appended-with_appended, room_left}
+use Rattle.enc_output.specs.Output.{Output}
+use Rattle.enc_utf8.specs.Text.{units_of_text}
+use Rattle.enc_output.proofs.OutputLemmas.{with_appended-nil, with_appended-with_appended, room_left}
 use Rattle.enc_decoder.specs.Sequence.{sequence_text, set_after}
 use Rattle.enc_decoder.specs.CodecState.{CodecState}
 use Rattle.enc_decoder.specs.CodecLaw.{MayFollow}

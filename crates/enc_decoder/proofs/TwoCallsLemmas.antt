@@ -3,8 +3,8 @@ use Rattle.std.proofs.Common.{◌≡◌, ℕ, ◌+◌, Bool, true, false, List, 
 use Rattle.std.proofs.Common.{sym, arith, subst, inl, inr, ◌⊎◌, ◌||◌}
 use Rattle.std.proofs.lemmas.Bool.{false≢true}
 use Rattle.std.proofs.lemmas.List.{append-nil, drop-append-le, take-append-le}
-use Rattle.enc_units.specs.declared.decoder_result.DecoderResult.{DecoderResult}
-use Rattle.enc_units.specs.declared.decoder_result.DecoderResult.TheVariants.{InputEmpty, OutputFull, Malformed}
+use Rattle.enc_output.specs.declared.decoder_result.DecoderResult.{DecoderResult}
+use Rattle.enc_output.specs.declared.decoder_result.DecoderResult.TheVariants.{InputEmpty, OutputFull, Malformed}
 use Rattle.enc_decoder.specs.Sequence.{Sequence}
 use Rattle.enc_decoder.specs.Remainder.{Remainder, AreBytes}
 use Rattle.enc_decoder.specs.Call.{DecodeErrorMode, is_replacement_mode}

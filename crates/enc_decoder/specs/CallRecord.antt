@@ -1,7 +1,7 @@
 -- A call as one record: what it is given, and what it does.
 use Rattle.std.specs.Prelude.{ℕ, Bool, List}
-use Rattle.enc_units.specs.declared.decoder_result.DecoderResult.{DecoderResult}
-use Rattle.enc_units.specs.Output.{Output}
+use Rattle.enc_output.specs.declared.decoder_result.DecoderResult.{DecoderResult}
+use Rattle.enc_output.specs.Output.{Output}
 use Rattle.enc_decoder.specs.Remainder.{Remainder}
 use Rattle.enc_decoder.specs.Call.{DecoderCall, RawDecoderCall, DecoderCallInto, DecodeErrorMode}
 

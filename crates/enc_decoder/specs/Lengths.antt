@@ -1,6 +1,6 @@
 -- The lengths to allocate for a decoder's text: checked formulas, by the kind of codec.
 use Rattle.std.specs.Prelude.{ℕ, Option, Some}
-use Rattle.enc_units.specs.Checked.{checked_add, checked_mul, checked_half}
+use Rattle.enc_utf8.specs.Checked.{checked_add, checked_mul, checked_half}
 use Rattle.enc_decoder.specs.declared.text_lengths.TextLengths.{TextLengths}
 use Rattle.enc_decoder.specs.declared.text_lengths.TextLengths.TheVariants.{Utf8, Utf16, OneByte, Replacement}
 use Rattle.enc_decoder.specs.declared.text_lengths.TextLengths.TheVariants.{MultiByte}

@@ -2,13 +2,14 @@
 -- queue", with a bounded output).
 use Rattle.std.specs.Prelude.{◌≡◌, ◌↔◌, ℕ, ◌+◌, ◌-◌, ◌<◌, ◌≤◌, Bool, true, false, Option, Some, List, [], ◌∷◌, length}
 use Rattle.std.specs.Prelude.{drop, if◌then◌else◌}
-use Rattle.enc_units.specs.declared.decoder_result.DecoderResult.{DecoderResult}
-use Rattle.enc_units.specs.declared.decoder_result.DecoderResult.TheVariants.{InputEmpty, OutputFull}
-use Rattle.enc_units.specs.declared.decoder_result.DecoderResult.TheVariants as stop
+use Rattle.enc_output.specs.declared.decoder_result.DecoderResult.{DecoderResult}
+use Rattle.enc_output.specs.declared.decoder_result.DecoderResult.TheVariants.{InputEmpty, OutputFull}
+use Rattle.enc_output.specs.declared.decoder_result.DecoderResult.TheVariants as stop
 use Rattle.enc_decoder.specs.declared.text_lengths.TextLengths.{TextLengths}
 use Rattle.std.specs.Char.{encode_utf8}
 use Rattle.std.specs.Char.Escape.{encode_utf16}
-use Rattle.enc_units.specs.Output.{Output, units_of_text}
+use Rattle.enc_output.specs.Output.{Output}
+use Rattle.enc_utf8.specs.Text.{units_of_text}
 use Rattle.enc_decoder.specs.Sequence.{Sequence, is_malformed, sequence_text}
 use Rattle.enc_decoder.specs.Remainder.{Remainder, AreBytes, AreDetermined}
 use Rattle.enc_decoder.specs.CodecState.{CodecState, remainder_of}

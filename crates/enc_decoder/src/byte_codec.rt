@@ -7,7 +7,7 @@ ghost use Rattle.enc_decoder.specs.Taking.{TakesRun, IsReplacedCharAt};
 ghost use Rattle.enc_decoder.specs.declared.byte_codec.HandlerResult.TheVariants as steps;
 ghost use Rattle.enc_decoder.specs.Sequence.{is_malformed as malformed_kind};
 
-use enc_units::Units;
+use enc_output::Units;
 
 /// The kind of a sequence.
 #[derive(Clone, Copy, PartialEq, Eq, Debug)]

@@ -9,7 +9,7 @@ ghost use Rattle.enc_decoder.specs.Replacing.{replaces, decode_error_mode};
 use crate::RawDecoder;
 use crate::error_mode::{CallOptions, ErrorMode};
 use crate::outcome::{DecoderOutcome, HeldFirstOutcome};
-use enc_units::{DecoderResult, Units};
+use enc_output::{DecoderResult, Units};
 
 /// A call of a decoder in either error mode.
 ///

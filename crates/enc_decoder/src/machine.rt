@@ -2,7 +2,8 @@
 
 ghost use Rattle.std.specs.Prelude.{◌≡◌, ◌<◌, ◌≤◌, Bool, true, false, length, nat_le, IsTrue};
 ghost use Rattle.std.specs.Prelude.{IsFalse};
-ghost use Rattle.enc_units.specs.Output.{AreScalars, with_appended, units_of_text};
+ghost use Rattle.enc_utf8.specs.Text.{AreScalars, units_of_text};
+ghost use Rattle.enc_output.specs.Output.{with_appended};
 ghost use Rattle.enc_decoder.specs.CodecState.{remainder_of};
 ghost use Rattle.enc_decoder.specs.CodecLaw.{IsNextEvent, text_chars, lone_fault};
 ghost use Rattle.enc_decoder.specs.declared.machine.NextEvent.TheVariants as comings;
@@ -14,7 +15,7 @@ ghost use Rattle.enc_decoder.specs.Sequence.{is_malformed as malformed_kind};
 use crate::byte_codec::{ByteCodec, Emission, HandlerResult, Kind, Text};
 use crate::error_mode::ErrorMode;
 use crate::outcome::DecoderStop;
-use enc_units::{DecoderResult, Units};
+use enc_output::{DecoderResult, Units};
 
 /// The next event of a call.
 #[derive(Clone, Copy)]

@@ -1,6 +1,6 @@
 //! The outcomes of calls.
 
-use enc_units::DecoderResult;
+use enc_output::DecoderResult;
 
 /// The outcome of a call up to a malformed sequence.
 #[derive(Clone, Copy, Debug, PartialEq, Eq)]

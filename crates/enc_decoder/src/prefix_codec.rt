@@ -9,7 +9,7 @@ ghost use Rattle.enc_decoder.specs.CodecLaw.{IsNextOfPending, HandlesByte};
 ghost use Rattle.enc_decoder.specs.Taking.{IsWholeChar, IsReplacedCharAt};
 ghost use Rattle.enc_decoder.specs.Latin1.{HasNoByteSequences};
 ghost use Rattle.enc_decoder.specs.Need.{AreEnoughForCodec};
-ghost use Rattle.enc_units.specs.Pieces.{PutsPieces};
+ghost use Rattle.enc_output.specs.PieceRuns.{PutsPieces};
 
 use crate::byte_codec::{ByteCodec, Emission, HandlerResult, Kind, Text};
 use crate::error_mode::ErrorMode;
@@ -21,7 +21,7 @@ use crate::prefix::Prefix;
 use crate::raw_decoder::RawDecoder;
 use crate::replaced::replace_each;
 use crate::text_lengths::TextLengths;
-use enc_units::Units;
+use enc_output::Units;
 
 /// A decoder of an encoding by the kinds of prefixes.
 ///

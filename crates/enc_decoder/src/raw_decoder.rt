@@ -14,7 +14,7 @@ ghost use Rattle.enc_decoder.specs.declared.text_lengths.TextLengths.{TextLength
 use crate::error_mode::ErrorMode;
 use crate::outcome::{DecoderOutcome, DecoderStop};
 use crate::text_lengths::TextLengths;
-use enc_units::{DecoderResult, Units};
+use enc_output::{DecoderResult, Units};
 
 /// A decoder of one encoding, which looks for no byte order mark (Encoding Standard 4.1).
 ///

@@ -4,7 +4,7 @@ ghost use Rattle.std.specs.Prelude.{◌≡◌, []};
 ghost use Rattle.enc_decoder.specs.Taking.{TakesSequences};
 
 use crate::byte_codec::ByteCodec;
-use enc_units::Units;
+use enc_output::Units;
 
 /// The number of characters in a row after which malformed sequences are no longer expected.
 const CALM: usize = 16;

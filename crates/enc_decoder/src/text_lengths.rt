@@ -1,7 +1,7 @@
 //! The lengths to allocate for a text.
 
 ghost use Rattle.std.specs.Prelude.{◌≡◌, Some};
-ghost use Rattle.enc_units.specs.Checked.{checked_add, checked_half};
+ghost use Rattle.enc_utf8.specs.Checked.{checked_add, checked_half};
 ghost use Rattle.enc_decoder.specs.Lengths.{utf_8_length, reporting_length, utf_16_length};
 
 /// The formulas for the lengths to allocate for a text, by the kind of codec.

@@ -6,12 +6,12 @@ use Rattle.std.proofs.lemmas.List.{take-append-drop}
 use Rattle.std.proofs.lemmas.Bool.{lt-ltb, ne_eqb}
 use Rattle.std.specs.Prelude.{◌≢◌}
 use Rattle.std.specs.Option.{IfSome}
-use Rattle.enc_units.specs.Output.{Output}
-use Rattle.enc_units.specs.Pieces.{PutsPieces, piece_chars}
-use Rattle.enc_units.proofs.OutputLemmas.{with_appended-nil}
-use Rattle.enc_units.proofs.PiecesLemmas.{puts_wider}
-use Rattle.enc_units.specs.Mappings.{AreWrittenAsThemselves}
-use Rattle.enc_units.specs.Validity.{AreIso2022JpAscii}
+use Rattle.enc_output.specs.Output.{Output}
+use Rattle.enc_output.specs.PieceRuns.{PutsPieces}
+use Rattle.enc_utf8.specs.Pieces.{piece_chars, AreWrittenAsThemselves}
+use Rattle.enc_output.proofs.OutputLemmas.{with_appended-nil}
+use Rattle.enc_output.proofs.PiecesLemmas.{puts_wider}
+use Rattle.enc_utf8.specs.Validity.{AreIso2022JpAscii}
 use Rattle.enc_decoder.specs.declared.byte_codec.Kind.TheVariants.{Skipped}
 use Rattle.enc_decoder_iso_2022_jp.specs.declared.character_set.CharacterSet.{CharacterSet}
 use Rattle.enc_decoder_iso_2022_jp.specs.declared.character_set.CharacterSet.TheVariants.{Ascii, Roman, Katakana}

@@ -9,8 +9,8 @@ use Rattle.enc_index.specs.Grid.{IsPlaceOf}
 use Rattle.enc_index.specs.Runs.{jis0208_at}
 use Rattle.enc_index.proofs.Tables.Jis0208.{has_no_more}
 use Rattle.enc_index.proofs.PlaceLemmas.{pair_place, places_of}
-use Rattle.enc_units.specs.Pairs.{byte_or_pair}
-use Rattle.enc_units.specs.Places.{has_bit, number_in}
+use Rattle.enc_output.specs.Pairs.{byte_or_pair}
+use Rattle.enc_output.specs.Places.{has_bit, number_in}
 use Rattle.enc_decoder_iso_2022_jp.specs.declared.character_set.CharacterSet.{CharacterSet}
 use Rattle.enc_decoder_iso_2022_jp.specs.declared.character_set.CharacterSet.TheVariants.{Jis0208 as InPairs}
 use Rattle.enc_decoder_iso_2022_jp.specs.Iso2022Jp.{is_jis0208_byte, two_byte_char, is_lead_byte, set_number}

@@ -14,7 +14,7 @@ use enc_decoder::{
     ByteCodec, DecoderStop, Emission, ErrorMode, HandlerResult, RawDecoder, TextLengths,
     latin1_up_to, report_or_run,
 };
-use enc_units::{Pieces, Units, put_run};
+use enc_output::{Pieces, Units, put_run};
 use std::marker::Model;
 
 /// The number of bytes that are read in a run with malformed ones, before the decoder looks again

@@ -9,7 +9,7 @@ ghost use Rattle.enc_decoder_iso_2022_jp.specs.Iso2022Jp.{two_byte_char, IsJis02
 use crate::character_set::is_jis0208_byte;
 use enc_index::DoubleByteIndex;
 use enc_index::indexes::Jis0208Index;
-use enc_units::{numbers_in, places_at};
+use enc_output::{numbers_in, places_at};
 use std::simd::prelude::*;
 
 /// Returns the character of a lead byte and the byte after it.

@@ -6,7 +6,7 @@ ghost use Rattle.enc_index.specs.Grid.{HasWord};
 ghost use Rattle.enc_decoder_iso_2022_jp.specs.Iso2022JpReplaced.{replaced_ascii_char};
 
 use crate::replaced_bytes::{REPLACED_UNITS, REPLACED_WORDS};
-use enc_units::Pieces;
+use enc_output::Pieces;
 use std::simd::prelude::*;
 
 /// Finds the bytes in ASCII that are a character or malformed by themselves: all but 1B.

@@ -10,7 +10,8 @@ use crate::iso_2022_jp::{Iso2022JpDecoder, with_held};
 use crate::pairs::{char_of_pair, pair_places};
 use enc_index::DoubleByteIndex;
 use enc_index::indexes::Jis0208Index;
-use enc_units::{Pieces, Places, Units, unshifted_len};
+use enc_output::{Pieces, Places, Units};
+use enc_utf8::unshifted_len;
 use std::simd::prelude::*;
 
 /// Returns whether looking for a run pays: the first two bytes have no high bit set, as in all

@@ -7,7 +7,7 @@ use Rattle.enc_decoder.specs.Taking.{IsWholeChar}
 use Rattle.enc_index.specs.Grid.{Shape, IsPlaceOf}
 use Rattle.enc_index.proofs.GridLemmas.{grid_char-of_ascii}
 use Rattle.enc_index.proofs.PlaceLemmas.{places_of, same_some}
-use Rattle.enc_units.specs.Pairs.{byte_or_pair}
+use Rattle.enc_output.specs.Pairs.{byte_or_pair}
 use Rattle.enc_decoder.specs.declared.prefix.Prefix.{Prefix}
 use Rattle.enc_decoder.specs.declared.prefix.Prefix.TheVariants.{Complete, Incomplete}
 use Rattle.enc_decoder.specs.Prefixes.{prefix_rule, HasAscii}

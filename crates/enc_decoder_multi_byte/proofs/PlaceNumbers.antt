@@ -1,7 +1,7 @@
 -- The numbers of lead bytes and of trail bytes that encodings share.
 use Rattle.std.proofs.Common.{◌≡◌, ℕ, ◌+◌, ◌-◌, ◌<◌, true, cond, ◌&&◌, nat_le, nat_lt, ap, arith}
 use Rattle.std.proofs.lemmas.Bool.Decides.{nat_tests}
-use Rattle.enc_units.specs.Places.{number_in}
+use Rattle.enc_output.specs.Places.{number_in}
 
 -- a byte of a range has its number in the range
 pub range_number : (first last a other : ℕ)

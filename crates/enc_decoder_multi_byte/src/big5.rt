@@ -8,7 +8,7 @@ use crate::multi_byte::MultiByteDecoder;
 use enc_decoder::Text;
 use enc_index::DoubleByteIndex;
 use enc_index::indexes::Big5Index;
-use enc_units::{numbers_in, places_at};
+use enc_output::{numbers_in, places_at};
 use std::simd::prelude::*;
 
 /// Big5 (Encoding Standard 11.1): ASCII, and two bytes by index Big5.

@@ -12,7 +12,7 @@ use crate::multi_byte::{MultiByte, MultiByteDecoder};
 use enc_decoder::{Pending, Prefix};
 use enc_index::indexes::Jis0208Index;
 use enc_index::{DoubleByteIndex, List};
-use enc_units::{numbers_in, places_at};
+use enc_output::{numbers_in, places_at};
 use std::simd::prelude::*;
 
 /// EUC-JP (Encoding Standard 12.1): ASCII, half-width katakana after 8E, two bytes by index

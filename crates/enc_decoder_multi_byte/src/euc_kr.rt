@@ -7,7 +7,7 @@ use crate::multi_byte::MultiByteDecoder;
 use enc_decoder::Text;
 use enc_index::DoubleByteIndex;
 use enc_index::indexes::EucKrIndex;
-use enc_units::{numbers_in, places_at};
+use enc_output::{numbers_in, places_at};
 use std::simd::prelude::*;
 
 /// EUC-KR (Encoding Standard 13.1): ASCII, and two bytes by index EUC-KR.

@@ -11,7 +11,7 @@ use crate::multi_byte::{MultiByte, MultiByteDecoder};
 use enc_decoder::{Pending, Prefix, Text};
 use enc_index::indexes::Gb18030Index;
 use enc_index::{DoubleByteIndex, List};
-use enc_units::{numbers_in, places_at};
+use enc_output::{numbers_in, places_at};
 use std::simd::prelude::*;
 
 /// gb18030 (Encoding Standard 10.2), and GBK (10.1): ASCII and 80, two bytes by index gb18030, and

@@ -9,7 +9,7 @@ ghost use Rattle.enc_decoder_multi_byte.specs.MultiByte.{IsCharPair, IsMalformed
 use crate::encoding_laws::PrefixLaws;
 use enc_decoder::{Pending, Prefix, PrefixCodec, Text, TextLengths};
 use enc_index::DoubleByteIndex;
-use enc_units::{Pieces, Places, Units, put_run};
+use enc_output::{Pieces, Places, Units, put_run};
 use std::marker::PhantomData;
 use std::simd::prelude::*;
 

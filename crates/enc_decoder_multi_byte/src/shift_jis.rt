@@ -9,7 +9,7 @@ use crate::multi_byte::MultiByteDecoder;
 use enc_decoder::Text;
 use enc_index::DoubleByteIndex;
 use enc_index::indexes::Jis0208Index;
-use enc_units::{numbers_in, places_at};
+use enc_output::{numbers_in, places_at};
 use std::simd::prelude::*;
 
 /// Shift_JIS (Encoding Standard 12.3): ASCII and 80, half-width katakana, and two bytes by index

@@ -6,7 +6,7 @@ use Rattle.std.specs.Char.{IsScalar}
 use Rattle.enc_index.specs.Grid.{HasWord}
 use Rattle.enc_index.proofs.ByteEntries.{fits, bytes_fit, word_at, unit_at}
 use Rattle.enc_index.proofs.GridEntries.{grid_tests, is_word, is_unit}
-use Rattle.enc_units.specs.Pairs.{MeansWord, MeansUnit}
+use Rattle.enc_output.specs.Pairs.{MeansWord, MeansUnit}
 use Rattle.enc_decoder.specs.Taking.{IsWholeChar}
 use Rattle.enc_decoder_single_byte.specs.declared.user_defined_words.TheConstants.{USER_DEFINED_WORDS}
 use Rattle.enc_decoder_single_byte.specs.declared.user_defined_words.TheConstants.{USER_DEFINED_UNITS}

@@ -6,7 +6,7 @@ use enc_decoder::{
     ByteCodec, DecoderStop, Emission, ErrorMode, HandlerResult, Kind, RawDecoder, Text,
     TextLengths, run,
 };
-use enc_units::Units;
+use enc_output::Units;
 use std::marker::Model;
 
 /// The replacement decoder, for text that cannot be decoded safely (Encoding Standard 14.1).

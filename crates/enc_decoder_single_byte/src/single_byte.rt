@@ -12,7 +12,7 @@ use enc_decoder::{
     latin1_up_to, run,
 };
 use enc_index::SingleByteIndex;
-use enc_units::{Pieces, Units, put_run};
+use enc_output::{Pieces, Units, put_run};
 
 /// The decoder of a legacy single-byte encoding, by its index (Encoding Standard 9.1).
 ///

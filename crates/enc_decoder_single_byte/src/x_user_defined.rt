@@ -11,7 +11,7 @@ use enc_decoder::{
     ByteCodec, DecoderStop, Emission, ErrorMode, HandlerResult, RawDecoder, TextLengths,
     latin1_up_to, run,
 };
-use enc_units::{Pieces, Units, put_run};
+use enc_output::{Pieces, Units, put_run};
 
 /// The x-user-defined decoder (Encoding Standard 14.5).
 ///

@@ -5,7 +5,7 @@ use Rattle.std.proofs.Common.{drop-drop, subst, length-drop}
 use Rattle.std.proofs.Math.ListN.{drop_of_length-le}
 use Rattle.std.proofs.lemmas.Bool.Decides.{nat_tests}
 use Rattle.std.specs.Char.{encode_utf8}
-use Rattle.enc_units.specs.Output.{units_of_text}
+use Rattle.enc_utf8.specs.Text.{units_of_text}
 use Rattle.enc_decoder.specs.Sequence.{sequence_text, is_malformed, any_malformed}
 use Rattle.enc_decoder.specs.Segmentation.{Head, character_head, malformed_head, head_sequence, sequences_of}
 use Rattle.enc_decoder_utf.specs.Utf8.{sequence_len, is_continuation}

@@ -4,8 +4,8 @@ use Rattle.std.proofs.Common.{zero, length, drop, refl, ap, arith}
 use Rattle.std.proofs.lemmas.List.{length-append}
 use Rattle.std.specs.Char.{encode_utf8}
 use Rattle.std.specs.Char.Escape.{encode_utf16}
-use Rattle.enc_units.specs.Output.{units_of_text}
-use Rattle.enc_units.specs.Checked.{checked_add, checked_mul, checked_half}
+use Rattle.enc_utf8.specs.Text.{units_of_text}
+use Rattle.enc_utf8.specs.Checked.{checked_add, checked_mul, checked_half}
 use Rattle.enc_decoder.specs.Segmentation.{Head, Rule, head_sequence, sequences_of, sequences_after}
 use Rattle.enc_decoder.specs.Remainder.{AreBytes}
 use Rattle.enc_decoder.specs.CodecState.{CodecState, remainder_of}

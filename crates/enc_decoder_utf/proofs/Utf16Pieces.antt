@@ -2,7 +2,7 @@
 use Rattle.std.proofs.Common.{◌≡◌, ℕ, Bool, true, false, [], ◌∷◌, refl, arith}
 use Rattle.std.proofs.lemmas.Bool.Decides.{nat_tests}
 use Rattle.std.specs.Char.{IsScalar}
-use Rattle.enc_units.specs.CodeUnits.{AreCodeUnits, unit_of}
+use Rattle.enc_output.specs.CodeUnits.{AreCodeUnits, unit_of}
 use Rattle.enc_decoder_utf.specs.Utf16.{code_unit, is_lead_surrogate, is_trail_surrogate, pair_scalar, utf_16_rule}
 use Rattle.enc_decoder.specs.Taking.{IsWholeChar}
 use Rattle.enc_decoder.proofs.SegmentationLemmas.{sequences_of-head}

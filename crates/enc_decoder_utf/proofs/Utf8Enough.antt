@@ -6,8 +6,8 @@ use Rattle.std.proofs.lemmas.List.{length-append, length-take-le, take-append-dr
 use Rattle.std.proofs.lemmas.Str.{length-encode, len_utf8_bounds}
 use Rattle.std.specs.Char.{encode_utf8, len_utf8}
 use Rattle.std.specs.Char.Escape.{encode_utf16}
-use Rattle.enc_units.specs.Output.{units_of_text}
-use Rattle.enc_units.specs.Checked.{checked_add, checked_mul}
+use Rattle.enc_utf8.specs.Text.{units_of_text}
+use Rattle.enc_utf8.specs.Checked.{checked_add, checked_mul}
 use Rattle.enc_decoder.specs.Sequence.{Sequence, is_malformed}
 use Rattle.enc_decoder.specs.Segmentation.{head_sequence, sequences_after, sequences_of}
 use Rattle.enc_decoder.specs.CodecState.{CodecState}

@@ -5,7 +5,7 @@ use Rattle.std.proofs.Math.Utf8.{next, scalar_cases}
 use Rattle.std.proofs.str.Laws as laws
 use Rattle.std.proofs.lemmas.Bool.{cases_lt}
 use Rattle.std.proofs.lemmas.Bool.Decides.{nat_tests}
-use Rattle.enc_units.specs.Pieces.{IsUtf8Char}
+use Rattle.enc_utf8.specs.Pieces.{IsUtf8Char}
 use Rattle.enc_decoder_utf.specs.Utf8.{sequence_len, is_second_byte, is_continuation, scalar_of, utf_8_rule}
 use Rattle.enc_decoder.specs.Taking.{IsWholeChar}
 use Rattle.enc_decoder.specs.Prefixes.{prefix_rule}

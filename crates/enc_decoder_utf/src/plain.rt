@@ -7,7 +7,7 @@
 ghost use Rattle.std.specs.Prelude.{◌≡◌, ◌+◌, ◌<◌, ◌≤◌, [], ◌∷◌, ◌++◌, length, take, drop};
 ghost use Rattle.std.specs.Prelude.{slice_index, IfOk, OnOk};
 ghost use Rattle.std.specs.Char.{encode_utf8};
-ghost use Rattle.enc_units.specs.Output.{units_of_text};
+ghost use Rattle.enc_utf8.specs.Text.{units_of_text};
 ghost use Rattle.enc_decoder.specs.Sequence.{is_malformed as malformed_kind, sequence_text};
 ghost use Rattle.enc_decoder.specs.Sequence.{any_malformed};
 ghost use Rattle.enc_decoder.specs.Segmentation.{sequences_of};

@@ -9,7 +9,7 @@ ghost use Rattle.enc_decoder_utf.specs.Utf16State.{with_pending};
 ghost use Rattle.enc_decoder.specs.declared.prefix.Prefix.TheVariants.{Incomplete};
 
 use enc_decoder::{Pending, Prefix, PrefixCodec, Text, TextLengths};
-use enc_units::{Pieces, Units, put_run};
+use enc_output::{Pieces, Units, put_run};
 use std::marker::Model;
 
 /// The shared UTF-16 decoder (Encoding Standard 14.2), big-endian or little-endian.

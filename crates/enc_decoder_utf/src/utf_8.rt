@@ -8,7 +8,7 @@ ghost use Rattle.enc_decoder_utf.specs.Utf8.{utf_8_prefix};
 ghost use Rattle.enc_decoder.specs.declared.prefix.Prefix.TheVariants.{Incomplete};
 
 use enc_decoder::{Pending, Prefix, PrefixCodec, Text, TextLengths};
-use enc_units::Units;
+use enc_output::Units;
 use std::marker::Model;
 
 /// The UTF-8 decoder (Encoding Standard 8.1.1).

@@ -2,7 +2,7 @@
 use Rattle.std.proofs.Common.{ℕ, ◌+◌, ◌<◌, ◌≤◌, List, length, arith}
 use Rattle.std.specs.Char.{encode_utf8}
 use Rattle.std.specs.Char.Escape.{encode_utf16}
-use Rattle.enc_units.specs.Output.{units_of_text}
+use Rattle.enc_utf8.specs.Text.{units_of_text}
 use Rattle.enc_encoder.specs.declared.byte_lengths.ByteLengths.TheVariants.{Iso2022Jp}
 use Rattle.enc_encoder.specs.declared.character_set.CharacterSet.{CharacterSet}
 use Rattle.enc_encoder.specs.EncoderRule.{EncoderRule}

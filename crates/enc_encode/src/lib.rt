@@ -12,7 +12,7 @@ mod variant;
 pub use choice::{byte_lengths, has_encoder, new_encoder};
 pub use enc_encoder::{Barring, ByteLengths, CharacterSet, EncoderStop, RawEncoder};
 pub use enc_index::Codec;
-pub use enc_units::EncoderResult;
+pub use enc_input::EncoderResult;
 pub use encoders::big5::{Big5, Big5Encoder};
 pub use encoders::euc_jp::{EucJp, EucJpEncoder};
 pub use encoders::euc_kr::{EucKr, EucKrEncoder};

@@ -12,7 +12,7 @@ use crate::encoders::single_byte::SingleByteEncoder;
 use crate::encoders::utf_8::Utf8Encoder;
 use crate::encoders::x_user_defined::XUserDefinedEncoder;
 use enc_encoder::{ByteLengths, EncoderStop, RawEncoder};
-use enc_units::Chars;
+use enc_input::Chars;
 
 /// An encoder of any encoding. It does what the encoder in it does.
 #[derive(Clone, Copy)]

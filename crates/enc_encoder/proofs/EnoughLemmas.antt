@@ -8,8 +8,8 @@ use Rattle.std.proofs.lemmas.Nat.{mul-le}
 use Rattle.std.proofs.lemmas.Bool.{cases_lt}
 use Rattle.std.proofs.lemmas.Bool.Decides.{nat_tests}
 use Rattle.std.proofs.lemmas.Str.{length-encode, len_utf8_bounds}
-use Rattle.enc_units.specs.Output.{units_of_text}
-use Rattle.enc_units.specs.Checked.{checked_usize, checked_add, checked_mul}
+use Rattle.enc_utf8.specs.Text.{units_of_text}
+use Rattle.enc_utf8.specs.Checked.{checked_usize, checked_add, checked_mul}
 use Rattle.enc_encoder.specs.declared.byte_lengths.ByteLengths.{ByteLengths}
 use Rattle.enc_encoder.specs.declared.byte_lengths.ByteLengths.TheVariants.{Utf8, OneByte, TwoBytes, Gb18030, Iso2022Jp}
 use Rattle.enc_encoder.specs.declared.character_set.CharacterSet.{CharacterSet}

@@ -1,12 +1,12 @@
 -- What a character leads to, in an encoding with sets.
 use Rattle.std.proofs.Common.{◌≡◌, ℕ, Bool, true, false, Option, Some, None, List, [], ◌∷◌, refl, ap, sym}
-use Rattle.enc_units.specs.declared.bytes.Bytes.{Bytes}
+use Rattle.enc_input.specs.declared.bytes.Bytes.{Bytes}
 use Rattle.enc_encoder.specs.declared.character_set.CharacterSet.{CharacterSet}
 use Rattle.enc_encoder.specs.declared.character_set.CharacterSet.TheVariants.{Ascii}
 use Rattle.enc_encoder.specs.EncoderRule.{EncoderRule, RawEncoderState, is_escape_due}
 use Rattle.enc_encoder.specs.Text.{escape_sequence}
 use Rattle.enc_encoder.specs.Steps.{Step, steps_of, char_step, escape_step, first_written_char, steps_at_end}
-use Rattle.enc_units.specs.Bytes.{byte_list}
+use Rattle.enc_input.specs.Bytes.{byte_list}
 use Rattle.enc_encoder.specs.CharLaw.{IsNextStep, HandlesCharacter, report_unless_mapped, bytes_or_empty, AreBytesOf}
 use Rattle.enc_encoder.specs.CharLaw.{char_transition, escape_transition}
 use Rattle.enc_encoder.specs.CharLaw.{IsEscapeAtEnd}

@@ -9,7 +9,7 @@ use Rattle.enc_encoder.specs.declared.character_set.CharacterSet.{CharacterSet}
 use Rattle.enc_encoder.specs.EncoderRule.{EncoderRule, RawEncoderState, set_for}
 use Rattle.enc_encoder.specs.Steps.{Step, char_step, first_written_char, escape_steps_before, steps_of}
 use Rattle.enc_encoder.specs.Steps.{steps_from_state, step_chars, set_after_steps}
-use Rattle.enc_units.specs.declared.encoder_result.EncoderResult.{EncoderResult}
+use Rattle.enc_input.specs.declared.encoder_result.EncoderResult.{EncoderResult}
 use Rattle.enc_encoder.specs.Call.{EncoderCall}
 use Rattle.enc_encoder.specs.ErrorMode.{CallInMode, IsCallInMode}
 use Rattle.enc_encoder.specs.Writes.{Leaves, Adds, Place, Writes}

@@ -2,8 +2,8 @@
 use Rattle.std.proofs.Common.{◌≡◌, ℕ, ◌+◌, ◌≤◌, Bool, true, false, None, List, [], ◌∷◌, ◌++◌, length, refl, ap}
 use Rattle.std.proofs.Common.{◌∙◌, arith, append_assoc, append-nil, length-append}
 use Rattle.enc_encoder.specs.declared.character_set.CharacterSet.TheVariants.{Ascii}
-use Rattle.enc_units.specs.declared.encoder_result.EncoderResult.{EncoderResult}
-use Rattle.enc_units.specs.declared.encoder_result.EncoderResult.TheVariants.{InputEmpty, OutputFull, Unmappable}
+use Rattle.enc_input.specs.declared.encoder_result.EncoderResult.{EncoderResult}
+use Rattle.enc_input.specs.declared.encoder_result.EncoderResult.TheVariants.{InputEmpty, OutputFull, Unmappable}
 use Rattle.enc_encoder.specs.EncoderRule.{RawEncoderState}
 use Rattle.enc_encoder.specs.Steps.{Step, steps_of, steps_from_state, step_bytes, any_reported, steps_at_end}
 use Rattle.enc_encoder.specs.Call.{EncoderCall, AtUnmappable}

@@ -1,9 +1,9 @@
 -- Why a call that writes references stops.
 use Rattle.std.proofs.Common.{◌≡◌, ℕ, ◌-◌, ◌<◌, ◌≤◌, inl, inr, Bool, true, false, List, [], length}
 use Rattle.std.proofs.Common.{refl, ap, sym, subst, arith, append-nil}
-use Rattle.enc_units.specs.Output.{units_of_text}
-use Rattle.enc_units.specs.declared.encoder_result.EncoderResult.{EncoderResult}
-use Rattle.enc_units.specs.declared.encoder_result.EncoderResult.TheVariants.{InputEmpty, OutputFull, Unmappable}
+use Rattle.enc_utf8.specs.Text.{units_of_text}
+use Rattle.enc_input.specs.declared.encoder_result.EncoderResult.{EncoderResult}
+use Rattle.enc_input.specs.declared.encoder_result.EncoderResult.TheVariants.{InputEmpty, OutputFull, Unmappable}
 use Rattle.enc_encoder.specs.EncoderRule.{RawEncoderState, IsLawfulEncoderRule}
 use Rattle.enc_encoder.specs.Text.{reference, reference_after}
 use Rattle.enc_encoder.specs.Steps.{Step, step_chars, bytes_with_references}

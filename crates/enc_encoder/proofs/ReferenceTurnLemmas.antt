@@ -5,8 +5,8 @@ use Rattle.std.proofs.Common.{◌++◌, length, take, drop, refl, ap, ◌∙◌,
 use Rattle.std.proofs.Common.{length-drop}
 use Rattle.std.proofs.lemmas.List.{length-take}
 use borrow.Rule.Slice.PartMut.{put_mid}
-use Rattle.enc_units.specs.declared.encoder_result.EncoderResult.{EncoderResult}
-use Rattle.enc_units.specs.declared.encoder_result.EncoderResult.TheVariants.{Unmappable}
+use Rattle.enc_input.specs.declared.encoder_result.EncoderResult.{EncoderResult}
+use Rattle.enc_input.specs.declared.encoder_result.EncoderResult.TheVariants.{Unmappable}
 use Rattle.enc_encoder.specs.Text.{reference, reference_after}
 use Rattle.enc_encoder.specs.Steps.{Step, any_reported, bytes_with_references}
 use Rattle.enc_encoder.specs.Writes.{Leaves, Adds, Place, place}

@@ -1,9 +1,9 @@
 -- Runs of characters that the designated character set has are steps.
 use Rattle.std.proofs.Common.{◌≡◌, ℕ, ◌≤◌, Bool, false, None, List, [], ◌∷◌, ◌++◌, length, refl, ap, ◌∙◌, sym, subst}
 use Rattle.std.proofs.Common.{arith, length-append}
-use Rattle.enc_units.specs.Pieces.{Piece, EachMeansChar}
-use Rattle.enc_units.specs.Pieces as pieces
-use Rattle.enc_units.specs.Mappings.{WritesMapped}
+use Rattle.enc_utf8.specs.Pieces.{Piece, EachMeansChar}
+use Rattle.enc_utf8.specs.Pieces as pieces
+use Rattle.enc_input.specs.Mappings.{WritesMapped}
 use Rattle.enc_encoder.specs.declared.character_set.CharacterSet.{CharacterSet}
 use Rattle.enc_encoder.specs.EncoderRule.{EncoderRule, RawEncoderState}
 use Rattle.enc_encoder.specs.Steps.{Step, steps_of, steps_from_state, step_chars, step_bytes, any_reported}

@@ -3,7 +3,7 @@
 use Rattle.std.proofs.Common.{◌≡◌, ℕ, Bool, true, false, not, ◌||◌, Option, Some, None, is_some, List, [], ◌∷◌, ◌++◌}
 use Rattle.std.proofs.Common.{refl, ap, ◌∙◌, sym, if◌then◌else◌, append-nil}
 use Rattle.std.proofs.lemmas.List.{append_cancel_right}
-use Rattle.enc_units.specs.declared.encoder_result.EncoderResult.TheVariants.{Unmappable}
+use Rattle.enc_input.specs.declared.encoder_result.EncoderResult.TheVariants.{Unmappable}
 use Rattle.enc_encoder.specs.declared.character_set.CharacterSet.{CharacterSet}
 use Rattle.enc_encoder.specs.declared.character_set.CharacterSet.TheVariants.{Ascii}
 use Rattle.enc_encoder.specs.EncoderRule.{EncoderRule, RawEncoderState, set_for}

@@ -1,7 +1,7 @@
 -- The law of an encoder that takes one character at a time.
 use Rattle.std.specs.Prelude.{◌≡◌, ◌≢◌, ℕ, Bool, true, false, Option, Some, None, List, [], ◌∷◌, take, drop}
-use Rattle.enc_units.specs.declared.bytes.Bytes.{Bytes}
-use Rattle.enc_units.specs.Bytes.{byte_list}
+use Rattle.enc_input.specs.declared.bytes.Bytes.{Bytes}
+use Rattle.enc_input.specs.Bytes.{byte_list}
 use Rattle.enc_encoder.specs.declared.transition.Transition.{Transition}
 use Rattle.enc_encoder.specs.declared.character_set.CharacterSet.TheVariants.{Ascii}
 use Rattle.enc_encoder.specs.EncoderRule.{RawEncoderState, is_escape_due}

@@ -2,9 +2,9 @@
 -- Standard 4.1, "process an item", error modes "fatal" and "html").
 use Rattle.std.specs.Prelude.{◌≡◌, ℕ, ◌+◌, ◌-◌, ◌<◌, ◌≤◌, ◌⊎◌, Bool, true, false, not, ◌&&◌, Option, Some, None}
 use Rattle.std.specs.Prelude.{is_some, List, [], ◌∷◌, ◌++◌, length}
-use Rattle.enc_units.specs.Output.{units_of_text}
-use Rattle.enc_units.specs.declared.encoder_result.EncoderResult.{EncoderResult}
-use Rattle.enc_units.specs.declared.encoder_result.EncoderResult.TheVariants.{InputEmpty, OutputFull, Unmappable}
+use Rattle.enc_utf8.specs.Text.{units_of_text}
+use Rattle.enc_input.specs.declared.encoder_result.EncoderResult.{EncoderResult}
+use Rattle.enc_input.specs.declared.encoder_result.EncoderResult.TheVariants.{InputEmpty, OutputFull, Unmappable}
 use Rattle.enc_encoder.specs.declared.error_mode.ErrorMode.{ErrorMode}
 use Rattle.enc_encoder.specs.declared.error_mode.ErrorMode.TheVariants as mode
 use Rattle.enc_encoder.specs.EncoderRule.{EncoderRule, RawEncoderState, is_escape_due}

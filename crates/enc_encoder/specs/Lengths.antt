@@ -1,6 +1,6 @@
 -- The lengths to allocate for an encoder's bytes: checked formulas, by the kind of encoding.
 use Rattle.std.specs.Prelude.{ℕ, Option, Some}
-use Rattle.enc_units.specs.Checked.{checked_add, checked_mul}
+use Rattle.enc_utf8.specs.Checked.{checked_add, checked_mul}
 use Rattle.enc_encoder.specs.declared.byte_lengths.ByteLengths.{ByteLengths}
 use Rattle.enc_encoder.specs.declared.byte_lengths.ByteLengths.TheVariants.{Utf8, OneByte, TwoBytes, Gb18030, Iso2022Jp}
 

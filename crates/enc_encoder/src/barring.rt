@@ -5,7 +5,7 @@ ghost use Rattle.enc_encoder.specs.Barring.{contains_char, is_barred as wanted_b
 
 use crate::byte_lengths::ByteLengths;
 use crate::stateless::Repertoire;
-use enc_units::Bytes;
+use enc_input::Bytes;
 
 /// An encoding with barred characters, which have no bytes.
 ///

@@ -6,7 +6,7 @@ ghost use Rattle.enc_encoder.specs.CharLaw.{AreBytesOf, IsEscapeBefore, IsEscape
 ghost use Rattle.enc_encoder.specs.Runs.{WritesRun};
 
 use crate::character_set::CharacterSet;
-use enc_units::{Bytes, Chars};
+use enc_input::{Bytes, Chars};
 
 /// An encoder as a value: its rule, and the designated character set.
 pub trait CharEncoder: Copy {

@@ -2,7 +2,7 @@
 
 ghost use Rattle.std.specs.Prelude.{◌≡◌, ℕ, ◌+◌, ◌-◌, ◌<◌, ◌≤◌, ◌++◌, length, take, drop};
 ghost use Rattle.std.specs.Prelude.{IsTrue, IsFalse};
-ghost use Rattle.enc_units.specs.Bytes.{byte_list};
+ghost use Rattle.enc_input.specs.Bytes.{byte_list};
 ghost use Rattle.enc_encoder.specs.CharLaw.{IsStepAtEnd, IsNextStepOfCall};
 ghost use Rattle.enc_encoder.specs.Call.{EncoderCallInto};
 ghost use Rattle.enc_encoder.specs.Writes.{place};
@@ -14,7 +14,7 @@ use crate::character_set::CharacterSet;
 use crate::outcome::EncoderStop;
 use crate::transition::Transition;
 use crate::transitions::{first_written_char, take_char, take_escape};
-use enc_units::{Bytes, Chars, EncoderResult};
+use enc_input::{Bytes, Chars, EncoderResult};
 
 /// Returns the step at the end of the text, if there is one.
 fn step_at_end<E: CharEncoder>(encoder: E) -> Option<Transition<E>>

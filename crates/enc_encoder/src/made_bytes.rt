@@ -1,11 +1,11 @@
 //! Lists of no, one, two and four bytes, and escape sequences.
 
 ghost use Rattle.std.specs.Prelude.{◌≡◌, [], ◌∷◌};
-ghost use Rattle.enc_units.specs.Bytes.{byte_list};
+ghost use Rattle.enc_input.specs.Bytes.{byte_list};
 ghost use Rattle.enc_encoder.specs.Text.{escape_sequence as escape_bytes};
 
 use crate::character_set::CharacterSet;
-use enc_units::Bytes;
+use enc_input::Bytes;
 
 /// Returns no byte.
 #[inline(always)]

@@ -1,6 +1,6 @@
 //! What a call of an encoder returns.
 
-use enc_units::EncoderResult;
+use enc_input::EncoderResult;
 
 /// The outcome of a call up to an unmappable character.
 #[derive(Clone, Copy)]

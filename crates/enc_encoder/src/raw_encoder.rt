@@ -11,7 +11,7 @@ ghost use Rattle.enc_encoder.specs.declared.byte_lengths.ByteLengths.{ByteLength
 
 use crate::byte_lengths::ByteLengths;
 use crate::outcome::EncoderStop;
-use enc_units::Chars;
+use enc_input::Chars;
 
 /// An encoder of one encoding (Encoding Standard 4.1).
 ///

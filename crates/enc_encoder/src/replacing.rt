@@ -11,7 +11,7 @@ use crate::error_mode::ErrorMode;
 use crate::outcome::EncoderOutcome;
 use crate::raw_encoder::RawEncoder;
 use crate::reference::{LONGEST_REFERENCE, put_reference};
-use enc_units::{Chars, EncoderResult};
+use enc_input::{Chars, EncoderResult};
 
 /// Returns why a call stops when no more bytes fit, by whether something is left to do.
 fn full_result<E: RawEncoder, C: Chars>(encoder: &E, src: &C, last: bool) -> EncoderResult

@@ -14,7 +14,8 @@ use crate::machine::run;
 use crate::made_bytes::one;
 use crate::outcome::EncoderStop;
 use crate::raw_encoder::RawEncoder;
-use enc_units::{Bytes, Chars, Mapping, ascii_in};
+use enc_input::{Bytes, Chars, Mapping};
+use enc_utf8::ascii_in;
 use std::simd::prelude::*;
 
 /// An encoding without escape sequences, by the bytes of each character.

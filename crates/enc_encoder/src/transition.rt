@@ -1,6 +1,6 @@
 //! A step of a call.
 
-use enc_units::Bytes;
+use enc_input::Bytes;
 
 /// The next step of a call.
 #[derive(Clone, Copy)]

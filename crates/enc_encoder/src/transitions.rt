@@ -1,7 +1,7 @@
 //! The steps of a call.
 
 ghost use Rattle.std.specs.Prelude.{◌≡◌, ℕ, List, Option};
-ghost use Rattle.enc_units.specs.Bytes.{byte_list as bytes_in};
+ghost use Rattle.enc_input.specs.Bytes.{byte_list as bytes_in};
 ghost use Rattle.enc_encoder.specs.CharLaw.{bytes_or_empty, AreBytesOf};
 ghost use Rattle.enc_encoder.specs.CharLaw.{char_transition, escape_transition};
 ghost use Rattle.enc_encoder.specs.Text.{escape_sequence as escape_bytes};
@@ -10,7 +10,7 @@ ghost use Rattle.enc_encoder.specs.Steps.{first_written_char as wanted_first};
 use crate::character_set::CharacterSet;
 use crate::made_bytes::{escape, none};
 use crate::transition::Transition;
-use enc_units::Bytes;
+use enc_input::Bytes;
 
 /// Returns the step that writes `bytes`, or reports `reported` if there are none.
 #[inline(always)]

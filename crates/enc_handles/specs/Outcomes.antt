@@ -1,12 +1,12 @@
 -- The results of calls by numbers, and what the numbers stand for.
 use Rattle.std.specs.Prelude.{ℕ, zero, suc, ◌-◌, ◌/◌, ◌%◌, ◌^◌, ◌==◌, Option, Some, None, false}
 use Rattle.std.specs.Prelude.{option_map, if◌then◌else◌}
-use Rattle.enc_units.specs.declared.coder_result.CoderResult.{CoderResult}
-use Rattle.enc_units.specs.declared.coder_result.CoderResult.TheVariants as coder
-use Rattle.enc_units.specs.declared.decoder_result.DecoderResult.{DecoderResult}
-use Rattle.enc_units.specs.declared.decoder_result.DecoderResult.TheVariants as decoder
-use Rattle.enc_units.specs.declared.encoder_result.EncoderResult.{EncoderResult}
-use Rattle.enc_units.specs.declared.encoder_result.EncoderResult.TheVariants as encoder
+use Rattle.enc_utf8.specs.declared.coder_result.CoderResult.{CoderResult}
+use Rattle.enc_utf8.specs.declared.coder_result.CoderResult.TheVariants as coder
+use Rattle.enc_output.specs.declared.decoder_result.DecoderResult.{DecoderResult}
+use Rattle.enc_output.specs.declared.decoder_result.DecoderResult.TheVariants as decoder
+use Rattle.enc_input.specs.declared.encoder_result.EncoderResult.{EncoderResult}
+use Rattle.enc_input.specs.declared.encoder_result.EncoderResult.TheVariants as encoder
 use Rattle.enc_stream.specs.declared.encoding.Encoding.{Encoding}
 use Rattle.enc_stream.specs.Numbers.{encoding_of_number}
 use Rattle.enc_handles.specs.declared.outcome.Outcome.{Outcome}

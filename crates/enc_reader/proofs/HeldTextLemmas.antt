@@ -13,7 +13,7 @@ use Rattle.std.proofs.lemmas.Str.{IsUtf8-take, IsUtf8-drop, IsCharBoundary-after
 use Rattle.enc_decoder.proofs.FirstSequenceLemmas.{true_or_false}
 use Rattle.std.specs.Io.{StartsWith}
 use Rattle.std.specs.Io.KnownBytes.{Consumes, Keeps, IsAtEnd}
-use Rattle.enc_units.specs.Output.{units_of_text}
+use Rattle.enc_utf8.specs.Text.{units_of_text}
 use Rattle.enc_decoder.specs.Sequence.{Sequence, sequence_text}
 use Rattle.enc_decoder.proofs.SequenceLemmas.{units-append, or_false, or_assoc}
 use Rattle.enc_reader.specs.declared.decode_reader.ReadFault.{ReadFault}

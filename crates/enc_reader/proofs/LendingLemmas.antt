@@ -6,8 +6,8 @@ use Rattle.std.proofs.Math.ListN.{length-drop}
 use Rattle.std.proofs.lemmas.List.{length-take, take-append-drop, take-take}
 use Rattle.std.proofs.lemmas.Str.{chars_from_encodes, scalars-chars}
 use Rattle.std.specs.Char.{encode_utf8}
-use Rattle.enc_units.specs.Output.{AreScalars, units_of_text}
-use Rattle.enc_units.proofs.Utf8CharsLemmas.{their_units}
+use Rattle.enc_utf8.specs.Text.{AreScalars, units_of_text}
+use Rattle.enc_utf8.proofs.UnitsLemmas.{their_units}
 use Rattle.enc_decoder.specs.Remainder.{AreDetermined}
 use Rattle.enc_decoder.specs.Segmentation.{sequences_of}
 use Rattle.enc_decoder_utf.specs.Utf8.{utf_8_rule, is_incomplete_sequence}

@@ -7,7 +7,7 @@ use Rattle.std.proofs.lemmas.Bool.{cases_lt}
 use Rattle.std.proofs.lemmas.Bool.Decides.{nat_tests}
 use Rattle.std.proofs.Math.ListN.{length-drop}
 use Rattle.std.proofs.lemmas.List.{length-take, take-append-le}
-use Rattle.enc_units.specs.Validity.{AreAscii}
+use Rattle.enc_utf8.specs.Validity.{AreAscii}
 use Rattle.enc_decoder.specs.declared.byte_codec.Kind.TheVariants.{Valid}
 use Rattle.enc_decoder.specs.Sequence.{Sequence}
 use Rattle.enc_decoder.specs.Segmentation.{Rule, head_sequence, sequences_of}

@@ -5,16 +5,16 @@ use Rattle.std.proofs.Math.Seq.{take-length, drop-length}
 use Rattle.std.proofs.lemmas.Bool.{false≢true, false_from_ne_true}
 use Rattle.std.proofs.lemmas.List.{length-append, nil_from_length}
 use Rattle.std.specs.Char.{encode_utf8}
-use Rattle.enc_units.specs.Output.{units_of_text}
-use Rattle.enc_units.specs.declared.decoder_result.DecoderResult.{DecoderResult}
-use Rattle.enc_units.specs.declared.decoder_result.DecoderResult.TheVariants.{InputEmpty, OutputFull, Malformed}
+use Rattle.enc_utf8.specs.Text.{units_of_text}
+use Rattle.enc_output.specs.declared.decoder_result.DecoderResult.{DecoderResult}
+use Rattle.enc_output.specs.declared.decoder_result.DecoderResult.TheVariants.{InputEmpty, OutputFull, Malformed}
 use Rattle.enc_decoder.specs.Sequence.{Sequence, sequence_text, any_malformed}
 use Rattle.enc_decoder.specs.Remainder.{AreBytes, AreFirstSequences, Determines, AreDetermined, IsUndetermined}
 use Rattle.enc_decoder.specs.CallRecord.{Call}
 use Rattle.enc_decoder.proofs.DeterminedLemmas.{determined_after}
 use Rattle.enc_decoder.proofs.RuleLemmas.{none_malformed}
 use Rattle.enc_decoder.proofs.SequenceLemmas.{sequence_text-append}
-use Rattle.enc_units.proofs.UnitsLemmas.{utf_8_determines}
+use Rattle.enc_utf8.proofs.UnitsLemmas.{utf_8_determines}
 use Rattle.enc_stream.specs.Decoding.{DecoderState, DecodesChunk, remaining_sequences}
 use Rattle.enc_stream.specs.Encodings.{rule_of}
 use Rattle.enc_stream.proofs.EncodingLemmas.{replacements}

@@ -9,8 +9,8 @@ use Rattle.std.proofs.lemmas.List.{length-take}
 use Rattle.std.proofs.lemmas.Bool.{false≢true, eqb-false}
 use Rattle.enc_decoder.proofs.FirstSequenceLemmas.{true_or_false}
 use Rattle.std.specs.Char.{encode_utf8}
-use Rattle.enc_units.specs.Output.{units_of_text}
-use Rattle.enc_units.proofs.AsciiPrefixLemmas.{text_utf8}
+use Rattle.enc_utf8.specs.Text.{units_of_text}
+use Rattle.enc_utf8.proofs.UnitsLemmas.{text_utf8}
 use Rattle.enc_decoder.specs.Sequence.{sequence_text, any_malformed}
 use Rattle.enc_decoder.proofs.SequenceLemmas.{units-append, any_malformed-append, scalars_of-append}
 use Rattle.enc_stream.specs.Decoding.{DecoderState, has_finished, remaining_sequences}

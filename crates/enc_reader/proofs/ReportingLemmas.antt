@@ -4,9 +4,9 @@ use Rattle.std.proofs.Common.{drop, Option, Some, None, refl, ap, ◌∙◌, sym
 use Rattle.std.proofs.Common.{length-append}
 use Rattle.std.proofs.lemmas.List.{length-take}
 use Rattle.std.specs.Char.{encode_utf8}
-use Rattle.enc_units.specs.Output.{AreScalars}
-use Rattle.enc_units.specs.declared.decoder_result.DecoderResult.{DecoderResult}
-use Rattle.enc_units.specs.declared.decoder_result.DecoderResult.TheVariants.{InputEmpty, OutputFull, Malformed}
+use Rattle.enc_utf8.specs.Text.{AreScalars}
+use Rattle.enc_output.specs.declared.decoder_result.DecoderResult.{DecoderResult}
+use Rattle.enc_output.specs.declared.decoder_result.DecoderResult.TheVariants.{InputEmpty, OutputFull, Malformed}
 use Rattle.enc_decoder.specs.Sequence.{sequence_bytes, any_malformed}
 use Rattle.enc_decoder.specs.Call.{Fatal}
 use Rattle.enc_decoder.proofs.SequenceLemmas.{sequence_bytes-one, scalars_of-one, units-one, any_malformed-one}
@@ -16,7 +16,7 @@ use Rattle.enc_stream.specs.Faults.{faults_from}
 use Rattle.enc_stream.proofs.DecoderCallLemmas.{bytes_done}
 use Rattle.enc_stream.proofs.WholeInputLemmas.{remaining_bytes}
 use Rattle.enc_stream.proofs.FaultLemmas.{no_faults, last_fault}
-use Rattle.enc_units.proofs.LengthLemmas.{lengths}
+use Rattle.enc_utf8.proofs.LengthLemmas.{lengths}
 use Rattle.enc_reader.specs.declared.decode_reader.reporting.MalformedLens.{MalformedLens}
 use Rattle.enc_reader.specs.Reading.{ReaderState, ReadsOwed, owed_sequences}
 use Rattle.enc_reader.specs.Turn.{IsTurn}

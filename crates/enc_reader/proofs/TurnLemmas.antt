@@ -8,15 +8,15 @@ use Rattle.std.proofs.lemmas.List.{drop-take, length-take}
 use Rattle.std.proofs.lemmas.Bool.{false≢true, eqb-false}
 use Rattle.enc_decoder.proofs.FirstSequenceLemmas.{true_or_false}
 use Rattle.std.specs.Char.{encode_utf8}
-use Rattle.enc_units.specs.Output.{AreScalars, units_of_text}
+use Rattle.enc_utf8.specs.Text.{AreScalars, units_of_text}
 use Rattle.enc_decoder.specs.Sequence.{Sequence, sequence_text, any_malformed}
 use Rattle.enc_decoder.specs.Call.{DecodeErrorMode, Replacement}
 use Rattle.enc_decoder.specs.CallRecord.{Call}
-use Rattle.enc_units.specs.declared.coder_result.CoderResult.{CoderResult}
-use Rattle.enc_units.specs.declared.coder_result.CoderResult.TheVariants as result
-use Rattle.enc_units.specs.declared.decoder_result.DecoderResult.{DecoderResult}
-use Rattle.enc_units.specs.declared.decoder_result.DecoderResult.TheVariants.{InputEmpty, OutputFull, Malformed}
-use Rattle.enc_units.specs.Results.{decoder_result_of}
+use Rattle.enc_utf8.specs.declared.coder_result.CoderResult.{CoderResult}
+use Rattle.enc_utf8.specs.declared.coder_result.CoderResult.TheVariants as result
+use Rattle.enc_output.specs.declared.decoder_result.DecoderResult.{DecoderResult}
+use Rattle.enc_output.specs.declared.decoder_result.DecoderResult.TheVariants.{InputEmpty, OutputFull, Malformed}
+use Rattle.enc_output.specs.Results.{decoder_result_of}
 use Rattle.enc_stream.specs.Decoding.{DecoderState, has_finished, DecodesChunk, replacing_call, remaining_sequences}
 use Rattle.enc_decoder.specs.Remainder.{AreDetermined, IsUndetermined}
 use Rattle.enc_stream.proofs.WholeEncodingLemmas.{still_ahead}

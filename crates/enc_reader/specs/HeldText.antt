@@ -6,7 +6,7 @@ use Rattle.std.specs.declared.result.Result.{Result}
 use Rattle.std.specs.Str.{IsUtf8}
 use Rattle.std.specs.Char.{encode_utf8}
 use Rattle.std.specs.Io.{StopsAt}
-use Rattle.enc_units.specs.Output.{units_of_text}
+use Rattle.enc_utf8.specs.Text.{units_of_text}
 use Rattle.enc_decoder.specs.Sequence.{sequence_text}
 use Rattle.enc_reader.specs.declared.decoded_text.DecodedText.{DecodedText}
 use Rattle.enc_reader.specs.Source.{ConsumesRemaining}

@@ -3,7 +3,7 @@ use Rattle.std.specs.Prelude.{◌≡◌, ℕ, ◌+◌, ◌*◌, ◌-◌, ◌^◌
 use Rattle.std.specs.Prelude.{◌++◌, length, Option, if◌then◌else◌}
 use Rattle.std.specs.Char.{encode_utf8}
 use Rattle.std.specs.Io.KnownBytes.{IsAtEnd}
-use Rattle.enc_units.specs.Output.{AreScalars, units_of_text}
+use Rattle.enc_utf8.specs.Text.{AreScalars, units_of_text}
 use Rattle.enc_decoder.specs.Sequence.{Sequence, sequence_text, any_malformed}
 use Rattle.enc_decoder.specs.Remainder.{AreDetermined}
 use Rattle.enc_stream.specs.declared.bom.BomHandling.{BomHandling}

@@ -3,8 +3,8 @@
 use Rattle.std.specs.Prelude.{ℕ, ◌+◌, ◌-◌, ◌^◌, ◌<◌, ◌≤◌, Bool, true, false, List, [], ◌∷◌, length}
 use Rattle.std.specs.Prelude.{Option, Some, None}
 use Rattle.std.specs.Char.{encode_utf8}
-use Rattle.enc_units.specs.declared.decoder_result.DecoderResult.{DecoderResult}
-use Rattle.enc_units.specs.declared.decoder_result.DecoderResult.TheVariants as result
+use Rattle.enc_output.specs.declared.decoder_result.DecoderResult.{DecoderResult}
+use Rattle.enc_output.specs.declared.decoder_result.DecoderResult.TheVariants as result
 use Rattle.enc_reader.specs.declared.decode_reader.reporting.ReadStop.{ReadStop}
 use Rattle.enc_reader.specs.declared.decode_reader.reporting.ReadStop.TheVariants.{Text, Malformed}
 use Rattle.enc_reader.specs.declared.decode_reader.reporting.MalformedLens.{MalformedLens}

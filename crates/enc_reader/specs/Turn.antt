@@ -1,6 +1,6 @@
 -- The steps of a read: pulling a chunk from the source, and a turn of the decoder.
 use Rattle.std.specs.Prelude.{◌≡◌, ℕ, ◌<◌, ◌≤◌, ◌⊎◌, Bool, true, false, List, [], ◌++◌, length, Option}
-use Rattle.enc_units.specs.Validity.{IsWellFormedUtf8, AreAscii}
+use Rattle.enc_utf8.specs.Validity.{IsWellFormedUtf8, AreAscii}
 use Rattle.enc_decoder.specs.Remainder.{IsUndetermined}
 use Rattle.enc_decoder_utf.specs.Utf8.{is_incomplete_sequence}
 use Rattle.enc_codec.specs.Properties.{IsAsciiCompatible}

@@ -3,12 +3,12 @@
 ghost use Rattle.std.specs.Prelude.{◌≡◌, ◌↔◌, ◌-◌, ◌<◌, ◌≤◌, length, take, drop, [], true, false};
 ghost use Rattle.std.specs.Prelude.{IsUtf8, Option, Some};
 ghost use Rattle.std.specs.Prelude.{None, IfOk, OnOk, OnErr, IsErrOf, unwrap_or, IfErr};
-ghost use Rattle.enc_units.specs.Validity.{IsLongestPrefix, IsWellFormedUtf8};
+ghost use Rattle.enc_utf8.specs.Validity.{IsLongestPrefix, IsWellFormedUtf8};
 ghost use Rattle.enc_stream.specs.declared.bom.BomHandling.TheVariants.{Sniff};
 ghost use Rattle.enc_stream.specs.declared.constants.TheConstants.{UTF_8};
 ghost use Rattle.std.specs.Char.{encode_utf8};
 ghost use Rattle.std.specs.Io.KnownBytes.{IsAtEnd};
-ghost use Rattle.enc_units.specs.Results.{decoder_result_of};
+ghost use Rattle.enc_output.specs.Results.{decoder_result_of};
 ghost use Rattle.enc_decoder.specs.Call.{Replacement};
 ghost use Rattle.enc_decoder.specs.Remainder.{IsUndetermined};
 ghost use Rattle.enc_stream.specs.Latin1.{DecoderMayBeLatin1};

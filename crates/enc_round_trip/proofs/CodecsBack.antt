@@ -1,7 +1,7 @@
 -- Each decoder reads back the bytes of its encoder: the one list that goes through all codecs.
 -- Written by scripts/make-sources from data/templates: change the text there, and not this file.
 use Rattle.std.proofs.Common.{◌≡◌, ℕ, true, false, Option, Some, None, List, map}
-use Rattle.enc_units.specs.Output.{AreScalars}
+use Rattle.enc_utf8.specs.Text.{AreScalars}
 use Rattle.enc_index.specs.declared.codec.Codec.{Codec}
 use Rattle.enc_codec.specs.Codecs.{codec_rule}
 use Rattle.enc_encoder.specs.declared.character_set.CharacterSet.TheVariants.{Ascii}

@@ -1,7 +1,7 @@
 -- What was encoded is read back, whatever is barred.
 use Rattle.std.proofs.Common.{◌≡◌, ℕ, true, false, Some, List, [], map, sym, subst, ◌∙◌}
 use Rattle.std.proofs.lemmas.List.{map-id}
-use Rattle.enc_units.specs.Output.{AreScalars}
+use Rattle.enc_utf8.specs.Text.{AreScalars}
 use Rattle.enc_decoder.specs.Sequence.{sequence_text}
 use Rattle.enc_decoder.specs.Segmentation.{sequences_of}
 use Rattle.enc_index.specs.declared.codec.Codec.{Codec}

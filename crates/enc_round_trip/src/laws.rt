@@ -8,7 +8,7 @@ ghost use Rattle.enc_decoder.specs.Sequence.{any_malformed, sequence_text};
 ghost use Rattle.enc_encoder.specs.Unmappable.{any_unmappable};
 ghost use Rattle.enc_round_trip.specs.RoundTrip.{sequences_read_back, char_read_back};
 ghost use Rattle.enc_round_trip.specs.RoundTrip.{keeps_characters};
-ghost use Rattle.enc_units.specs.Output.{AreScalars};
+ghost use Rattle.enc_utf8.specs.Text.{AreScalars};
 
 use enc_index::Codec;
 

@@ -3,16 +3,16 @@ use Rattle.std.proofs.Common.{◌≡◌, ℕ, ◌+◌, ◌-◌, ◌≤◌, Bool,
 use Rattle.std.proofs.lemmas.Bool.{false≢true}
 use Rattle.std.proofs.Common.{refl, ap, ◌∙◌, sym, arith}
 use Rattle.std.proofs.Math.Seq.{take-append_seam, drop-append_seam}
-use Rattle.enc_units.specs.declared.decoder_result.DecoderResult.{DecoderResult}
-use Rattle.enc_units.specs.declared.decoder_result.DecoderResult.TheVariants.{InputEmpty, Malformed}
-use Rattle.enc_units.specs.declared.coder_result.CoderResult.{CoderResult}
-use Rattle.enc_units.specs.declared.coder_result.CoderResult.TheVariants as coder
-use Rattle.enc_units.specs.Results.{decoder_result_of}
-use Rattle.enc_units.specs.Output.{Output}
+use Rattle.enc_output.specs.declared.decoder_result.DecoderResult.{DecoderResult}
+use Rattle.enc_output.specs.declared.decoder_result.DecoderResult.TheVariants.{InputEmpty, Malformed}
+use Rattle.enc_utf8.specs.declared.coder_result.CoderResult.{CoderResult}
+use Rattle.enc_utf8.specs.declared.coder_result.CoderResult.TheVariants as coder
+use Rattle.enc_output.specs.Results.{decoder_result_of}
+use Rattle.enc_output.specs.Output.{Output}
 use Rattle.enc_decoder.specs.Call.{Replacement, DecodeErrorMode}
 use Rattle.enc_stream.specs.Decoding.{DecoderState}
 use Rattle.enc_stream.specs.Decoding.{TakesSmallTexts, AnswersDecode, AnswersDecodeInto}
-use Rattle.enc_units.proofs.LengthLemmas.{lengths}
+use Rattle.enc_utf8.proofs.LengthLemmas.{lengths}
 
 -- a call with replacement that goes on does so without replacement
 pub still_goes_on : (result : CoderResult) → (result ≡ coder.InputEmpty → ⊥)

@@ -1,8 +1,8 @@
 -- Each call of a decoder takes it nearer to its end, or ends it.
 use Rattle.std.proofs.Common.{◌≡◌, ℕ, ◌+◌, ◌-◌, ◌*◌, ◌<◌, ◌≤◌, ◌⊎◌, inl, inr, true, false, List}
 use Rattle.std.proofs.Common.{length, ◌∙◌, sym, arith}
-use Rattle.enc_units.specs.declared.decoder_result.DecoderResult.{DecoderResult}
-use Rattle.enc_units.specs.declared.decoder_result.DecoderResult.TheVariants.{InputEmpty, OutputFull, Malformed}
+use Rattle.enc_output.specs.declared.decoder_result.DecoderResult.{DecoderResult}
+use Rattle.enc_output.specs.declared.decoder_result.DecoderResult.TheVariants.{InputEmpty, OutputFull, Malformed}
 use Rattle.enc_stream.specs.Decoding.{DecoderState, has_finished, TakesSmallTexts}
 use Rattle.enc_stream.proofs.EndOfInputLemmas.{at_end}
 use Rattle.enc_decoder.specs.CallRecord.{Call}

@@ -13,8 +13,8 @@ use Rattle.enc_index.specs.declared.codec.Codec.TheVariants as codec
 use Rattle.enc_codec.specs.Codecs.{codec_facts}
 use Rattle.enc_encoder.specs.declared.character_set.CharacterSet.TheVariants.{Ascii, Roman, Jis0208}
 use Rattle.enc_encoder.specs.declared.character_set.CharacterSet.{CharacterSet}
-use Rattle.enc_units.specs.declared.encoder_result.EncoderResult.{EncoderResult}
-use Rattle.enc_units.specs.declared.encoder_result.EncoderResult.TheVariants.{InputEmpty, OutputFull, Unmappable}
+use Rattle.enc_input.specs.declared.encoder_result.EncoderResult.{EncoderResult}
+use Rattle.enc_input.specs.declared.encoder_result.EncoderResult.TheVariants.{InputEmpty, OutputFull, Unmappable}
 use Rattle.enc_encoder.specs.Steps.{Step}
 use Rattle.enc_encoder.specs.ErrorMode.{EncodeErrorMode, Fatal, Html, MapsEveryCharacter, CallInMode, IsCallInMode}
 use Rattle.enc_encoder.specs.ErrorMode.{mode_of}

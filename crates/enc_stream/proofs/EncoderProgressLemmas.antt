@@ -1,9 +1,9 @@
 -- How much room a call of an encoder needs to make progress, and where a text may end.
 use Rattle.std.proofs.Common.{◌≡◌, ℕ, ◌+◌, ◌≤◌, Bool, true, false, List, [], refl, ap, arith, if◌then◌else◌}
-use Rattle.enc_units.specs.declared.coder_result.CoderResult.{CoderResult}
-use Rattle.enc_units.specs.declared.coder_result.CoderResult.TheVariants.{InputEmpty, OutputFull}
-use Rattle.enc_units.specs.declared.encoder_result.EncoderResult.TheVariants as raw
-use Rattle.enc_units.specs.Results.{encoder_result_of}
+use Rattle.enc_utf8.specs.declared.coder_result.CoderResult.{CoderResult}
+use Rattle.enc_utf8.specs.declared.coder_result.CoderResult.TheVariants.{InputEmpty, OutputFull}
+use Rattle.enc_input.specs.declared.encoder_result.EncoderResult.TheVariants as raw
+use Rattle.enc_input.specs.Results.{encoder_result_of}
 use Rattle.enc_encoder.specs.declared.character_set.CharacterSet.TheVariants.{Ascii}
 use Rattle.enc_encoder.specs.Text.{escape_at_end}
 use Rattle.enc_encoder.specs.Barring.{barring_rule}

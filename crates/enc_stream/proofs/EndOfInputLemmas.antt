@@ -4,10 +4,10 @@ use Rattle.std.proofs.lemmas.Bool.{false≢true}
 use Rattle.std.specs.Char.{encode_utf8}
 use Rattle.enc_stream.specs.declared.bom.BomHandling.{BomHandling}
 use Rattle.enc_stream.specs.declared.encoding.Encoding.{Encoding}
-use Rattle.enc_units.specs.declared.decoder_result.DecoderResult.{DecoderResult}
-use Rattle.enc_units.specs.declared.decoder_result.DecoderResult.TheVariants.{Malformed}
-use Rattle.enc_units.specs.declared.decoder_result.DecoderResult.TheVariants as decoder
-use Rattle.enc_units.specs.Output.{units_of_text}
+use Rattle.enc_output.specs.declared.decoder_result.DecoderResult.{DecoderResult}
+use Rattle.enc_output.specs.declared.decoder_result.DecoderResult.TheVariants.{Malformed}
+use Rattle.enc_output.specs.declared.decoder_result.DecoderResult.TheVariants as decoder
+use Rattle.enc_utf8.specs.Text.{units_of_text}
 use Rattle.enc_decoder.specs.Converting.{shifted_result}
 use Rattle.enc_decoder.specs.Sequence.{sequence_text, any_malformed}
 use Rattle.enc_decoder.specs.Call.{reaches_end}

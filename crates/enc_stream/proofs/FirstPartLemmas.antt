@@ -2,7 +2,7 @@
 use Rattle.std.proofs.Common.{◌≡◌, ℕ, ◌<◌, ◌≤◌, List, [], ◌∷◌, ◌++◌, length, drop, refl, ap, ◌∙◌, sym}
 use Rattle.std.proofs.Common.{arith, append_assoc, append-nil, inl, inr, Option, Some, None}
 use Rattle.std.proofs.lemmas.List.{length-append, drop-append-le}
-use Rattle.enc_units.proofs.LengthLemmas.{lengths}
+use Rattle.enc_utf8.proofs.LengthLemmas.{lengths}
 use Rattle.enc_decoder.specs.Sequence.{Sequence}
 use Rattle.enc_decoder.specs.Segmentation.{sequences_of}
 use Rattle.enc_stream.specs.declared.bom.BomHandling.{BomHandling}

@@ -3,7 +3,7 @@ use Rattle.std.proofs.Common.{◌≡◌, ℕ, ◌+◌, ◌*◌, ◌/◌, ◌^◌
 use Rattle.std.proofs.Common.{nat_lt, Option, Some, None, refl, ap}
 use Rattle.std.proofs.Common.{◌∙◌, arith}
 use Rattle.std.proofs.lemmas.Bool.Decides.{nat_tests}
-use Rattle.enc_units.specs.Checked.{checked_usize, checked_add, checked_mul, checked_half}
+use Rattle.enc_utf8.specs.Checked.{checked_usize, checked_add, checked_mul, checked_half}
 use Rattle.enc_decoder.specs.declared.text_lengths.TextLengths.{TextLengths}
 use Rattle.enc_decoder.specs.declared.text_lengths.TextLengths.TheVariants as by
 use Rattle.enc_decoder.proofs.EnoughLemmas.{same_some}

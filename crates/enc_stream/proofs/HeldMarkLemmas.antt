@@ -8,9 +8,9 @@ use Rattle.std.proofs.Math.Seq.{take-append-add, drop-append-add, take-length}
 use Rattle.enc_stream.specs.declared.encoding.Encoding.{Encoding}
 use Rattle.enc_stream.specs.declared.life_cycle.LifeCycle.{LifeCycle}
 use Rattle.enc_stream.specs.declared.life_cycle.LifeCycle.TheVariants.{ConvertingWithPendingBb, Converting, Finished}
-use Rattle.enc_units.specs.declared.decoder_result.DecoderResult.{DecoderResult}
-use Rattle.enc_units.specs.declared.decoder_result.DecoderResult.TheVariants.{Malformed}
-use Rattle.enc_units.specs.Output.{Output}
+use Rattle.enc_output.specs.declared.decoder_result.DecoderResult.{DecoderResult}
+use Rattle.enc_output.specs.declared.decoder_result.DecoderResult.TheVariants.{Malformed}
+use Rattle.enc_output.specs.Output.{Output}
 use Rattle.enc_decoder.specs.Sequence.{Sequence, sequence_bytes, set_after}
 use Rattle.enc_decoder.specs.Segmentation.{Rule, sequences_of}
 use Rattle.enc_decoder.specs.CodecState.{CodecState, remainder_of}
@@ -39,7 +39,7 @@ use Rattle.enc_stream.proofs.PendingBbLemmas.{LeavesBb, leaves_bb, none_of_held}
 use Rattle.enc_stream.proofs.UnmarkedTextLemmas.{ReadsText, settled_from, awaited_unless_settled}
 use Rattle.enc_stream.proofs.UnmarkedTextLemmas.{shifts, reads_on, unmarked_read, pending_in_front, text_goes_on}
 use Rattle.enc_stream.proofs.UnmarkedTextLemmas.{length_at_hand, begun_no_more, by_codec, unmarked_all, at_hand}
-use Rattle.enc_units.proofs.LengthLemmas.{lengths}
+use Rattle.enc_utf8.proofs.LengthLemmas.{lengths}
 use Rattle.enc_stream.proofs.RemainingRuleLemmas.{none_without_bytes}
 
 module _ {e : Encoding} {life : LifeCycle} {v : CodecState} {src : List ℕ} {last : Bool}
@@ -302,8 +302,15 @@ module _ {e : Encoding} {life : LifeCycle} {v : CodecState} {src : List ℕ} {la
             | inr some ↦ some
           ] in
           no_bytes w.pending (none_of_held life v text.holds (length w.pending)
-          (omega (arith, some_bytes, done_len, length_at_hand text, none_left, ap length are_held,
-          nothing_read)) (λ two one. no_bb nothing_read two (omega (arith, one, none_left))))
+          (omega (
+            arith,
+            some_bytes,
+            done_len,
+            length_at_hand text,
+            none_left,
+            ap length are_held,
+            nothing_read,
+          )) (λ two one. no_bb nothing_read two (omega (arith, one, none_left))))
 
       none_held_now : held_after still_held w.pending ≡ false
       none_held_now = elim (true_or_false (awaits_mark life)) [

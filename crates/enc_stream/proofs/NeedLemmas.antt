@@ -3,7 +3,7 @@ use Rattle.std.proofs.Common.{◌≡◌, ℕ, Option, Some, None, List, length, 
 use Rattle.std.proofs.Common.{arith}
 use Rattle.std.specs.Char.{encode_utf8}
 use Rattle.std.specs.Char.Escape.{encode_utf16}
-use Rattle.enc_units.specs.Checked.{checked_add}
+use Rattle.enc_utf8.specs.Checked.{checked_add}
 use Rattle.enc_index.specs.declared.codec.Codec.{Codec}
 use Rattle.enc_encoder.specs.declared.byte_lengths.ByteLengths.{ByteLengths}
 use Rattle.enc_encoder.specs.EncoderRule.{EncoderRule, RawEncoderState}

@@ -7,12 +7,12 @@ use Rattle.std.specs.Char.{encode_utf8}
 use Rattle.enc_stream.specs.declared.bom.BomHandling.{BomHandling}
 use Rattle.enc_stream.specs.declared.bom.BomHandling.TheVariants.{Off}
 use Rattle.enc_stream.specs.declared.encoding.Encoding.{Encoding}
-use Rattle.enc_units.specs.declared.decoder_result.DecoderResult.{DecoderResult}
-use Rattle.enc_units.specs.declared.decoder_result.DecoderResult.TheVariants.{InputEmpty, Malformed}
-use Rattle.enc_units.specs.declared.coder_result.CoderResult.{CoderResult}
-use Rattle.enc_units.specs.declared.coder_result.CoderResult.TheVariants as coder
-use Rattle.enc_units.specs.Results.{decoder_result_of}
-use Rattle.enc_units.specs.Output.{units_of_text}
+use Rattle.enc_output.specs.declared.decoder_result.DecoderResult.{DecoderResult}
+use Rattle.enc_output.specs.declared.decoder_result.DecoderResult.TheVariants.{InputEmpty, Malformed}
+use Rattle.enc_utf8.specs.declared.coder_result.CoderResult.{CoderResult}
+use Rattle.enc_utf8.specs.declared.coder_result.CoderResult.TheVariants as coder
+use Rattle.enc_output.specs.Results.{decoder_result_of}
+use Rattle.enc_utf8.specs.Text.{units_of_text}
 use Rattle.enc_decoder.specs.Sequence.{Sequence, sequence_text, is_malformed, any_malformed}
 use Rattle.enc_decoder.specs.Call.{DecodeErrorMode, reaches_end}
 use Rattle.enc_decoder.specs.Remainder.{Remainder, AreBytes}
@@ -25,7 +25,7 @@ use Rattle.enc_stream.specs.Decoding.{DecoderState, has_finished, fresh_decoder,
 use Rattle.enc_stream.specs.Decoding.{whole_sequences, whole_malformed, DecodesChunk}
 use Rattle.enc_stream.specs.Decoding.{replacing_call, reporting_call}
 use Rattle.enc_stream.specs.Decoding.{AnswersDecode, HasDecoded}
-use Rattle.enc_units.specs.Checked.{checked_add}
+use Rattle.enc_utf8.specs.Checked.{checked_add}
 use Rattle.enc_stream.specs.declared.lengths.Query.TheVariants as query
 use Rattle.enc_stream.specs.declared.lengths.Query.TheVariants.{Utf8Reporting}
 use Rattle.enc_stream.specs.Lengths.{max_length}

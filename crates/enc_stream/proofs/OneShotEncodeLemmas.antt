@@ -5,14 +5,14 @@ use Rattle.std.proofs.Common.{◌∙◌, sym, subst, append_assoc, append-nil, c
 use Rattle.std.specs.Prelude.{Option, None, ◌≢◌}
 use Rattle.std.proofs.lemmas.List.{take-append-drop}
 use Rattle.std.specs.Char.{encode_utf8}
-use Rattle.enc_units.specs.declared.coder_result.CoderResult.{CoderResult}
-use Rattle.enc_units.specs.declared.coder_result.CoderResult.TheVariants.{InputEmpty, OutputFull}
+use Rattle.enc_utf8.specs.declared.coder_result.CoderResult.{CoderResult}
+use Rattle.enc_utf8.specs.declared.coder_result.CoderResult.TheVariants.{InputEmpty, OutputFull}
 use Rattle.enc_encoder.specs.declared.character_set.CharacterSet.{CharacterSet}
 use Rattle.enc_encoder.specs.declared.character_set.CharacterSet.TheVariants.{Ascii}
 use Rattle.enc_encoder.specs.EncoderRule.{EncoderRule}
 use Rattle.enc_encoder.specs.Text.{bytes_of_text, with_references, reference_after}
 use Rattle.enc_encoder.specs.Steps.{step_chars}
-use Rattle.enc_units.specs.Results.{encoder_result_of}
+use Rattle.enc_input.specs.Results.{encoder_result_of}
 use Rattle.enc_encoder.specs.Unmappable.{any_unmappable}
 use Rattle.enc_encoder.proofs.UnmappableLemmas.{replaced_is, any_unmappable-append}
 use Rattle.enc_stream.specs.declared.encoding.Encoding.{Encoding}
@@ -20,7 +20,7 @@ use Rattle.enc_stream.specs.Encodings.{output_rule}
 use Rattle.enc_stream.specs.Encoder.{EncoderState, EncodesChunk, fresh_encoder, raw_state}
 use Rattle.enc_stream.specs.Encoder.{html_mode}
 use Rattle.enc_stream.specs.Encoder.{whole_bytes}
-use Rattle.enc_units.specs.Checked.{checked_add}
+use Rattle.enc_utf8.specs.Checked.{checked_add}
 use Rattle.enc_stream.specs.Properties.{output_encoding_of}
 use Rattle.enc_stream.specs.OneShot.{HasWritten, length_to_encode, remaining_length, HasRoomFor, EncoderRound}
 use Rattle.enc_stream.specs.OneShot.{AreFullRounds, IsTooLongToEncode}

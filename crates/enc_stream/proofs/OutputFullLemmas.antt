@@ -6,10 +6,11 @@ use Rattle.std.proofs.lemmas.List.{append-nil}
 use Rattle.std.specs.Char.{encode_utf8}
 use Rattle.std.specs.Char.Escape.{encode_utf16}
 use Rattle.enc_stream.specs.declared.encoding.Encoding.{Encoding}
-use Rattle.enc_units.specs.declared.decoder_result.DecoderResult.{DecoderResult}
-use Rattle.enc_units.specs.declared.decoder_result.DecoderResult.TheVariants.{InputEmpty, OutputFull, Malformed}
-use Rattle.enc_units.specs.Output.{Output, DetermineTexts, units_of_text}
-use Rattle.enc_units.proofs.LengthLemmas.{lengths}
+use Rattle.enc_output.specs.declared.decoder_result.DecoderResult.{DecoderResult}
+use Rattle.enc_output.specs.declared.decoder_result.DecoderResult.TheVariants.{InputEmpty, OutputFull, Malformed}
+use Rattle.enc_output.specs.Output.{Output}
+use Rattle.enc_utf8.specs.Text.{DetermineTexts, units_of_text}
+use Rattle.enc_utf8.proofs.LengthLemmas.{lengths}
 use Rattle.enc_decoder.specs.Sequence.{Sequence, sequence_bytes, sequence_text, set_after}
 use Rattle.enc_decoder.specs.Remainder.{AreFirstSequences, AreDetermined}
 use Rattle.enc_decoder.specs.Call.{DecodeErrorMode}

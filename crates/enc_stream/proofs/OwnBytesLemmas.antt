@@ -7,7 +7,7 @@ use Rattle.std.specs.Char.{encode_utf8}
 use Rattle.std.specs.Str.{IsUtf8, encode_utf8_all}
 use Rattle.std.proofs.lemmas.Bool.Decides.{nat_tests}
 use Rattle.std.proofs.lemmas.Str.{encode_ascii, encodes-chars, chars_from_encodes}
-use Rattle.enc_units.specs.Validity.{AreAscii}
+use Rattle.enc_utf8.specs.Validity.{AreAscii}
 use Rattle.enc_encoder.specs.declared.character_set.CharacterSet.TheVariants.{Ascii}
 use Rattle.enc_encoder.specs.EncoderRule.{EncoderRule, IsLawfulEncoderRule, set_for}
 use Rattle.enc_encoder.specs.Text.{escape_sequence, escape_at_end, escape_before, list_or_empty, bytes_after_text}

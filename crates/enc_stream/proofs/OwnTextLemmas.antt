@@ -8,11 +8,10 @@ use Rattle.std.specs.Str.{IsUtf8, all_scalars, encode_utf8_all}
 use Rattle.std.proofs.lemmas.Bool.{and_parts, cases_lt, false≢true}
 use Rattle.std.proofs.lemmas.Bool.Decides.{nat_tests}
 use Rattle.std.proofs.lemmas.Str.{encode_ascii}
-use Rattle.enc_units.specs.Output.{units_of_text}
-use Rattle.enc_units.specs.Validity.{IsLongestPrefix, AreAscii, AreIso2022JpAscii}
-use Rattle.enc_units.proofs.ScalarLemmas.{ascii_scalars}
-use Rattle.enc_units.proofs.Utf8CharsLemmas.{their_units}
-use Rattle.enc_units.proofs.Utf8SliceLemmas.{ascii_units}
+use Rattle.enc_utf8.specs.Text.{units_of_text}
+use Rattle.enc_utf8.specs.Validity.{IsLongestPrefix, AreAscii, AreIso2022JpAscii}
+use Rattle.enc_utf8.proofs.ScalarLemmas.{ascii_scalars}
+use Rattle.enc_utf8.proofs.UnitsLemmas.{their_units, ascii_units}
 use Rattle.enc_decoder.specs.declared.byte_codec.Kind.TheVariants.{Valid}
 use Rattle.enc_decoder.specs.Sequence.{Sequence, sequence_text, any_malformed}
 use Rattle.enc_decoder.specs.Segmentation.{Rule, sequences_of}

@@ -15,7 +15,7 @@ use Rattle.enc_decoder.specs.Converting.{ReadsHeldFirst}
 use Rattle.enc_decoder.proofs.JoinedCallLemmas.{no_bytes}
 use Rattle.enc_stream.proofs.LifeCycleLemmas.{second_if_two, held_are_few}
 use Rattle.enc_stream.proofs.PendingBytesLemmas.{none_unread}
-use Rattle.enc_units.proofs.LengthLemmas.{lengths}
+use Rattle.enc_utf8.proofs.LengthLemmas.{lengths}
 
 two_bytes : (life : LifeCycle) (n : ℕ) → length (unread_bytes life n) ≡ 2
     → (life ≡ SeenUtf8Second) × (n ≡ 0)

@@ -4,8 +4,8 @@ use Rattle.std.proofs.Common.{◌≡◌, ℕ, ◌<◌, Bool, true, false, if◌t
 use Rattle.std.proofs.Common.{drop, arith, subst, append_assoc, Option, Some, None}
 use Rattle.std.proofs.lemmas.List.{length-append}
 use Rattle.enc_stream.specs.declared.encoding.Encoding.{Encoding}
-use Rattle.enc_units.specs.Output.{units_of_text}
-use Rattle.enc_units.proofs.LengthLemmas.{lengths}
+use Rattle.enc_utf8.specs.Text.{units_of_text}
+use Rattle.enc_utf8.proofs.LengthLemmas.{lengths}
 use Rattle.enc_decoder.specs.Sequence.{Sequence, sequence_bytes, sequence_text}
 use Rattle.enc_decoder.specs.Segmentation.{Rule, sequences_of}
 use Rattle.enc_decoder.specs.RuleLaws.{IsSmallText}

@@ -28,7 +28,7 @@ use Rattle.enc_decoder.specs.CallRecord.{Call}
 use Rattle.enc_decoder.proofs.StageLemmas.{start_stage}
 use Rattle.enc_decoder.proofs.InnerInputLemmas.{ShiftsInput, MatchesRead, most_or_more}
 use Rattle.enc_decoder.proofs.SegmentationLemmas as segmentation
-use Rattle.enc_units.proofs.LengthLemmas.{lengths}
+use Rattle.enc_utf8.proofs.LengthLemmas.{lengths}
 use Rattle.enc_stream.proofs.PendingBytesLemmas.{pending_of_held}
 
 -- as long as a mark may come, the bytes held determine nothing

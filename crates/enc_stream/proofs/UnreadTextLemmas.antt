@@ -8,16 +8,16 @@ use Rattle.std.specs.Cmp.{second_so}
 use Rattle.std.specs.Char.{encode_utf8}
 use Rattle.std.specs.Char.Escape.{encode_utf16}
 use Rattle.std.specs.Char.Utf16.{utf16_lossy_chars}
-use Rattle.enc_units.specs.declared.coder_result.CoderResult.{CoderResult}
-use Rattle.enc_units.specs.declared.coder_result.CoderResult.TheVariants.{InputEmpty}
-use Rattle.enc_units.specs.Output.{units_of_text}
-use Rattle.enc_units.proofs.Utf8CharsLemmas.{their_units}
-use Rattle.enc_units.proofs.CharsLemmas.{AreUnits, utf16_length, lossy_after}
+use Rattle.enc_utf8.specs.declared.coder_result.CoderResult.{CoderResult}
+use Rattle.enc_utf8.specs.declared.coder_result.CoderResult.TheVariants.{InputEmpty}
+use Rattle.enc_utf8.specs.Text.{units_of_text}
+use Rattle.enc_utf8.proofs.UnitsLemmas.{their_units}
+use Rattle.enc_input.proofs.CharsLemmas.{AreUnits, utf16_length, lossy_after}
 use Rattle.enc_decoder.proofs.SequenceLemmas.{units_of_text-append}
 use Rattle.enc_encoder.specs.ErrorMode.{CallInMode}
-use Rattle.enc_units.specs.Results.{encoder_result_of}
+use Rattle.enc_input.specs.Results.{encoder_result_of}
 use Rattle.enc_stream.specs.Encoder.{EncoderState, EncodesChunk, raw_state, html_mode}
-use Rattle.enc_units.proofs.LengthLemmas.{lengths}
+use Rattle.enc_utf8.proofs.LengthLemmas.{lengths}
 use Rattle.enc_encoder.proofs.ReferenceStopLemmas.{rest_is_read}
 
 -- no bytes are no characters

@@ -6,7 +6,7 @@ use Rattle.std.specs.List.{starts_with}
 use Rattle.std.proofs.lemmas.Bool.{false≢true}
 use Rattle.std.proofs.lemmas.List.{append-nil, take-append-drop}
 use Rattle.std.proofs.Math.ListN.{drop_of_length-le}
-use Rattle.enc_units.proofs.LengthLemmas.{lengths}
+use Rattle.enc_utf8.proofs.LengthLemmas.{lengths}
 use Rattle.enc_decoder.specs.Sequence.{Sequence, sequence_bytes}
 use Rattle.enc_decoder.specs.Call.{reaches_end}
 use Rattle.enc_decoder.specs.CallRecord.{Call}

@@ -3,13 +3,14 @@
 use Rattle.std.specs.Prelude.{◌≡◌, ℕ, ◌+◌, ◌-◌, ◌<◌, ◌≤◌, ◌==◌, Bool, true, false, ◌&&◌, List, [], ◌∷◌, ◌++◌, length}
 use Rattle.std.specs.Prelude.{take, if◌then◌else◌}
 use Rattle.std.specs.Char.{encode_utf8}
-use Rattle.enc_units.specs.Results.{decoder_result_of}
-use Rattle.enc_units.specs.declared.decoder_result.DecoderResult.{DecoderResult}
-use Rattle.enc_units.specs.declared.decoder_result.DecoderResult.TheVariants as raw
-use Rattle.enc_units.specs.declared.coder_result.CoderResult.{CoderResult}
+use Rattle.enc_output.specs.Results.{decoder_result_of}
+use Rattle.enc_output.specs.declared.decoder_result.DecoderResult.{DecoderResult}
+use Rattle.enc_output.specs.declared.decoder_result.DecoderResult.TheVariants as raw
+use Rattle.enc_utf8.specs.declared.coder_result.CoderResult.{CoderResult}
 use Rattle.enc_stream.specs.declared.encoding.Encoding.{Encoding}
 use Rattle.enc_stream.specs.declared.bom.BomHandling.{BomHandling}
-use Rattle.enc_units.specs.Output.{Output, with_appended, units_of_text}
+use Rattle.enc_output.specs.Output.{Output, with_appended}
+use Rattle.enc_utf8.specs.Text.{units_of_text}
 use Rattle.enc_decoder.specs.Sequence.{Sequence, sequence_bytes, sequence_text, any_malformed, set_after}
 use Rattle.enc_decoder.specs.Remainder.{Remainder, AreFirstSequences}
 use Rattle.enc_decoder.specs.Call.{DecodeErrorMode, Replacement, Fatal, reaches_end}

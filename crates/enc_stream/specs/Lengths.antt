@@ -5,7 +5,7 @@ use Rattle.std.specs.Char.Escape.{encode_utf16}
 use Rattle.enc_decoder.specs.Call.{DecodeErrorMode, Replacement, Fatal}
 use Rattle.enc_decoder.specs.Remainder.{AreBytes}
 use Rattle.enc_decoder.specs.Need.{NeedExceeds}
-use Rattle.enc_units.specs.Checked.{checked_add, checked_max}
+use Rattle.enc_utf8.specs.Checked.{checked_add, checked_max}
 use Rattle.enc_decoder.specs.declared.text_lengths.TextLengths.{TextLengths}
 use Rattle.enc_decoder.specs.Lengths.{utf_8_length, reporting_length, utf_16_length}
 use Rattle.enc_codec.specs.Codecs.{codec_lengths}

@@ -1,8 +1,8 @@
 -- The number of bytes that a call of an encoder has to write, and which lengths are enough for it.
 use Rattle.std.specs.Prelude.{◌≡◌, ℕ, ◌≤◌, Bool, false, List, ◌++◌, length}
-use Rattle.enc_units.specs.Output.{units_of_text}
-use Rattle.enc_units.specs.declared.encoder_result.EncoderResult.{EncoderResult}
-use Rattle.enc_units.specs.declared.encoder_result.EncoderResult.TheVariants.{InputEmpty}
+use Rattle.enc_utf8.specs.Text.{units_of_text}
+use Rattle.enc_input.specs.declared.encoder_result.EncoderResult.{EncoderResult}
+use Rattle.enc_input.specs.declared.encoder_result.EncoderResult.TheVariants.{InputEmpty}
 use Rattle.enc_encoder.specs.Need.{encode_need, MeetsEncodeNeed}
 use Rattle.enc_encoder.specs.Unmappable.{any_unmappable}
 use Rattle.enc_encoder.specs.ErrorMode.{CallInMode}

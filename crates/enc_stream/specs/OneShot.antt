@@ -3,11 +3,11 @@
 use Rattle.std.specs.Prelude.{◌≡◌, ◌≢◌, ℕ, ◌≤◌, ◌⊎◌, Bool, true, Option, Some, None, List, [], ◌∷◌, ◌++◌, max}
 use Rattle.std.specs.Prelude.{chars, length, drop, if◌then◌else◌}
 use Rattle.std.specs.Char.{encode_utf8}
-use Rattle.enc_units.specs.Checked.{checked_add}
+use Rattle.enc_utf8.specs.Checked.{checked_add}
 use Rattle.enc_encoder.specs.Text.{bytes_of_text, with_references}
 use Rattle.enc_encoder.specs.Lengths.{from_utf_8_length}
-use Rattle.enc_units.specs.declared.coder_result.CoderResult.TheVariants.{OutputFull}
-use Rattle.enc_units.specs.declared.encoder_result.EncoderResult.TheVariants as encoder_result
+use Rattle.enc_utf8.specs.declared.coder_result.CoderResult.TheVariants.{OutputFull}
+use Rattle.enc_input.specs.declared.encoder_result.EncoderResult.TheVariants as encoder_result
 use Rattle.enc_stream.specs.declared.bom.BomHandling.{BomHandling}
 use Rattle.enc_stream.specs.declared.bom.BomHandling.TheVariants.{Off}
 use Rattle.enc_stream.specs.declared.encoding.Encoding.{Encoding}

@@ -6,7 +6,7 @@ use Rattle.std.specs.declared.borrow.CowSlice.{CowSlice}
 use Rattle.std.specs.declared.borrow.CowSlice.TheVariants as slice
 use Rattle.std.specs.String.{string_capacity}
 use Rattle.std.specs.Vec.{vec_capacity}
-use Rattle.enc_units.specs.Validity.{IsWellFormedUtf8, AreAscii, AreIso2022JpAscii}
+use Rattle.enc_utf8.specs.Validity.{IsWellFormedUtf8, AreAscii, AreIso2022JpAscii}
 use Rattle.enc_stream.specs.declared.bom.BomHandling.{BomHandling}
 use Rattle.enc_stream.specs.declared.encoding.Encoding.{Encoding}
 use Rattle.enc_stream.specs.declared.constants.TheConstants.{UTF_8, ISO_2022_JP}

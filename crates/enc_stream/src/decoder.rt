@@ -4,7 +4,7 @@ ghost use Rattle.std.specs.Prelude.{◌≡◌, ℕ, ◌+◌, ◌≤◌, false, l
 ghost use Rattle.std.specs.Char.{encode_utf8};
 ghost use Rattle.std.specs.Char.Escape.{encode_utf16};
 ghost use Rattle.std.specs.Str.{IsUtf8};
-ghost use Rattle.enc_units.specs.Results.{decoder_result_of};
+ghost use Rattle.enc_output.specs.Results.{decoder_result_of};
 ghost use Rattle.enc_decoder.specs.Call.{Replacement, Fatal, reaches_end};
 ghost use Rattle.enc_decoder.specs.Replacing.{replaces, decode_error_mode};
 ghost use Rattle.enc_stream.specs.Decoding.{has_finished, LeavesFewerBytes, AnswersDecodeInto};
@@ -21,7 +21,8 @@ use crate::sniffing::{Sniffed, sniff};
 use crate::text::convert_text;
 use enc_codec::VariantDecoder;
 use enc_decoder::{CallOptions, DecoderOutcome, ErrorMode};
-use enc_units::{CoderResult, DecoderResult, Units, Utf8Slice, Utf16Slice};
+use enc_output::{DecoderResult, Units, Utf8Slice, Utf16Slice};
+use enc_utf8::CoderResult;
 pub(crate) use start::whole_length;
 use std::fmt;
 use std::marker::Model;

@@ -3,7 +3,7 @@
 ghost use Rattle.std.specs.Prelude.{◌≡◌, IfSome};
 ghost use Rattle.std.specs.Char.{encode_utf8};
 ghost use Rattle.std.specs.Char.Escape.{encode_utf16};
-ghost use Rattle.enc_units.specs.Checked.{checked_add};
+ghost use Rattle.enc_utf8.specs.Checked.{checked_add};
 ghost use Rattle.enc_encoder.specs.Lengths.{from_utf_8_length, from_utf_16_length};
 ghost use Rattle.enc_stream.specs.Encoder.{room_kept_for_references};
 ghost use Rattle.enc_stream.specs.Lengths.{output_lengths};

@@ -1,7 +1,7 @@
 //! Lengths to allocate for a decoder's output.
 
 ghost use Rattle.std.specs.Prelude.{◌≡◌};
-ghost use Rattle.enc_units.specs.Checked.{checked_max as greater_of};
+ghost use Rattle.enc_utf8.specs.Checked.{checked_max as greater_of};
 ghost use Rattle.enc_stream.specs.LifeCycle.{marks_of, held_mark_bytes, holds_bytes};
 ghost use Rattle.enc_stream.specs.Lengths.{formula_length, idle_length};
 ghost use Rattle.enc_stream.specs.Lengths.{length_with_marks, length_by_marks};

@@ -31,7 +31,9 @@ mod validity;
 
 pub use bom::BomHandling;
 pub use decoder::Decoder;
-pub use enc_units::{CoderResult, DecoderResult, EncoderResult};
+pub use enc_input::EncoderResult;
+pub use enc_output::DecoderResult;
+pub use enc_utf8::CoderResult;
 pub use encoder::Encoder;
 pub use encoding::Encoding;
 pub use one_shot_error::OneShotError;

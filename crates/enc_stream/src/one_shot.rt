@@ -4,7 +4,7 @@ ghost use Rattle.std.specs.Prelude.{◌≡◌, ◌≢◌, ◌-◌, ◌≤◌, []
 ghost use Rattle.std.specs.Prelude.{IfOk, IsOk, IfErr, IsErrOf, IfSome, OnOk, OnErr, Some, None};
 ghost use Rattle.std.specs.Vec.{vec_len, vec_capacity};
 ghost use Rattle.std.specs.String.{string_bytes, string_len, string_capacity};
-ghost use Rattle.enc_units.specs.Checked.{checked_add};
+ghost use Rattle.enc_utf8.specs.Checked.{checked_add};
 ghost use Rattle.enc_encoder.specs.Unmappable.{any_unmappable};
 ghost use Rattle.enc_stream.specs.declared.bom.BomHandling.TheVariants as handling;
 ghost use Rattle.enc_stream.specs.Encodings.{output_rule};
@@ -21,7 +21,8 @@ use crate::decoder::{Decoder, whole_length};
 use crate::encoding::Encoding;
 use crate::one_shot_error::OneShotError;
 use crate::own_text::{encodes_as_itself, own_text};
-use enc_units::{CoderResult, DecoderResult};
+use enc_output::DecoderResult;
+use enc_utf8::CoderResult;
 use std::alloc::Global;
 
 /// Returns a length to allocate, if it does not overflow after `written` bytes.

@@ -10,7 +10,7 @@ ghost use Rattle.enc_stream.specs.OwnText.{mark_looked_for, unmarked_bytes};
 use crate::bom::BomHandling;
 use crate::constants::{ISO_2022_JP, UTF_8};
 use crate::encoding::Encoding;
-use enc_units::{ascii_valid_up_to, iso_2022_jp_ascii_valid_up_to, utf8_valid_up_to};
+use enc_utf8::{ascii_valid_up_to, iso_2022_jp_ascii_valid_up_to, utf8_valid_up_to};
 
 /// Returns whether two encodings are the same.
 fn are_same(one: Encoding, other: Encoding) -> bool

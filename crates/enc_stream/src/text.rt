@@ -12,7 +12,7 @@ ghost use Rattle.enc_stream.specs.Sniffing.{HasNoMark};
 use crate::life_cycle::LifeCycle;
 use enc_codec::RawDecoder;
 use enc_decoder::{CallOptions, DecoderOutcome, convert, reaches_end, shift_malformed};
-use enc_units::Units;
+use enc_output::Units;
 
 /// Returns the held bytes of a byte order mark that the codec has not read. It has `pending` bytes
 /// pending.

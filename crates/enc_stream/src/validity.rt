@@ -1,7 +1,6 @@
 //! Validity of bytes, as functions of [`Encoding`].
 
-ghost use Rattle.enc_units.specs.Validity.{IsLongestPrefix, IsWellFormedUtf8};
-ghost use Rattle.enc_units.specs.Validity.{AreAscii, AreIso2022JpAscii};
+ghost use Rattle.enc_utf8.specs.Validity.{IsLongestPrefix, IsWellFormedUtf8, AreAscii, AreIso2022JpAscii};
 
 use crate::encoding::Encoding;
 
@@ -16,7 +15,7 @@ impl Encoding {
     pub fn utf8_valid_up_to(bytes: &[u8]) -> usize
         ensures { IsLongestPrefix IsWellFormedUtf8 bytes.now result }
     {
-        enc_units::utf8_valid_up_to(bytes)
+        enc_utf8::utf8_valid_up_to(bytes)
     }
 
     /// Returns the length in bytes of the longest prefix that is ASCII: bytes below 0x80.
@@ -27,7 +26,7 @@ impl Encoding {
     pub fn ascii_valid_up_to(bytes: &[u8]) -> usize
         ensures { IsLongestPrefix AreAscii bytes.now result }
     {
-        enc_units::ascii_valid_up_to(bytes)
+        enc_utf8::ascii_valid_up_to(bytes)
     }
 
     /// Returns the length in bytes of the longest prefix that stands for itself in ISO-2022-JP.
@@ -41,6 +40,6 @@ impl Encoding {
     pub fn iso_2022_jp_ascii_valid_up_to(bytes: &[u8]) -> usize
         ensures { IsLongestPrefix AreIso2022JpAscii bytes.now result }
     {
-        enc_units::iso_2022_jp_ascii_valid_up_to(bytes)
+        enc_utf8::iso_2022_jp_ascii_valid_up_to(bytes)
     }
 }

@@ -3,13 +3,13 @@ use Rattle.std.proofs.Common.{◌≡◌, ℕ, Bool, true, false, ◌||◌, List,
 use Rattle.std.proofs.Common.{ap, ◌∙◌, sym, append_assoc, append-nil, chars, IsUtf8}
 use Rattle.std.proofs.lemmas.Str.{encodes-chars}
 use Rattle.std.specs.Str.{encode_utf8_all}
-use Rattle.enc_units.specs.declared.coder_result.CoderResult.{CoderResult}
-use Rattle.enc_units.specs.declared.coder_result.CoderResult.TheVariants.{InputEmpty, OutputFull}
+use Rattle.enc_utf8.specs.declared.coder_result.CoderResult.{CoderResult}
+use Rattle.enc_utf8.specs.declared.coder_result.CoderResult.TheVariants.{InputEmpty, OutputFull}
 use Rattle.enc_encoder.specs.declared.character_set.CharacterSet.TheVariants.{Ascii}
 use Rattle.enc_encoder.specs.declared.character_set.CharacterSet.{CharacterSet}
 use Rattle.enc_encoder.specs.Text.{bytes_after_text, escape_at_end, with_references, KeepsText}
 use Rattle.enc_encoder.specs.Steps.{step_chars}
-use Rattle.enc_units.specs.Results.{encoder_result_of}
+use Rattle.enc_input.specs.Results.{encoder_result_of}
 use Rattle.enc_encoder.specs.ErrorMode.{CallInMode}
 use Rattle.enc_encoder.specs.Unmappable.{any_unmappable}
 use Rattle.enc_encoder.proofs.LeavesLemmas.{leaves_in_mode}

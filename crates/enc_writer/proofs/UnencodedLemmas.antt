@@ -5,7 +5,7 @@ use Rattle.std.proofs.Common.{IsUtf8}
 use Rattle.std.proofs.Math.Seq.{take-length, drop-length}
 use Rattle.std.proofs.lemmas.List.{take-append-drop}
 use Rattle.std.proofs.lemmas.Str.{chars-append, chars_from_encodes}
-use Rattle.enc_units.specs.Validity.{AreAscii}
+use Rattle.enc_utf8.specs.Validity.{AreAscii}
 use Rattle.enc_encoder.specs.declared.character_set.CharacterSet.{CharacterSet}
 use Rattle.enc_encoder.specs.declared.character_set.CharacterSet.TheVariants.{Ascii, Roman, Jis0208}
 use Rattle.enc_encoder.specs.EncoderRule.{is_escape_due}

@@ -5,8 +5,8 @@ use Rattle.std.proofs.Common.{length, length-append, length-drop}
 use Rattle.std.proofs.lemmas.List.{length-take-le}
 use Rattle.std.proofs.Math.Seq.{take-add}
 use Rattle.std.proofs.Math.Bool.{or_assoc}
-use Rattle.enc_units.specs.declared.coder_result.CoderResult.{CoderResult}
-use Rattle.enc_units.specs.Results.{encoder_result_of}
+use Rattle.enc_utf8.specs.declared.coder_result.CoderResult.{CoderResult}
+use Rattle.enc_input.specs.Results.{encoder_result_of}
 use Rattle.enc_encoder.specs.declared.character_set.CharacterSet.TheVariants.{Ascii}
 use Rattle.enc_encoder.specs.ErrorMode.{CallInMode}
 use Rattle.enc_encoder.specs.Text.{reference_after}

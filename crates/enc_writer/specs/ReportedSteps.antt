@@ -1,7 +1,7 @@
 -- The steps of writing without replacement, and their bytes.
 use Rattle.std.specs.Prelude.{◌≡◌, ℕ, true, false, List, ◌++◌, Option}
-use Rattle.enc_units.specs.declared.encoder_result.EncoderResult.{EncoderResult}
-use Rattle.enc_units.specs.declared.encoder_result.EncoderResult.TheVariants.{Unmappable}
+use Rattle.enc_input.specs.declared.encoder_result.EncoderResult.{EncoderResult}
+use Rattle.enc_input.specs.declared.encoder_result.EncoderResult.TheVariants.{Unmappable}
 use Rattle.enc_encoder.specs.ErrorMode.{ends_in_report}
 use Rattle.enc_encoder.specs.Steps.{Step, bytes_with_references}
 use Rattle.enc_encoder.specs.Text.{reference_after}

@@ -1,8 +1,8 @@
 -- Writing without replacement, up to an unmappable character (Encoding Standard 4.1, error mode
 -- "fatal").
 use Rattle.std.specs.Prelude.{◌≡◌, ℕ, true, false, List, [], ◌∷◌, ◌++◌, Option}
-use Rattle.enc_units.specs.declared.encoder_result.EncoderResult.{EncoderResult}
-use Rattle.enc_units.specs.declared.encoder_result.EncoderResult.TheVariants.{Unmappable}
+use Rattle.enc_input.specs.declared.encoder_result.EncoderResult.{EncoderResult}
+use Rattle.enc_input.specs.declared.encoder_result.EncoderResult.TheVariants.{Unmappable}
 use Rattle.enc_encoder.specs.Text.{reference_after}
 use Rattle.enc_encoder.specs.Unmappable.{any_unmappable, reports_of}
 use Rattle.enc_stream.specs.Encoder.{raw_state}

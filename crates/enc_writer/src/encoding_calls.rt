@@ -5,7 +5,7 @@ ghost use Rattle.std.specs.Char.{encode_utf8};
 ghost use Rattle.std.specs.Char.Escape.{encode_utf16};
 ghost use Rattle.std.specs.Char.Utf16.{utf16_lossy_chars};
 ghost use Rattle.std.specs.Str.{IsCharBoundary};
-ghost use Rattle.enc_units.specs.Results.{encoder_result_of};
+ghost use Rattle.enc_input.specs.Results.{encoder_result_of};
 ghost use Rattle.enc_encoder.specs.ErrorMode.{Fatal};
 ghost use Rattle.enc_stream.specs.Encoder.{EncodesChunk, html_mode, LeavesFewerSteps};
 

@@ -2,7 +2,7 @@
 
 ghost use Rattle.std.specs.Prelude.{◌≡◌, ℕ, ◌<◌, ◌≤◌, true, false, [], length, take, drop, chars};
 ghost use Rattle.std.specs.Str.{IsCharBoundary};
-ghost use Rattle.enc_units.specs.Validity.{AreAscii};
+ghost use Rattle.enc_utf8.specs.Validity.{AreAscii};
 ghost use Rattle.enc_encoder.specs.EncoderRule.{is_escape_due};
 ghost use Rattle.enc_stream.specs.Properties.{is_ascii_compatible};
 ghost use Rattle.enc_writer.specs.EncodedText.{EncodesText, text_to_encode};

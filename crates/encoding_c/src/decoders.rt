@@ -5,7 +5,7 @@ ghost use Rattle.std.specs.Prelude.{is_some, IfSome, IsNone, Some, length, take,
 ghost use Rattle.std.specs.Char.{encode_utf8};
 ghost use Rattle.std.specs.Char.Escape.{encode_utf16};
 ghost use Rattle.std.specs.Str.{IsUtf8};
-ghost use Rattle.enc_units.specs.Results.{decoder_result_of};
+ghost use Rattle.enc_output.specs.Results.{decoder_result_of};
 ghost use Rattle.enc_decoder.specs.Call.{reaches_end};
 ghost use Rattle.enc_stream.specs.declared.bom.BomHandling.TheVariants as handling;
 ghost use Rattle.enc_stream.specs.Decoding.{has_finished, fresh_decoder, AnswersDecode};

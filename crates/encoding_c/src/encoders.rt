@@ -7,7 +7,7 @@ ghost use Rattle.std.specs.Char.Escape.{encode_utf16};
 ghost use Rattle.std.specs.Char.Utf16.{utf16_lossy_chars};
 ghost use Rattle.std.specs.Str.{IsUtf8, IsCharBoundary};
 ghost use Rattle.enc_encoder.specs.EncoderRule.{is_escape_due};
-ghost use Rattle.enc_units.specs.Results.{encoder_result_of};
+ghost use Rattle.enc_input.specs.Results.{encoder_result_of};
 ghost use Rattle.enc_encoder.specs.ErrorMode.{Fatal};
 ghost use Rattle.enc_stream.specs.Encoder.{EncodesChunk, fresh_encoder, html_mode};
 ghost use Rattle.enc_stream.specs.Encoder.{LeavesFewerSteps};

@@ -2,8 +2,7 @@
 
 ghost use Rattle.std.specs.Prelude.{◌≡◌, ◌↔◌, ◌≤◌, ◌<◌, IsTrue, None, IfSome, IsNone, false};
 ghost use Rattle.std.specs.Prelude.{length, take, drop, option_map};
-ghost use Rattle.enc_units.specs.Validity.{IsLongestPrefix, IsWellFormedUtf8};
-ghost use Rattle.enc_units.specs.Validity.{AreAscii, AreIso2022JpAscii};
+ghost use Rattle.enc_utf8.specs.Validity.{IsLongestPrefix, IsWellFormedUtf8, AreAscii, AreIso2022JpAscii};
 ghost use Rattle.enc_stream.specs.Bom.{bom_of};
 ghost use Rattle.enc_stream.specs.Labels.{encoding_of_label, encoding_of_label_no_replacement};
 ghost use Rattle.enc_stream.specs.Names.{name_of};

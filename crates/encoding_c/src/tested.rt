@@ -3,7 +3,7 @@
 ghost use Rattle.std.specs.Prelude.{◌≡◌, ◌≤◌, true, false, length, take, drop, chars};
 ghost use Rattle.std.specs.Char.{encode_utf8};
 ghost use Rattle.std.specs.Str.{IsUtf8, IsCharBoundary};
-ghost use Rattle.enc_units.specs.Results.{encoder_result_of};
+ghost use Rattle.enc_input.specs.Results.{encoder_result_of};
 ghost use Rattle.enc_encoder.specs.ErrorMode.{Fatal};
 ghost use Rattle.enc_stream.specs.Encoder.{EncodesChunk, html_mode, LeavesFewerSteps};
 ghost use Rattle.enc_stream.specs.Encoder.{room_kept_for_references};

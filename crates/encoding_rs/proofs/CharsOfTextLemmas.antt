@@ -7,13 +7,13 @@ use Rattle.std.proofs.Math.ListN.{drop_of_length-le}
 use Rattle.std.proofs.Math.Seq.{drop-append_seam}
 use Rattle.std.specs.Char.Escape.{encode_utf16}
 use Rattle.std.specs.Char.Utf16.{utf16_lossy_chars}
-use Rattle.enc_units.proofs.UnitsLemmas.{utf_16_read_back}
+use Rattle.enc_utf8.proofs.UnitsLemmas.{utf_16_read_back}
 use Rattle.enc_encoder.proofs.EnoughLemmas.{some_of_utf_8, some_of_utf_16}
 use Rattle.std.proofs.lemmas.Str.{chars-nil, chars-append, chars_past_char, IsUtf8-past_char}
 use Rattle.std.proofs.lemmas.Str.{scalars-chars, encodes-chars, IsUtf8-take, IsUtf8-drop, IsCharBoundary-at_seam}
 use Rattle.std.specs.Char.{encode_utf8}
 use Rattle.std.specs.Str.{IsUtf8, IsCharBoundary, encode_utf8_all}
-use Rattle.enc_units.specs.Output.{units_of_text}
+use Rattle.enc_utf8.specs.Text.{units_of_text}
 use Rattle.encoding_rs.specs.Run.{units_of_call}
 
 no_chars : (text : List ℕ) → length text ≡ 0 → chars text ≡ []

@@ -8,12 +8,11 @@ use Rattle.std.specs.Char.{encode_utf8}
 use Rattle.std.specs.Char.Escape.{encode_utf16}
 use Rattle.std.specs.Char.Utf16.{utf16_lossy_chars}
 use Rattle.std.specs.Str.{encode_utf8_all}
-use Rattle.enc_units.specs.declared.decoder_result.DecoderResult.{DecoderResult}
-use Rattle.enc_units.specs.declared.decoder_result.DecoderResult.TheVariants.{InputEmpty, OutputFull, Malformed}
-use Rattle.enc_units.specs.Output.{AreScalars, DetermineTexts, units_of_text}
+use Rattle.enc_output.specs.declared.decoder_result.DecoderResult.{DecoderResult}
+use Rattle.enc_output.specs.declared.decoder_result.DecoderResult.TheVariants.{InputEmpty, OutputFull, Malformed}
+use Rattle.enc_utf8.specs.Text.{AreScalars, DetermineTexts, units_of_text}
 use Rattle.encoding_rs.specs.Run.{units_of_call, is_malformed_result, replacement_text}
-use Rattle.enc_units.proofs.UnitsLemmas.{utf_8_determines, utf_16_determines, utf_16_read_back}
-use Rattle.enc_units.proofs.Utf8CharsLemmas.{their_units}
+use Rattle.enc_utf8.proofs.UnitsLemmas.{utf_8_determines, utf_16_determines, utf_16_read_back, their_units}
 
 -- a call is offered n bytes, or all if there are fewer
 pub offered : (n k : ℕ) (bytes chunk : List ℕ) → chunk ≡ take k bytes → k ≡ min n (length bytes)

@@ -7,7 +7,7 @@ use Rattle.std.proofs.lemmas.List.{take-append-drop, drop-drop, length-append, l
 use Rattle.std.proofs.Math.ListN.{length-drop}
 use Rattle.std.proofs.Math.Seq.{drop-append_seam}
 use Rattle.enc_encoder.specs.declared.character_set.CharacterSet.TheVariants.{Ascii}
-use Rattle.enc_units.specs.declared.encoder_result.EncoderResult.{EncoderResult}
+use Rattle.enc_input.specs.declared.encoder_result.EncoderResult.{EncoderResult}
 use Rattle.enc_encoder.specs.EncoderRule.{EncoderRule}
 use Rattle.enc_encoder.specs.Steps.{step_chars, any_reported}
 use Rattle.enc_encoder.specs.Text.{escape_at_end, bytes_of_text, with_references, reference_after}

@@ -5,8 +5,8 @@ use Rattle.std.proofs.lemmas.Bool.{and_from}
 use Rattle.std.proofs.Math.Utf8.{low_scalar}
 use Rattle.std.specs.Char.{IsScalar}
 use Rattle.std.specs.Cmp.{first_so, second_so}
-use Rattle.enc_units.specs.Output.{AreScalars}
-use Rattle.enc_units.proofs.ScalarLemmas.{scalars-append}
+use Rattle.enc_utf8.specs.Text.{AreScalars}
+use Rattle.enc_utf8.proofs.ScalarLemmas.{scalars-append}
 use Rattle.enc_decoder.specs.Sequence.{sequence_text, any_malformed}
 use Rattle.enc_decoder.specs.Segmentation.{sequences_of}
 use Rattle.enc_encoder.specs.declared.character_set.CharacterSet.TheVariants.{Ascii}

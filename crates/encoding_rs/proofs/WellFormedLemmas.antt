@@ -5,7 +5,7 @@ use Rattle.std.proofs.lemmas.Bool.Decides.{nat_tests}
 use Rattle.std.proofs.lemmas.Str.{IsUtf8-nil, IsUtf8-append}
 use Rattle.std.specs.Str.{IsUtf8}
 use Rattle.std.proofs.str.Valid.{of_one, of_two}
-use Rattle.enc_units.proofs.Utf8RunLemmas.{three_front, four_front}
+use Rattle.enc_utf8.proofs.Utf8RunLemmas.{three_front, four_front}
 use Rattle.enc_decoder.specs.Sequence.{Sequence, any_malformed}
 use Rattle.enc_decoder.specs.Segmentation.{sequences_of}
 use Rattle.enc_decoder.proofs.FirstSequenceLemmas.{true_or_false}

@@ -3,7 +3,7 @@
 ghost use Rattle.std.specs.Prelude.{◌≡◌, ◌↔◌, ◌≤◌, ◌++◌, ℕ, List, chars, length, take, drop, IfOk};
 ghost use Rattle.std.specs.Char.Utf16.{utf16_lossy_chars};
 ghost use Rattle.std.specs.Str.{IsCharBoundary};
-ghost use Rattle.enc_units.specs.Output.{units_of_text};
+ghost use Rattle.enc_utf8.specs.Text.{units_of_text};
 ghost use Rattle.encoding_rs.specs.Run.{units_of_call};
 
 use std::alloc::{AllocError, Global};

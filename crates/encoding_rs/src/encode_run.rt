@@ -5,7 +5,7 @@ ghost use Rattle.std.specs.Prelude.{IfOk, OnOk};
 ghost use Rattle.std.specs.Char.{encode_utf8};
 ghost use Rattle.std.specs.Char.Escape.{encode_utf16};
 ghost use Rattle.enc_encoder.specs.Text.{reference_after};
-ghost use Rattle.enc_units.specs.Results.{encoder_result_of};
+ghost use Rattle.enc_input.specs.Results.{encoder_result_of};
 ghost use Rattle.enc_encoder.specs.Barring.{are_beyond_ascii};
 ghost use Rattle.enc_stream.specs.Encoder.{EncodesChunk};
 ghost use Rattle.encoding_rs.specs.Run.{units_of_call};
@@ -17,8 +17,9 @@ ghost use Rattle.encoding_rs.specs.EncodeReport.{IsReportOf};
 use crate::chars_of_text::{chars_in_units, split_at_char, utf16_of};
 use crate::run::RunError;
 use enc_encoder::put_reference;
+use enc_input::EncoderResult;
 use enc_stream::{Encoder, Encoding};
-use enc_units::{CoderResult, EncoderResult};
+use enc_utf8::CoderResult;
 use std::alloc::{AllocError, Global};
 
 /// One call of a run: the input's code units, the error mode, the length of the chunk and the room.

@@ -30,8 +30,8 @@ ghost use Rattle.enc_decoder.specs.Lookahead.{CoverLookahead};
 ghost use Rattle.encoding_rs.specs.Lookahead.{MayLook, mark_found, rule_found, after_mark_found};
 ghost use Rattle.enc_round_trip.specs.RoundTrip.{char_read_back, any_read_as_other};
 ghost use Rattle.std.specs.Char.{encode_utf8};
-ghost use Rattle.enc_units.specs.Output.{AreScalars, units_of_text};
-ghost use Rattle.enc_units.specs.Validity.{IsWellFormedUtf8};
+ghost use Rattle.enc_utf8.specs.Text.{AreScalars, units_of_text};
+ghost use Rattle.enc_utf8.specs.Validity.{IsWellFormedUtf8};
 
 use enc_stream::constants::{EUC_JP, GB18030, GBK, ISO_2022_JP, REPLACEMENT, SHIFT_JIS, UTF_8};
 pub use enc_stream::laws::{

@@ -6,7 +6,7 @@ ghost use Rattle.std.specs.List.{All};
 ghost use Rattle.std.specs.Char.{encode_utf8};
 ghost use Rattle.std.specs.Char.Escape.{encode_utf16};
 ghost use Rattle.std.specs.String.{string_bytes};
-ghost use Rattle.enc_units.specs.Results.{decoder_result_of};
+ghost use Rattle.enc_output.specs.Results.{decoder_result_of};
 ghost use Rattle.enc_stream.specs.Decoding.{DecoderState, has_finished};
 ghost use Rattle.enc_stream.specs.Decoding.{whole_encoding, whole_utf_8, whole_malformed};
 ghost use Rattle.enc_stream.specs.Faults.{whole_faults};
@@ -19,9 +19,10 @@ ghost use Rattle.encoding_rs.specs.Run.{all_report_malformed};
 mod error;
 
 pub use crate::encode_run::{EncodeCall, EncodeReport, encode_run, encode_run_barring};
+use enc_output::DecoderResult;
 pub use enc_stream::BomHandling;
 use enc_stream::{Decoder, Encoding};
-use enc_units::{CoderResult, DecoderResult};
+use enc_utf8::CoderResult;
 pub use error::RunError;
 use std::alloc::{AllocError, Global};
 

@@ -3,8 +3,8 @@
 use Rattle.std.proofs.Common.{◌≡◌, ℕ, ◌+◌, true, false, List, [], ◌∷◌, ◌++◌, drop, refl, ap, ◌∙◌, sym}
 use Rattle.std.proofs.Common.{append-nil, add_assoc, zero-add, if◌then◌else◌}
 use Rattle.std.specs.Char.{encode_utf8}
-use Rattle.enc_units.specs.declared.decoder_result.DecoderResult.{DecoderResult}
-use Rattle.enc_units.specs.declared.decoder_result.DecoderResult.TheVariants as raw
+use Rattle.enc_output.specs.declared.decoder_result.DecoderResult.{DecoderResult}
+use Rattle.enc_output.specs.declared.decoder_result.DecoderResult.TheVariants as raw
 use Rattle.enc_decoder.specs.Sequence.{Sequence, is_malformed, any_malformed}
 use Rattle.enc_decoder.specs.Call.{DecoderStops, Fatal}
 use Rattle.std.proofs.lemmas.Bool.{or_parts}

@@ -5,7 +5,7 @@ use Rattle.std.proofs.Common.{append-nil, length-append, arith, chars, subst}
 use Rattle.std.proofs.lemmas.Bool.{false≢true}
 use Rattle.std.proofs.lemmas.Str.{chars-encodes, chars-append, chars-nil}
 use Rattle.std.specs.Prelude.{IfSome, if◌then◌else◌}
-use Rattle.enc_units.proofs.Utf8CharsLemmas.{their_units}
+use Rattle.enc_utf8.proofs.UnitsLemmas.{their_units}
 use Rattle.enc_decoder.specs.Sequence.{sequence_text, any_malformed}
 use Rattle.enc_decoder.proofs.SequenceLemmas.{sequence_text-append}
 use Rattle.enc_encoder.specs.declared.character_set.CharacterSet.TheVariants.{Ascii}

@@ -1,6 +1,6 @@
 -- Inputs with one code unit a character.
 use Rattle.std.proofs.Common.{◌≡◌, ℕ, ◌+◌, List, [], ◌∷◌, ◌++◌, length, refl, ap, arith}
-use Rattle.enc_units.specs.Output.{units_of_text}
+use Rattle.enc_utf8.specs.Text.{units_of_text}
 
 -- there are as many code units as characters
 pub one_unit_each : (text : List ℕ) → length (units_of_text (λ c. c ∷ []) text) ≡ length text

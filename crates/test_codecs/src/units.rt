@@ -6,10 +6,9 @@ ghost use Rattle.std.specs.Prelude.{[], ◌∷◌};
 
 use enc_encode::{RawEncoder, new_encoder};
 use enc_index::Codec;
-use enc_units::{
-    Chars, EncoderResult, StringTail, Units, Utf8Slice, Utf16Slice, ascii_valid_up_to, clear_rest,
-    iso_2022_jp_ascii_valid_up_to, utf8_valid_up_to,
-};
+use enc_input::{Chars, EncoderResult};
+use enc_output::{StringTail, Units, Utf8Slice, Utf16Slice, clear_rest};
+use enc_utf8::{ascii_valid_up_to, iso_2022_jp_ascii_valid_up_to, utf8_valid_up_to};
 use std::process::Abort;
 use std::test::Fail;
 

@@ -10,7 +10,7 @@ use Rattle.enc_index.specs.Grid.{IsPlaceOf}
 use Rattle.enc_index.specs.Runs.{runs_of, big5_at}
 use Rattle.enc_index.proofs.Tables.Big5.{has_no_more}
 use Rattle.enc_index.proofs.PlaceLemmas.{pair_place, some_none}
-use Rattle.enc_units.specs.Places.{number_in}
+use Rattle.enc_output.specs.Places.{number_in}
 use Rattle.enc_decoder_multi_byte.specs.DoubleByte.{text_of_char, IsLeadPair}
 use Rattle.enc_decoder_multi_byte.specs.Big5.{is_big5_lead, is_big5_trail, big5_pair_pointer, big5_pointer_text}
 use Rattle.enc_decoder_multi_byte.specs.Big5.{big5_pair_text}

@@ -8,7 +8,7 @@ use Rattle.enc_index.specs.Grid.{IsPlaceOf}
 use Rattle.enc_index.specs.Runs.{jis0208_at}
 use Rattle.enc_index.proofs.Tables.Jis0208.{has_no_more}
 use Rattle.enc_index.proofs.PlaceLemmas.{pair_place}
-use Rattle.enc_units.specs.Places.{number_in}
+use Rattle.enc_output.specs.Places.{number_in}
 use Rattle.enc_decoder_multi_byte.specs.DoubleByte.{text_of_char, trail_prefix, first_prefix}
 use Rattle.enc_decoder_multi_byte.specs.MultiByte.{IsCharPair}
 use Rattle.enc_decoder_multi_byte.specs.EucJp.{is_euc_byte, euc_pair_pointer, is_euc_jp_lead, euc_jp_single_char}

@@ -8,7 +8,7 @@ use Rattle.enc_index.specs.Grid.{IsPlaceOf}
 use Rattle.enc_index.specs.Runs.{euc_kr_at}
 use Rattle.enc_index.proofs.Tables.EucKr.{has_no_more}
 use Rattle.enc_index.proofs.PlaceLemmas.{pair_place}
-use Rattle.enc_units.specs.Places.{number_in}
+use Rattle.enc_output.specs.Places.{number_in}
 use Rattle.enc_decoder_multi_byte.specs.DoubleByte.{text_of_char, IsLeadPair}
 use Rattle.enc_decoder_multi_byte.specs.EucKr.{is_euc_kr_lead, is_euc_kr_trail, euc_kr_pair_pointer, euc_kr_pair_text}
 use Rattle.enc_decoder_multi_byte.proofs.PlaceNumbers.{range_number, number_below}

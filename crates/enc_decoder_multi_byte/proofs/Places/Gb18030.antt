@@ -8,7 +8,7 @@ use Rattle.enc_index.specs.Grid.{IsPlaceOf}
 use Rattle.enc_index.specs.Runs.{gb18030_at}
 use Rattle.enc_index.proofs.Tables.Gb18030.{has_no_more}
 use Rattle.enc_index.proofs.PlaceLemmas.{pair_place}
-use Rattle.enc_units.specs.Places.{number_in}
+use Rattle.enc_output.specs.Places.{number_in}
 use Rattle.enc_decoder_multi_byte.specs.DoubleByte.{text_of_char, trail_prefix, first_prefix}
 use Rattle.enc_decoder_multi_byte.specs.MultiByte.{IsCharPair}
 use Rattle.enc_decoder_multi_byte.specs.Gb18030.{is_gb18030_lead, is_gb18030_trail, gb18030_single_char}

@@ -9,7 +9,7 @@ use Rattle.enc_index.specs.Grid.{IsPlaceOf}
 use Rattle.enc_index.specs.Runs.{jis0208_at}
 use Rattle.enc_index.proofs.Tables.Jis0208.{has_no_more}
 use Rattle.enc_index.proofs.PlaceLemmas.{Stands, below, place_at}
-use Rattle.enc_units.specs.Places.{number_in}
+use Rattle.enc_output.specs.Places.{number_in}
 use Rattle.enc_decoder_multi_byte.specs.DoubleByte.{text_of_char, IsLeadPair}
 use Rattle.enc_decoder_multi_byte.specs.ShiftJis.{is_shift_jis_lead, is_shift_jis_trail, shift_jis_pair_pointer}
 use Rattle.enc_decoder_multi_byte.specs.ShiftJis.{shift_jis_pointer_char, shift_jis_pair_text}

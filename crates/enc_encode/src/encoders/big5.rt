@@ -1,12 +1,12 @@
 //! The Big5 encoder (Encoding Standard 11.1.2).
 
 ghost use Rattle.std.specs.Prelude.{◌≡◌, ◌<◌};
-ghost use Rattle.enc_units.specs.Bytes.{byte_list};
+ghost use Rattle.enc_input.specs.Bytes.{byte_list};
 ghost use Rattle.enc_encode.specs.Big5.{big5_pair_bytes, big5_trail_byte};
 
 use enc_encoder::{Barring, ByteLengths, Repertoire, StatelessEncoder, two};
 use enc_index_pointers::big5;
-use enc_units::Bytes;
+use enc_input::Bytes;
 
 /// Big5 (Encoding Standard 11.1): ASCII, and the characters of index Big5 without the Hong Kong
 /// additions at its start.

@@ -1,13 +1,13 @@
 //! The EUC-JP encoder (Encoding Standard 12.1.2).
 
 ghost use Rattle.std.specs.Prelude.{◌≡◌, ◌<◌};
-ghost use Rattle.enc_units.specs.Bytes.{byte_list};
+ghost use Rattle.enc_input.specs.Bytes.{byte_list};
 ghost use Rattle.enc_encode.specs.EucJp.{euc_jp_pair_bytes};
 
 use super::japanese::{is_halfwidth_katakana, katakana_byte, with_fullwidth_minus};
 use enc_encoder::{Barring, ByteLengths, Repertoire, StatelessEncoder, one, two};
 use enc_index_pointers::jis0208;
-use enc_units::Bytes;
+use enc_input::Bytes;
 
 /// EUC-JP (Encoding Standard 12.1): ASCII, half-width katakana, and the characters of index
 /// jis0208. Those of jis0212, which its decoder has, are unmappable.

@@ -1,12 +1,12 @@
 //! The EUC-KR encoder (Encoding Standard 13.1.2).
 
 ghost use Rattle.std.specs.Prelude.{◌≡◌, ◌<◌};
-ghost use Rattle.enc_units.specs.Bytes.{byte_list};
+ghost use Rattle.enc_input.specs.Bytes.{byte_list};
 ghost use Rattle.enc_encode.specs.EucKr.{euc_kr_pair_bytes};
 
 use enc_encoder::{Barring, ByteLengths, Repertoire, StatelessEncoder, two};
 use enc_index_pointers::euc_kr;
-use enc_units::Bytes;
+use enc_input::Bytes;
 
 /// EUC-KR (Encoding Standard 13.1): ASCII, and the characters of index EUC-KR.
 #[derive(Clone, Copy)]

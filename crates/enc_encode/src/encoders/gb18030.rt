@@ -1,7 +1,7 @@
 //! The gb18030 encoder, which is also that of GBK (Encoding Standard 10.2.2).
 
 ghost use Rattle.std.specs.Prelude.{◌≡◌, ◌<◌, ◌≤◌, ◌&&◌, nat_le};
-ghost use Rattle.enc_units.specs.Bytes.{byte_list};
+ghost use Rattle.enc_input.specs.Bytes.{byte_list};
 ghost use Rattle.enc_encoder.specs.CharLaw.{AreBytesOf};
 ghost use Rattle.enc_encode.specs.Gb18030.{gb18030_pair_bytes, gb18030_trail_byte};
 ghost use Rattle.enc_encode.specs.Gb18030.{gb18030_four_bytes};
@@ -13,7 +13,7 @@ ghost use Rattle.enc_encoder.specs.Stateless.{bytes_of_pointer};
 use super::private_use::PRIVATE_USE;
 use enc_encoder::{Barring, ByteLengths, Repertoire, StatelessEncoder, four, one, two};
 use enc_index_pointers::{gb18030, gb18030_ranges};
-use enc_units::Bytes;
+use enc_input::Bytes;
 
 /// gb18030 (Encoding Standard 10.2): ASCII, two bytes by index gb18030 or for 18 characters of
 /// private use beside it, and four bytes by its ranges. GBK (10.1) has no four bytes, and one byte

@@ -7,7 +7,7 @@ ghost use Rattle.enc_encode.specs.Iso2022Jp.{set_of_class as wanted_set, is_shif
 ghost use Rattle.enc_encode.specs.Iso2022Jp.{lookup_char as wanted_looked_up};
 ghost use Rattle.enc_encode.specs.Iso2022Jp.{iso_2022_jp_bytes as wanted_bytes};
 ghost use Rattle.enc_encode.specs.Iso2022Jp.{jis0208_pair_bytes as wanted_pair};
-ghost use Rattle.enc_units.specs.Bytes.{byte_list};
+ghost use Rattle.enc_input.specs.Bytes.{byte_list};
 ghost use Rattle.enc_encoder.specs.CharLaw.{AreBytesOf};
 
 use super::japanese::{is_halfwidth_katakana, with_fullwidth_minus};
@@ -17,7 +17,8 @@ use enc_encoder::{
     RawEncoder, one, run, two,
 };
 use enc_index_pointers::jis0208;
-use enc_units::{Bytes, Chars, Mapping, unshifted_len};
+use enc_input::{Bytes, Chars, Mapping};
+use enc_utf8::unshifted_len;
 use std::simd::prelude::*;
 
 /// The class of a mappable character.

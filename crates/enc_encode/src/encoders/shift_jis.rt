@@ -1,14 +1,14 @@
 //! The Shift_JIS encoder (Encoding Standard 12.3.2).
 
 ghost use Rattle.std.specs.Prelude.{◌≡◌, ◌<◌};
-ghost use Rattle.enc_units.specs.Bytes.{byte_list};
+ghost use Rattle.enc_input.specs.Bytes.{byte_list};
 ghost use Rattle.enc_encode.specs.ShiftJis.{shift_jis_pair_bytes};
 ghost use Rattle.enc_encode.specs.ShiftJis.{shift_jis_lead_byte, shift_jis_trail_byte};
 
 use super::japanese::{is_halfwidth_katakana, katakana_byte, with_fullwidth_minus};
 use enc_encoder::{Barring, ByteLengths, Repertoire, StatelessEncoder, one, two};
 use enc_index_pointers::shift_jis;
-use enc_units::Bytes;
+use enc_input::Bytes;
 
 /// Shift_JIS (Encoding Standard 12.3): ASCII and U+0080, half-width katakana, and the characters of
 /// index jis0208.

@@ -1,13 +1,13 @@
 //! The encoders of the legacy single-byte encodings (Encoding Standard 9.2).
 
 ghost use Rattle.std.specs.Prelude.{◌≡◌, ◌<◌};
-ghost use Rattle.enc_units.specs.Bytes.{byte_list};
+ghost use Rattle.enc_input.specs.Bytes.{byte_list};
 ghost use Rattle.enc_encode.specs.SingleByte.{single_byte_of_pointer as byte_of_pointer};
 
 use enc_encoder::{Barring, ByteLengths, Repertoire, StatelessEncoder, one};
 use enc_index::SingleByteIndex;
 use enc_index_pointers::{single_byte, single_byte_of_unit};
-use enc_units::Bytes;
+use enc_input::Bytes;
 
 /// A legacy single-byte encoding (Encoding Standard 9): ASCII, and the characters of its index.
 #[derive(Clone, Copy)]

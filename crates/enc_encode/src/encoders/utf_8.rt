@@ -1,10 +1,10 @@
 //! The UTF-8 encoder (Encoding Standard 8.1.2).
 
 ghost use Rattle.std.specs.Prelude.{◌≡◌, encode_utf8};
-ghost use Rattle.enc_units.specs.Bytes.{byte_list};
+ghost use Rattle.enc_input.specs.Bytes.{byte_list};
 
 use enc_encoder::{Barring, ByteLengths, Repertoire, StatelessEncoder};
-use enc_units::Bytes;
+use enc_input::Bytes;
 
 /// UTF-8 (Encoding Standard 8.1): every character.
 #[derive(Clone, Copy)]

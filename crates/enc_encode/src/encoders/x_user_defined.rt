@@ -1,7 +1,7 @@
 //! The x-user-defined encoder (Encoding Standard 14.5.2).
 
 use enc_encoder::{Barring, ByteLengths, Repertoire, StatelessEncoder, one};
-use enc_units::Bytes;
+use enc_input::Bytes;
 
 /// x-user-defined (Encoding Standard 14.5): ASCII, and U+F780 to U+F7FF.
 #[derive(Clone, Copy)]

@@ -4,16 +4,17 @@ ghost use Rattle.std.specs.Prelude.{◌≡◌, ◌+◌, ◌-◌, ◌≤◌, fals
 ghost use Rattle.std.specs.Char.{encode_utf8};
 ghost use Rattle.std.specs.String.{string_bytes, string_len, string_capacity};
 ghost use Rattle.std.specs.Str.{IsUtf8};
-ghost use Rattle.enc_units.specs.Validity.{IsWellFormedUtf8};
-ghost use Rattle.enc_units.specs.Rest.{without_continuations};
-ghost use Rattle.enc_units.specs.Results.{decoder_result_of};
+ghost use Rattle.enc_utf8.specs.Validity.{IsWellFormedUtf8};
+ghost use Rattle.enc_output.specs.Rest.{without_continuations};
+ghost use Rattle.enc_output.specs.Results.{decoder_result_of};
 ghost use Rattle.enc_decoder.specs.Call.{Replacement, Fatal, reaches_end};
 ghost use Rattle.enc_stream.specs.Decoding.{has_finished, LeavesFewerBytes};
 ghost use Rattle.enc_stream.specs.Decoding.{AnswersDecode, ReportsBytesSoFar};
 
 use super::{Decoder, unreported};
 use enc_decoder::ErrorMode;
-use enc_units::{CoderResult, DecoderResult, StringTail, clear_rest};
+use enc_output::{DecoderResult, StringTail, clear_rest};
+use enc_utf8::CoderResult;
 
 impl Decoder {
     /// Decodes a chunk of input over the text in `dst`, with replacement.

@@ -1,7 +1,7 @@
 -- A call into a buffer of the queried length is never full.
 use Rattle.std.proofs.Common.{◌≡◌, ap, refl, subst, length, true, arith, ℕ}
 use Rattle.std.specs.Char.{encode_utf8}
-use Rattle.enc_units.specs.Results.{decoder_result_of}
+use Rattle.enc_output.specs.Results.{decoder_result_of}
 use Rattle.enc_decoder.specs.Call.{Replacement}
 use Rattle.enc_decoder.specs.Need.{NeedExceeds}
 use Rattle.encoding_rs.specs.Decoding.{decoder_remainder}

@@ -9,7 +9,7 @@ use crate::surface::codecs::types::{variant_name, variant_of};
 use crate::surface::derives::{are_equal, copies, debug_text};
 use crate::surface::samples::{Pointer, SAMPLES, Sample};
 use enc_codec::*;
-use enc_units::Utf8Slice;
+use enc_output::Utf8Slice;
 use std::process::Abort;
 use std::test::Fail;
 

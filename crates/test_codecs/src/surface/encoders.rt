@@ -11,7 +11,7 @@ use enc_encode::{
     Codec, EncoderResult, EncoderStop, Iso2022JpEncoder, RawEncoder, VariantEncoder, has_encoder,
     new_encoder,
 };
-use enc_units::{Utf8Chars, Utf16Chars};
+use enc_input::{Utf8Chars, Utf16Chars};
 use std::process::Abort;
 use std::test::Fail;
 

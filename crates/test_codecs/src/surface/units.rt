@@ -1,6 +1,8 @@
-//! The items of `enc_units`: outputs of code units, inputs of characters, and valid prefixes.
+//! Outputs of code units, inputs of characters, and valid prefixes: the items of `enc_output`,
+//! `enc_input` and `enc_utf8`.
 
-use enc_units::{Chars, StringTail, Units, Utf8Chars, Utf8Slice, Utf16Chars, Utf16Slice};
+use enc_input::{Chars, Utf8Chars, Utf16Chars};
+use enc_output::{StringTail, Units, Utf8Slice, Utf16Slice};
 use std::process::Abort;
 use std::test::Fail;
 
@@ -33,7 +35,7 @@ fn outputs_take_characters_and_ascii(rt: HostRuntime) -> Result<(), Fail> {
     let mut text = String::with_capacity(rt.alloc(), 8)?;
     write_two_texts(&rt, &mut StringTail::new(&mut text), (3, 2, 4, 4));
     assert!(rt; text.as_str() == "éab");
-    let faults: (usize, usize, usize) = enc_units::laws::faults_are_widths();
+    let faults: (usize, usize, usize) = enc_output::laws::faults_are_widths();
     assert!(rt; faults == (3, 1, 3));
     Ok(())
 }
@@ -61,8 +63,8 @@ fn inputs_give_characters_with_their_code_units(rt: HostRuntime) {
 
 #[test]
 fn prefixes_are_valid_up_to_a_byte(rt: HostRuntime) {
-    let utf_8: usize = enc_units::utf8_valid_up_to(b"a\xC3\xA9\xED\xA0\x80");
-    let ascii: usize = enc_units::ascii_valid_up_to(b"a\x1B\x80");
-    let iso_2022_jp: usize = enc_units::iso_2022_jp_ascii_valid_up_to(b"a\x1B\x80");
+    let utf_8: usize = enc_utf8::utf8_valid_up_to(b"a\xC3\xA9\xED\xA0\x80");
+    let ascii: usize = enc_utf8::ascii_valid_up_to(b"a\x1B\x80");
+    let iso_2022_jp: usize = enc_utf8::iso_2022_jp_ascii_valid_up_to(b"a\x1B\x80");
     assert!(rt; (utf_8, ascii, iso_2022_jp) == (3, 2, 1));
 }

@@ -5,7 +5,7 @@ use crate::cases::{Case, expect};
 use crate::decoding::outputs::written_part;
 use crate::decoding::rows::{Cut, Input, MOST_ROOM, REPLACEMENT_CHARACTER, chunks_of, split};
 use enc_decoder::{DecoderStop, ErrorMode, RawDecoder};
-use enc_units::{DecoderResult, Units, Utf8Slice};
+use enc_output::{DecoderResult, Units, Utf8Slice};
 use std::alloc::Global;
 use std::test::Fail;
 

@@ -1,5 +1,5 @@
 use Rattle.std.proofs.Common.{◌≡◌, refl, false, inl, inr, ◌&&◌, rules}
-use Rattle.enc_units.specs.declared.decoder_result.DecoderResult.TheVariants.{InputEmpty}
+use Rattle.enc_output.specs.declared.decoder_result.DecoderResult.TheVariants.{InputEmpty}
 use Rattle.enc_decoder.specs.CodecState.{remainder_of}
 use Rattle.enc_decoder.specs.Call.{DecoderCallInto}
 use Rattle.enc_decoder.specs.Replacing.{replaces, decode_error_mode}

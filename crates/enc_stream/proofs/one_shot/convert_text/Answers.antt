@@ -1,8 +1,8 @@
 use Rattle.std.proofs.Common.{rules, ◌≡◌, ◌∙◌, None, length, chars, refl, ap}
 use Rattle.std.specs.Prelude.{◌≢◌}
 use Rattle.std.specs.Vec.{vec_len}
-use Rattle.enc_units.specs.Checked.{checked_add}
-use Rattle.enc_units.specs.declared.coder_result.CoderResult.TheVariants.{InputEmpty}
+use Rattle.enc_utf8.specs.Checked.{checked_add}
+use Rattle.enc_utf8.specs.declared.coder_result.CoderResult.TheVariants.{InputEmpty}
 use Rattle.enc_stream.proofs.OneShotDecodeLemmas.{nothing, something}
 use Rattle.enc_stream.proofs.UnreadTextLemmas.{no_chars}
 use Rattle.enc_stream.proofs.OneShotEncodeLemmas.{none_encoded, none_asked, nothing_written, too_long, all_written}

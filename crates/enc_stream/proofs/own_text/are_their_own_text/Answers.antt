@@ -1,6 +1,6 @@
 use Rattle.std.proofs.Common.{◌∙◌, sym, inl, inr}
 use Rattle.std.proofs.lemmas.Bool.{false≢true}
-use Rattle.enc_units.specs.Validity.{IsWellFormedUtf8, AreAscii, AreIso2022JpAscii}
+use Rattle.enc_utf8.specs.Validity.{IsWellFormedUtf8, AreAscii, AreIso2022JpAscii}
 use Rattle.enc_stream.specs.OwnText.{AreTheirOwnText}
 use Rattle.enc_stream.proofs.OwnTextLemmas.{prefix_decides, own_utf_8, only_plain, only_ascii}
 use Rattle.enc_stream.proofs.own_text.are_their_own_text.Goals as goal

@@ -1,6 +1,6 @@
 use Rattle.std.proofs.Common.{rules, ◌≡◌, take, false}
 use Rattle.std.proofs.lemmas.Str.{IsCharBoundary-start, IsCharBoundary-from_take}
-use Rattle.enc_units.specs.Validity.{AreAscii}
+use Rattle.enc_utf8.specs.Validity.{AreAscii}
 use Rattle.enc_encoder.specs.EncoderRule.{is_escape_due}
 use Rattle.enc_stream.specs.declared.constants.TheConstants.{UTF_8}
 use Rattle.enc_stream.proofs.OwnTextLemmas.{ascii_utf_8}

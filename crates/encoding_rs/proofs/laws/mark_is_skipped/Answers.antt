@@ -1,6 +1,6 @@
 use Rattle.std.proofs.Common.{ap}
 use Rattle.std.specs.Char.{encode_utf8}
-use Rattle.enc_units.specs.Output.{units_of_text}
+use Rattle.enc_utf8.specs.Text.{units_of_text}
 use Rattle.enc_stream.proofs.FoundMarkLemmas.{unmarked_text, unmarked_flag}
 use Rattle.encoding_rs.specs.Lookahead.{mark_found}
 use Rattle.encoding_rs.proofs.FaultPlaceLemmas.{unmarked_faults}

@@ -1,5 +1,5 @@
-use Rattle.enc_units.specs.Pieces.{IsUtf8Char}
-use Rattle.enc_units.proofs.PiecesLemmas.{puts_as}
+use Rattle.enc_utf8.specs.Pieces.{IsUtf8Char}
+use Rattle.enc_output.proofs.PiecesLemmas.{puts_as}
 use Rattle.enc_decoder.specs.Taking.{IsWholeChar}
 use Rattle.enc_decoder.specs.Prefixes.{prefix_rule}
 use Rattle.enc_decoder_utf.specs.Utf8.{utf_8_prefix}

@@ -1,7 +1,7 @@
 use Rattle.std.proofs.Common.{◌∙◌, ap}
-use Rattle.enc_units.specs.Rest.{without_continuations}
-use Rattle.enc_units.proofs.AsciiPrefixLemmas.{text_utf8}
-use Rattle.enc_units.proofs.OverwrittenTextLemmas.{is_text}
+use Rattle.enc_output.specs.Rest.{without_continuations}
+use Rattle.enc_utf8.proofs.UnitsLemmas.{text_utf8}
+use Rattle.enc_output.proofs.OverwrittenTextLemmas.{is_text}
 use Rattle.enc_stream.proofs.decoder.Decoder.decode_to_str.Goals as goal
 
 pub returns-clause-utf8 : goal.returns-clause-utf8

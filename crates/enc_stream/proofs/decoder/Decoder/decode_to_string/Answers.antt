@@ -1,7 +1,7 @@
 use Rattle.std.proofs.Common.{refl, rules}
 use Rattle.std.specs.String.{string_bytes, string_len, string_capacity}
 use Rattle.std.proofs.Common.{◌≡◌, ap, length, arith}
-use Rattle.enc_units.specs.Output.{Output}
+use Rattle.enc_output.specs.Output.{Output}
 use Rattle.enc_stream.proofs.AppendedOutputLemmas.{over_text, reports_none, in_front, capacity_stays}
 use Rattle.enc_stream.proofs.OutputFullLemmas.{four_bytes}
 use Rattle.enc_stream.proofs.AppendedOutputLemmas.{still_goes_on}

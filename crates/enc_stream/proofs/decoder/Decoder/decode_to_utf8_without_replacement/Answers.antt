@@ -1,5 +1,5 @@
 use Rattle.std.proofs.Common.{refl, arith, rules}
-use Rattle.enc_units.proofs.AsciiPrefixLemmas.{text_utf8}
+use Rattle.enc_utf8.proofs.UnitsLemmas.{text_utf8}
 use Rattle.enc_stream.proofs.AppendedOutputLemmas.{over_slice}
 use Rattle.enc_stream.proofs.OutputFullLemmas.{four_bytes}
 use Rattle.enc_stream.proofs.DecoderCallLemmas.{pending_so_far, reported_so_far}

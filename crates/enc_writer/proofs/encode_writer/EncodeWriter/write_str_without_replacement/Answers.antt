@@ -3,7 +3,7 @@ use Rattle.std.proofs.Common.{subst, chars, drop, length, arith, false, IsUtf8}
 use Rattle.std.proofs.Math.ListN.{length-drop}
 use Rattle.std.proofs.lemmas.List.{drop-drop}
 use Rattle.std.proofs.lemmas.Str.{IsCharBoundary-from_drop, IsUtf8-drop}
-use Rattle.enc_units.specs.declared.encoder_result.EncoderResult.TheVariants.{InputEmpty, OutputFull, Unmappable}
+use Rattle.enc_input.specs.declared.encoder_result.EncoderResult.TheVariants.{InputEmpty, OutputFull, Unmappable}
 use Rattle.enc_writer.specs.EncodedText.{bytes_from_state}
 use Rattle.enc_writer.specs.Writer.{writer_of}
 use Rattle.enc_writer.proofs.SinkLemmas.{on_err}

@@ -1,7 +1,7 @@
 use Rattle.std.proofs.Common.{◌≡◌, ◌+◌, ◌≤◌, chars, drop, length, false}
 use denote.Text.{Utf8}
 use denote.Shadow.{shadow}
-use Rattle.enc_units.specs.declared.encoder_result.EncoderResult.TheVariants.{OutputFull}
+use Rattle.enc_input.specs.declared.encoder_result.EncoderResult.TheVariants.{OutputFull}
 use Rattle.enc_stream.specs.Encoder.{steps_left}
 use Rattle.enc_writer.specs.EncodedText.{bytes_from_state}
 use Rattle.enc_writer.specs.Writing.{FitsInBuffer}

@@ -1,6 +1,6 @@
 use Rattle.std.proofs.Common.{rules, ◌≡◌, refl, ap, false, arith, length}
 use Rattle.std.specs.Char.Utf16.{utf16_lossy_chars}
-use Rattle.enc_units.specs.declared.coder_result.CoderResult.TheVariants.{InputEmpty}
+use Rattle.enc_utf8.specs.declared.coder_result.CoderResult.TheVariants.{InputEmpty}
 use Rattle.enc_writer.specs.EncodedText.{bytes_from_state}
 use Rattle.enc_writer.specs.Writer.{writer_of}
 use Rattle.enc_writer.proofs.SinkLemmas.{on_err}

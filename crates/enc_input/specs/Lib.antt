@@ -1,0 +1,5 @@
+pub mod Bytes
+pub mod Mappings
+pub mod Results
+pub mod Utf16Text
+pub mod Utf8Bytes

@@ -1,0 +1,22 @@
+//! Inputs of characters, runs of their bytes, and the results of calls that read them. No call
+//! takes memory.
+#![tactic(auto)]
+
+mod bytes;
+mod chars;
+mod encoder_result;
+mod mapped_bytes;
+mod mapping;
+mod utf16_chars;
+mod utf16_mapped;
+mod utf16_text;
+mod utf8_bytes;
+mod utf8_chars;
+mod utf8_mapped;
+
+pub use bytes::Bytes;
+pub use chars::Chars;
+pub use encoder_result::EncoderResult;
+pub use mapping::Mapping;
+pub use utf8_chars::Utf8Chars;
+pub use utf16_chars::Utf16Chars;

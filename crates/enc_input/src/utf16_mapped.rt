@@ -1,0 +1,278 @@
+//! Runs of mapped characters, read from UTF-16.
+
+ghost use Rattle.std.specs.Prelude.{◌≡◌, ◌+◌, ◌%◌, ◌<◌, ◌≤◌, ◌++◌, map, length, take, drop};
+ghost use Rattle.std.specs.Prelude.{min, slice_index, IsTrue};
+ghost use Rattle.std.specs.Char.Utf16.{utf16_lossy_chars};
+ghost use Rattle.enc_input.specs.Mappings.{AreAnyUnits, WritesFront, WritesThemselves};
+ghost use Rattle.enc_utf8.specs.Validity.{AreAscii};
+
+use crate::mapped_bytes::{MOST_BYTES, put_bytes, put_lanes};
+use crate::mapping::Mapping;
+use crate::utf16_chars::first;
+use crate::utf16_text::put_text;
+use std::simd::prelude::*;
+
+/// Returns how many of sixteen code units come before the first that is not ASCII.
+#[inline(always)]
+fn ascii_units(units: Simd<u16, 16>) -> usize
+    ensures bound { result ≤ 16 }
+    ensures ascii { AreAscii (take result units) }
+{
+    let others = units.simd_ge(Simd::<u16, 16>::splat(0x80)).to_bitmask();
+    if others == 0 {
+        16
+    } else {
+        others.trailing_zeros() as usize
+    }
+}
+
+/// Returns the lower seven bits of sixteen code units, which are all bits of those that are ASCII.
+#[inline(always)]
+fn low_bytes(units: Simd<u16, 16>) -> u8x16
+    ensures { result ≡ map (λ u. u % 0x80) units }
+{
+    (units & Simd::<u16, 16>::splat(0x7F)).cast::<u8>()
+}
+
+/// Copies ASCII from the front of `src`, at most `most` characters, in whole steps of sixteen.
+/// Returns their number.
+#[inline(always)]
+fn copy_sixteens(src: &[u16], dst: &mut [u8], most: usize) -> usize
+    requires read { most ≤ length src.now }
+    requires room { most ≤ length dst.old }
+    ensures within { result ≤ most }
+    ensures ascii { AreAscii (take result src.now) }
+    ensures copied { dst.new ≡ take result src.now ++ drop result dst.old }
+{
+    let mut at = 0;
+    while 16 <= most - at {
+        let units = Simd::<u16, 16>::from_slice(&src[at..]);
+        if ascii_units(units) < 16 {
+            break;
+        }
+        low_bytes(units).copy_to_slice(&mut dst[at..]);
+        at += 16;
+    }
+    at
+}
+
+/// Writes the ASCII in front that is written as itself, of sixteen code units.
+///
+/// Returns the number of bytes. It is 0 if the first is written otherwise.
+#[inline(always)]
+fn put_ascii<M: Mapping>(mapping: M, src: &[u16], dst: &mut [u8], at: usize) -> usize
+    requires sixteen { 16 ≤ length src.now }
+    requires room { at + 16 ≤ length dst.old }
+    ensures { WritesThemselves (M.means mapping) src.now dst.old dst.new at result }
+{
+    let units = Simd::<u16, 16>::from_slice(src);
+    let lanes = low_bytes(units);
+    let len = mapping.ascii_len(lanes).min(ascii_units(units));
+    if len < 16 {
+        put_lanes(dst, at, lanes, len);
+        return len;
+    }
+    lanes.copy_to_slice(&mut dst[at..]);
+    16
+}
+
+/// Returns sixteen code units, with U+07FF in place of those above it.
+#[inline(always)]
+pub(crate) fn clamped(units: Simd<u16, 16>) -> [u16; 16]
+    ensures { result ≡ map (λ u. min u 0x7FF) units }
+{
+    let last = Simd::<u16, 16>::splat(0x7FF);
+    units.simd_lt(last).select(units, last).to_array()
+}
+
+/// Writes the bytes of the first of sixteen code units, up to one that has none by
+/// [`Mapping::unit_byte`]. Returns their number.
+#[inline(always)]
+fn put_units<M: Mapping>(mapping: M, src: &[u16], dst: &mut [u8], at: usize) -> usize
+    requires sixteen { 16 ≤ length src.now }
+    requires room { at + 16 ≤ length dst.old }
+    ensures bound { result ≤ 16 }
+    ensures writes { WritesFront utf16_lossy_chars AreAnyUnits (M.means mapping) src.now dst.old
+        dst.new at result result }
+{
+    let places = clamped(Simd::<u16, 16>::from_slice(src));
+    let mut count = 0;
+    while count < 16 {
+        let byte = mapping.unit_byte(places[count]);
+        if byte == 0 {
+            return count;
+        }
+        dst[at + count] = byte;
+        count += 1;
+    }
+    16
+}
+
+/// Writes the first code unit if it is ASCII written as itself, and returns 1, or writes nothing
+/// and returns 0. Condition: it is ASCII.
+#[inline(always)]
+fn put_own<M: Mapping>(mapping: M, src: &[u16], dst: &mut [u8], at: usize) -> usize
+    requires some { 1 ≤ length src.now }
+    requires ascii { slice_index src.now 0 < 0x80 }
+    requires room { at < length dst.old }
+    ensures { WritesThemselves (M.means mapping) src.now dst.old dst.new at result }
+{
+    let byte = src[0] as u8;
+    if !mapping.is_own(byte) {
+        return 0;
+    }
+    dst[at] = byte;
+    1
+}
+
+/// Writes the bytes of the first character, which is beyond ASCII.
+///
+/// Returns the numbers of code units read and of bytes written, which are 0 if the character ends a
+/// run.
+#[inline(always)]
+fn put_beyond<M: Mapping>(mapping: M, src: &[u16], dst: &mut [u8], at: usize) -> (usize, usize)
+    requires beyond { 0x80 ≤ slice_index src.now 0 }
+    requires room { at + 4 ≤ length dst.old }
+    ensures { WritesFront utf16_lossy_chars AreAnyUnits (M.means mapping) src.now dst.old dst.new at
+        result.0 result.1 }
+{
+    let Some((c, width)) = first(src) else {
+        return (0, 0);
+    };
+    let Some(bytes) = mapping.bytes_in_run(c) else {
+        return (0, 0);
+    };
+    (width, put_bytes(dst, at, bytes))
+}
+
+/// Writes the bytes of the first character.
+///
+/// Returns the numbers of code units read and of bytes written, which are 0 if the character ends a
+/// run.
+#[inline(always)]
+fn put_char<M: Mapping>(mapping: M, src: &[u16], dst: &mut [u8], at: usize) -> (usize, usize)
+    requires some { 1 ≤ length src.now }
+    requires room { at + 4 ≤ length dst.old }
+    ensures { WritesFront utf16_lossy_chars AreAnyUnits (M.means mapping) src.now dst.old dst.new at
+        result.0 result.1 }
+{
+    if src[0] >= 0x80 {
+        return put_beyond(mapping, src, dst, at);
+    }
+    let len = put_own(mapping, src, dst, at);
+    (len, len)
+}
+
+/// Writes long ASCII in front in whole steps of sixteen, if all of ASCII is written as itself.
+///
+/// Returns the number of bytes.
+#[inline(always)]
+fn put_strides<M: Mapping>(mapping: M, src: &[u16], dst: &mut [u8], at: usize) -> usize
+    requires room { at ≤ length dst.old }
+    ensures { WritesThemselves (M.means mapping) src.now dst.old dst.new at result }
+{
+    // most texts that are not ASCII show it here
+    if src.len() < 64 || src[1] >= 0x80 || src[63] >= 0x80 {
+        return 0;
+    }
+    if !mapping.keeps_ascii() {
+        return 0;
+    }
+    let most = src.len().min(dst.len() - at);
+    copy_sixteens(src, &mut dst[at..], most)
+}
+
+/// Writes the bytes of sixteen code units by [`Mapping::unit_byte`], and long ASCII after them, or
+/// the bytes of fewer in front and of the character after them.
+///
+/// Returns the numbers of code units read and of bytes written, and whether the run goes on.
+#[inline(always)]
+fn put_looked_up<M: Mapping>(
+    mapping: M,
+    src: &[u16],
+    dst: &mut [u8],
+    at: usize,
+) -> (usize, usize, bool)
+    requires sixteen { 16 ≤ length src.now }
+    requires room { at + 19 ≤ length dst.old }
+    ensures some { IsTrue result.2 → 0 < result.0 }
+    ensures writes { WritesFront utf16_lossy_chars AreAnyUnits (M.means mapping) src.now dst.old
+        dst.new at result.0 result.1 }
+{
+    let len = put_units(mapping, src, dst, at);
+    if len == 16 {
+        let more = put_strides(mapping, &src[len..], dst, at + len);
+        return (len + more, len + more, true);
+    }
+    let (width, count) = put_char(mapping, &src[len..], dst, at + len);
+    (len + width, len + count, width > 0)
+}
+
+/// Writes the ASCII in front that is written as itself, of sixteen code units, and long ASCII after
+/// them, or the bytes of the first character, if it is beyond ASCII.
+///
+/// Returns the same as [`put_looked_up`].
+#[inline(always)]
+fn put_turn<M: Mapping>(mapping: M, src: &[u16], dst: &mut [u8], at: usize) -> (usize, usize, bool)
+    requires sixteen { 16 ≤ length src.now }
+    requires room { at + 19 ≤ length dst.old }
+    ensures some { IsTrue result.2 → 0 < result.0 }
+    ensures writes { WritesFront utf16_lossy_chars AreAnyUnits (M.means mapping) src.now dst.old
+        dst.new at result.0 result.1 }
+{
+    if mapping.has_unit_bytes() {
+        return put_looked_up(mapping, src, dst, at);
+    }
+    if src[0] >= 0x80 {
+        let (width, count) = put_beyond(mapping, src, dst, at);
+        return (width, count, width > 0);
+    }
+    let len = put_ascii(mapping, src, dst, at);
+    if len == 16 {
+        let more = put_strides(mapping, &src[len..], dst, at + len);
+        return (len + more, len + more, true);
+    }
+    (len, len, len > 0)
+}
+
+/// Writes the bytes of the first characters of UTF-16 to a slice, from `from` on.
+///
+/// Returns the numbers of code units read and of bytes written. The run need not be maximal.
+#[inline(never)]
+pub(crate) fn write_utf16<M: Mapping>(
+    mapping: M,
+    src: &[u16],
+    dst: &mut [u8],
+    from: usize,
+) -> (usize, usize)
+    requires room { from ≤ length dst.old }
+    ensures { WritesFront utf16_lossy_chars AreAnyUnits (M.means mapping) src.now dst.old dst.new
+        from
+        result.0 result.1 }
+{
+    let mut read = put_strides(mapping, src, dst, from);
+    let mut at = from + read;
+    let last_sixteen = src.len().saturating_sub(15);
+    let last_room = dst.len().saturating_sub(14 + MOST_BYTES);
+    'sixteens: while read < last_sixteen && at < last_room {
+        let (len, count, goes_on) = put_turn(mapping, &src[read..], dst, at);
+        read += len;
+        at += count;
+        if !goes_on {
+            return (read, at - from);
+        }
+        let (len, count) = put_text(mapping, &src[read..], dst, at);
+        read += len;
+        at += count;
+    }
+    let end = dst.len().saturating_sub(MOST_BYTES - 1);
+    'ones: while read < src.len() && at < end {
+        let (width, count) = put_char(mapping, &src[read..], dst, at);
+        read += width;
+        at += count;
+        if width == 0 {
+            return (read, at - from);
+        }
+    }
+    (read, at - from)
+}

@@ -1,0 +1,17 @@
+pub mod AsciiPrefixLemmas
+pub mod CodeUnitLanes
+pub mod CodeUnitsLemmas
+pub mod GatherLemmas
+pub mod MaskedUnitLemmas
+pub mod OutputLemmas
+pub mod OverwrittenTextLemmas
+pub mod PairsLemmas
+pub mod PiecesLemmas
+pub mod PlaceLanes
+pub mod UnitsWrittenLemmas
+pub mod Utf8CharsLemmas
+pub mod Utf8CountLemmas
+pub mod Utf8SliceLemmas
+pub mod Utf8TextLemmas
+pub mod Utf8UnitLanes
+pub mod Utf8UnitsLemmas

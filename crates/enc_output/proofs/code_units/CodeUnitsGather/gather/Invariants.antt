@@ -1,0 +1,12 @@
+use Rattle.std.proofs.Common.{◌-◌, length}
+use Rattle.std.specs.Char.{encode_utf8}
+use Rattle.enc_output.proofs.GatherLemmas.{Gathered}
+use Rattle.enc_output.proofs.code_units.CodeUnitsGather.gather.Given as goal
+
+abbrev pub invariant-loop-written : goal.invariant-loop-written
+invariant-loop-written g l =
+    Gathered encode_utf8 (g.P.Pieces.means l.self.pieces) l.src l.initial.buffer l.buffer
+    l.limit l.limit l.read l.written
+
+abbrev pub decreases-loop-written : goal.decreases-loop-written
+decreases-loop-written g l = length l.src - l.read

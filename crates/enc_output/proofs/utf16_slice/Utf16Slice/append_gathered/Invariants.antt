@@ -1,0 +1,14 @@
+use Rattle.std.proofs.Common.{◌-◌, length}
+use Rattle.std.specs.Char.Escape.{encode_utf16}
+use Rattle.enc_output.specs.Output.{borrowed_output}
+use Rattle.enc_output.specs.PieceRuns.{PutsPieces}
+use Rattle.enc_output.proofs.utf16_slice.Utf16Slice.append_gathered.Given as goal
+
+abbrev pub invariant-loop-at : goal.invariant-loop-at
+invariant-loop-at g l =
+    PutsPieces encode_utf16 (g.G.Gather.means l.by)
+    (borrowed_output l.initial.self.len l.initial.self.dst)
+    (borrowed_output l.self.len l.self.dst) l.src l.at
+
+abbrev pub decreases-loop-at : goal.decreases-loop-at
+decreases-loop-at g l = length l.src - l.at

@@ -1,0 +1,10 @@
+pub mod AsciiRun
+pub mod CodeUnits
+pub mod Gathering
+pub mod Output
+pub mod Pairs
+pub mod PieceRuns
+pub mod Places
+pub mod Rest
+pub mod Results
+pub mod Utf8Units

@@ -1,0 +1,32 @@
+//! Outputs of code units with bounded room, and the results of calls that write them. No call takes
+//! memory.
+#![tactic(auto)]
+
+mod buffer_unit;
+mod code_units;
+mod decoder_result;
+mod gather;
+pub mod laws;
+mod marked;
+mod pairs;
+mod pieces;
+mod places;
+mod rest;
+mod single_bytes;
+mod string_tail;
+mod unit_slice;
+mod units;
+mod utf16_slice;
+mod utf8_pieces;
+mod utf8_slice;
+mod utf8_units;
+mod widen;
+
+pub use decoder_result::DecoderResult;
+pub use pieces::{Pieces, put_run};
+pub use places::{Places, numbers_in, places_at};
+pub use rest::clear_rest;
+pub use string_tail::StringTail;
+pub use units::Units;
+pub use utf8_slice::Utf8Slice;
+pub use utf16_slice::Utf16Slice;

@@ -1,5 +1,0 @@
-use Rattle.enc_units.proofs.UnitLanes as lanes
-use Rattle.enc_units.proofs.code_units.rests.Goals as goal
-
-pub returns : goal.returns
-returns c = (lanes.rests c.args.units c.fits-units.0 c.fits-units.1).1

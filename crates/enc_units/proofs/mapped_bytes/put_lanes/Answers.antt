@@ -1,7 +1,0 @@
-use Rattle.std.proofs.Common.{refl}
-use Rattle.enc_units.proofs.BlendLemmas.{stored_front}
-use Rattle.enc_units.proofs.mapped_bytes.put_lanes.Goals as goal
-
-pub returns : goal.returns
-returns c = stored_front 16 c.args.at c.args.len _ c.args.dst.now c.args.lanes refl refl
-    c.requires.room c.requires.bound c.fits-lanes.0

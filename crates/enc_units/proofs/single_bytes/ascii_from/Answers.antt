@@ -1,7 +1,0 @@
-use Rattle.std.proofs.Common.{arith}
-use Rattle.enc_units.proofs.AsciiMaskLemmas.{ascii_after}
-use Rattle.enc_units.proofs.single_bytes.ascii_from.Goals as goal
-
-pub returns-clause-ascii : goal.returns-clause-ascii
-returns-clause-ascii c =
-    ascii_after c.args.lanes c.args.from c.min.result c.fits-lanes.0 (omega arith) (omega arith)

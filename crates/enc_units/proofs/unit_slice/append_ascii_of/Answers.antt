@@ -1,5 +1,0 @@
-use Rattle.enc_units.proofs.PiecesLemmas.{ascii_pieces}
-use Rattle.enc_units.proofs.unit_slice.append_ascii_of.Goals as goal
-
-pub returns : goal.returns
-returns g c = ascii_pieces (c.has_ascii.ensures c.if-not-has_ascii.false) c.append_ascii.ensures

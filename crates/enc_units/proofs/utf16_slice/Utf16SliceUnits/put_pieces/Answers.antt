@@ -1,5 +1,0 @@
-use Rattle.enc_units.proofs.PiecesLemmas.{then_rest}
-use Rattle.enc_units.proofs.utf16_slice.Utf16SliceUnits.put_pieces.Goals as goal
-
-pub returns : goal.returns
-returns g c = then_rest c.split_at.ensures.back c.append_run-at.ensures c.append_each.ensures

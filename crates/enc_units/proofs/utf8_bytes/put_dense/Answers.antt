@@ -1,8 +1,0 @@
-use Rattle.enc_units.proofs.Utf8BytesLemmas.{of_rest}
-use Rattle.enc_units.proofs.WriteLoopLemmas.{writes_then}
-use Rattle.enc_units.proofs.utf8_bytes.put_dense.Goals as goal
-
-pub returns-clause-writes : goal.returns-clause-writes
-returns-clause-writes g c =
-    writes_then c.put_sixteen-first.ensures.writes
-    (of_rest c.args.src.now c.args.from _ c.put_sixteen-second.ensures.writes)

@@ -1,6 +1,0 @@
-use Rattle.enc_units.proofs.PiecesLemmas.{then_rest}
-use Rattle.enc_units.proofs.utf8_slice.Utf8Slice.append_gathered.Goals as goal
-
-pub returns : goal.returns
-returns g c =
-    then_rest c.split_at.ensures.back c.append_ascii_of-at.ensures c.append_turns.ensures

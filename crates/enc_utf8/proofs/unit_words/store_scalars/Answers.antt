@@ -1,0 +1,12 @@
+use Rattle.std.proofs.Common.{arith}
+use Rattle.enc_utf8.proofs.UnitWordsLemmas.{stored_ascii, front_ascii}
+use Rattle.enc_utf8.proofs.unit_words.store_scalars.Goals as goal
+
+pub returns-then-are_ascii_units-clause-scalars : goal.returns-then-are_ascii_units-clause-scalars
+returns-then-are_ascii_units-clause-scalars c =
+    front_ascii _ c.fits-units.0 (c.are_ascii_units.ensures c.if-are_ascii_units.true)
+
+pub returns-then-are_ascii_units-clause-stored : goal.returns-then-are_ascii_units-clause-stored
+returns-then-are_ascii_units-clause-stored c =
+    stored_ascii c.args.at c.args.buffer.now _ c.fits-units.0 (omega arith)
+    (c.are_ascii_units.ensures c.if-are_ascii_units.true)

@@ -1,0 +1,6 @@
+use Rattle.std.proofs.Common.{arith}
+use Rattle.enc_utf8.proofs.Utf8FaultLemmas.{shifted}
+use Rattle.enc_utf8.proofs.utf8.after_one_zero.Goals as goal
+
+pub returns : goal.returns
+returns c k h = shifted 15 c.args.bytes (omega arith) c.fits-bytes.0 k h

@@ -1,0 +1,125 @@
+//! Code units of UTF-16 stored as UTF-8, eight at a time, with no branch on their lengths.
+
+ghost use Rattle.std.specs.Prelude.{◌≡◌, ℕ, ◌+◌, ◌*◌, ◌/◌, ◌<◌, ◌≤◌, ◌++◌, All, IsTrue, length, map, take};
+ghost use Rattle.std.specs.Char.{encode_utf8};
+ghost use Rattle.std.specs.Char.Escape.{encode_utf16};
+ghost use Rattle.enc_utf8.specs.UnitWords.{bytes_of_words, unit_word_low, unit_word_high};
+ghost use Rattle.enc_utf8.specs.Text.{AreScalars, units_of_text};
+ghost use Rattle.enc_utf8.specs.Validity.{AreAscii};
+
+use crate::utf8_form::store_word;
+use std::simd::prelude::*;
+
+/// At most this number of bytes is stored at once: eight code units, and a character after them.
+pub const SCALARS_STEP: usize = 36;
+
+/// Returns whether all of eight code units are ASCII.
+#[inline(always)]
+fn are_ascii_units(units: u16x8) -> bool
+    ensures { IsTrue result → AreAscii units }
+{
+    units.simd_ge(u16x8::splat(0x80)).to_bitmask() == 0
+}
+
+/// Returns how many of eight code units come before the first surrogate.
+#[inline(always)]
+pub fn units_before_surrogate(units: u16x8) -> usize
+    ensures bound { result ≤ 8 }
+    ensures scalars { AreScalars (take result units) }
+    ensures alone { (n : ℕ) → units_of_text encode_utf16 (take n units) ≡ take n units }
+{
+    let surrogates = (units >> u16x8::splat(11))
+        .simd_eq(u16x8::splat(27))
+        .to_bitmask();
+    if surrogates == 0 {
+        8
+    } else {
+        surrogates.trailing_zeros() as usize
+    }
+}
+
+/// Returns the first two bytes of the UTF-8 of each code unit.
+#[inline(always)]
+fn fronts(units: u16x8) -> u16x8
+    ensures { result ≡ map unit_word_low units }
+{
+    let upper = units >> u16x8::splat(6);
+    let low = (units & u16x8::splat(63)) << u16x8::splat(8);
+    let middle = (upper & u16x8::splat(63)) << u16x8::splat(8);
+    let two = upper + u16x8::splat(0x80C0) + low;
+    let three = (units >> u16x8::splat(12)) + u16x8::splat(0x80E0) + middle;
+    let more = units.simd_lt(u16x8::splat(0x800)).select(two, three);
+    units.simd_lt(u16x8::splat(0x80)).select(units, more)
+}
+
+/// Returns the third byte of the UTF-8 of each code unit, with the number of bytes above it.
+#[inline(always)]
+fn rests(units: u16x8) -> u16x8
+    ensures { result ≡ map unit_word_high units }
+{
+    let three = (units & u16x8::splat(63)) + u16x8::splat(0x380);
+    let more = units
+        .simd_lt(u16x8::splat(0x800))
+        .select(u16x8::splat(0x200), three);
+    units
+        .simd_lt(u16x8::splat(0x80))
+        .select(u16x8::splat(0x100), more)
+}
+
+/// Returns the UTF-8 of each code unit as a word: its bytes, the first lowest, and their number in
+/// the highest byte.
+#[inline(always)]
+fn words_of(units: u16x8) -> [u32; 8]
+    ensures bound { All (λ word. word / 0x1000000 ≤ 4) result }
+    ensures utf8 { (n : ℕ) → bytes_of_words (take n result)
+        ≡ units_of_text encode_utf8 (take n units) }
+{
+    let rests = rests(units).cast::<u32>() << u32x8::splat(16);
+    (fronts(units).cast::<u32>() + rests).to_array()
+}
+
+/// Stores the bytes of the first `len` words after the first `at` bytes of a buffer. Returns their
+/// end.
+#[inline(always)]
+fn store_words(buffer: &mut [u8], at: usize, words: [u32; 8], len: usize) -> usize
+    requires room { at + 32 ≤ length buffer.old }
+    requires len { len ≤ 8 }
+    requires words { All (λ word. word / 0x1000000 ≤ 4) words }
+    ensures bound { result ≤ at + 4 * len }
+    ensures len { length buffer.new ≡ length buffer.old }
+    ensures stored { take result buffer.new
+        ≡ take at buffer.old ++ bytes_of_words (take len words) }
+{
+    let mut end = at;
+    let mut count = 0;
+    while count < len {
+        end = store_word(buffer, end, words[count]);
+        count += 1;
+    }
+    end
+}
+
+/// Stores the UTF-8 of the code units before the first surrogate after the first `at` bytes of a
+/// buffer. Returns their number and the end of their UTF-8.
+#[inline(always)]
+pub fn store_scalars(buffer: &mut [u8], at: usize, units: u16x8) -> (usize, usize)
+    requires room { at + 32 ≤ length buffer.old }
+    ensures few { result.0 ≤ 8 }
+    ensures bound { result.1 ≤ at + 32 }
+    ensures len { length buffer.new ≡ length buffer.old }
+    ensures scalars { AreScalars (take result.0 units) }
+    ensures stored { take result.1 buffer.new
+        ≡ take at buffer.old ++ units_of_text encode_utf8 (take result.0 units) }
+{
+    if are_ascii_units(units) {
+        units.cast::<u8>().copy_to_slice(&mut buffer[at..]);
+        return (8, at + 8);
+    }
+    let words = words_of(units);
+    let count = units_before_surrogate(units);
+    if count == 8 {
+        // with a constant length the loop has no branch
+        return (8, store_words(buffer, at, words, 8));
+    }
+    (count, store_words(buffer, at, words, count))
+}
