@@ -22,6 +22,8 @@ CODECS = "crates/enc_codec/specs/Codecs.antt"
 CONTRACT = re.compile(r"\n +(?=(?:requires|ensures)\*? )|\{\}?\n|;\n")
 CLAUSE = re.compile(r"\s*(?://.*\s+)*(requires|ensures)\*? (\w+ )?(?=\{)")
 WORD = re.compile(r"[^\W\d][\w']*(?:-[\w']+)*|\w+")
+# A field of a record that is made, whose name cites nothing.
+FIELD = re.compile(r"(?<=[\s{;])\w+ = ")
 TYPE = r"^(?:pub(?:\(crate\))? )?(?:enum|struct) {}\b.*?(?:;$|^\}})"
 
 
@@ -89,7 +91,7 @@ def cited(text, path, found, closed=()):
 
     What the definitions `closed` rest on is left out.
     """
-    for word in dict.fromkeys(WORD.findall(text)):
+    for word in dict.fromkeys(WORD.findall(FIELD.sub("", text))):
         it = meant(word, path)
         if it and it not in found:
             found[it] = None
