@@ -3,8 +3,8 @@
 use crate::decoding::Subject;
 use crate::encoding::encoding_of;
 use crate::fault::RowFault;
-use crate::one_shot::lend;
 use crate::words::{Words, choice};
+use conformance_calls::one_shot::lend;
 use encoding_rs::Encoding;
 use encoding_rs::run::BomHandling;
 use std::alloc::Global;

@@ -7,5 +7,5 @@
 pub mod calls;
 pub mod growths;
 mod hexadecimal;
-mod one_shot;
+pub mod one_shot;
 pub mod web_platform;

@@ -10,7 +10,7 @@ pub type Lent<'a> = (Option<CowStr<'a>>, Encoding, bool);
 
 /// Decodes an input by the call that looks for these byte order marks. If it looks for none, it may
 /// be one that does not replace malformed sequences.
-pub(crate) fn lend<'a>(
+pub fn lend<'a>(
     alloc: Global,
     encoding: Encoding,
     (marks, replaces): (BomHandling, bool),
