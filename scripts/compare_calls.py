@@ -1,12 +1,12 @@
 """Compares single calls with those of the Rust crate encoding_rs: compare_calls.py OURS CRATE SEED COUNT LENDING | -
 
-For scripts/compare-crate. OURS is the program of crates/conformance, whose module `calls` says how a line stands for a
-call. CRATE is the program of scripts/peer/src/bin/calls. It makes COUNT random and hostile lines and LENDING of
-one-shot calls that lend (with - they are those of standard input), and answers as OURS does. Compared are the result,
-the units read and written, the flag, the units, the encoding after the call, the length that the call's query returned
-before, the length of the Latin-1 prefix or whether an encoder had a pending state, and the units that the rest of the
-input gives. Of calls that lend they are the text, the flag, the encoding and whether the text is borrowed, as the
-crate's `Cow` is.
+For scripts/compare-crate. OURS is the program of crates/conformance: module `calls` of crates/conformance_calls says
+how a line stands for a call. CRATE is the program of scripts/peer/src/bin/calls. It makes COUNT random and hostile
+lines and LENDING of one-shot calls that lend (with - they are those of standard input), and answers as OURS does.
+Compared are the result, the units read and written, the flag, the units, the encoding after the call, the length that
+the call's query returned before, the length of the Latin-1 prefix or whether an encoder had a pending state, and the
+units that the rest of the input gives. Of calls that lend they are the text, the flag, the encoding and whether the
+text is borrowed, as the crate's `Cow` is.
 
 Where the two differ by design, or where the crate has a fault, a rule says so. Each line comes under one of RULES or
 differs; each rule is printed with the number of its calls. Of the first lines that differ the smallest that was found

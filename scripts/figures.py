@@ -33,7 +33,7 @@ def listed(numbers):
 
 def is_of_tests(path):
     """Whether a file is of a crate that tests alone need."""
-    return path.startswith(("crates/test_", "crates/conformance/"))
+    return path.startswith(("crates/test_", "crates/conformance"))
 
 
 def lines_in(folder, test):

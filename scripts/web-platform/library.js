@@ -1,7 +1,7 @@
 // Questions to `conformance web-platform`: a line to its standard input, and the line that it answers.
 //
 // Both ends are file descriptors that scripts/web-platform-tests has opened, so a question is answered before the call
-// returns. What stands in a line is in crates/conformance/src/web_platform.rt.
+// returns. What stands in a line is in crates/conformance_calls/src/web_platform.rt.
 'use strict';
 const fs = require('fs');
 

@@ -1,7 +1,7 @@
 /* Makes the calls that lines of standard input list, by encoding_rs.h, and writes an answer for
  * each.
  *
- * crates/conformance/src/calls.rt says how a line stands for a call, and what an answer has.
+ * crates/conformance_calls/src/calls.rt says how a line stands for a call, and what an answer has.
  * scripts/clients compares the answers with those of the Rust crate encoding_rs. */
 #include <stdio.h>
 #include <stdlib.h>

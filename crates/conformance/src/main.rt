@@ -6,25 +6,21 @@
 //! standard error. The exit status is 0 if all rows hold, and otherwise 1.
 //!
 //! After a word of `calls`, `web-platform`, `growths` and `rows` the files that follow it, or
-//! standard input if none does, are for what the word names: the modules of these names, and rows.
+//! standard input if none does, are for what the word names: the modules of these names in the
+//! crate `conformance_calls`, and rows.
 #![tactic(auto)]
 
 mod among;
 mod bytes;
-mod calls;
 mod decoding;
 mod encoding;
 mod fault;
-mod growths;
 mod held;
-mod hexadecimal;
 mod mode;
 mod names;
-mod one_shot;
 mod queries;
 mod repeat;
 mod sums;
-mod web_platform;
 mod whole;
 mod words;
 

@@ -1,6 +1,6 @@
 //! What the program does, by a word among its arguments.
 
-use crate::{calls, growths, web_platform};
+use conformance_calls::{calls, growths, web_platform};
 use std::io::{self, BufRead, BufReader, BufWriter, Read, Write};
 use std::process::Termination;
 use std::test::Fail;
@@ -53,7 +53,7 @@ pub(crate) fn answer_questions<R: Read>(rt: &HostRuntime, input: &mut R) -> io::
 
 /// Makes calls that are refused memory. Returns whether all have their outcomes.
 pub(crate) fn refuse_growths<R: Read>(rt: &HostRuntime, input: &mut R) -> bool {
-    match growths::run(rt, input) {
+    match growths::run(rt.alloc(), input, &mut rt.stdout()) {
         Ok(()) => true,
         Err(fail) => {
             let _ = Err::<(), Fail>(fail).report(rt);

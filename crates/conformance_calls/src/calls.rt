@@ -203,7 +203,7 @@ fn answer_encoding<W: Write>(line: &Line, buffers: &mut Buffers, out: &mut W) ->
 }
 
 /// Writes the answer to a line.
-pub(crate) fn answer_line<W: Write>(alloc: Global, line: &str, out: &mut W) -> io::Result<()> {
+pub fn answer_line<W: Write>(alloc: Global, line: &str, out: &mut W) -> io::Result<()> {
     let Some(line) = line_of(alloc, line)? else {
         return writeln!(out, "?");
     };

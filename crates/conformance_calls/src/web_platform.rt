@@ -38,7 +38,7 @@ fn answer_name<W: Write>(alloc: Global, label: &str, out: &mut W) -> io::Result<
 }
 
 /// Answers a line.
-pub(crate) fn answer_line<W: Write>(alloc: Global, line: &str, out: &mut W) -> io::Result<()> {
+pub fn answer_line<W: Write>(alloc: Global, line: &str, out: &mut W) -> io::Result<()> {
     let mut words = line.split_ascii_whitespace();
     match (words.next(), words.next()) {
         (Some("name"), Some(label)) => answer_name(alloc, label, out),

@@ -18,7 +18,7 @@ use encoding_rs::Encoding;
 use rows::{Call, EMPTY, NOTHING, Pattern, ROWS, Row};
 use std::alloc::{AllocError, Global};
 use std::borrow::CowSlice;
-use std::io::Read;
+use std::io::{Read, Write};
 use std::test::Fail;
 
 /// The growth of the program that is refused.
@@ -169,16 +169,16 @@ fn refused(alloc: Global, name: &str, number: usize) -> Result<&'static str, Fai
     })
 }
 
-/// Makes the calls of all lines.
-pub(crate) fn run<R: Read>(rt: &HostRuntime, input: &mut R) -> Result<(), Fail> {
+/// Makes the calls of all lines, and writes each line with what was refused.
+pub fn run<R: Read, W: Write>(alloc: Global, input: &mut R, out: &mut W) -> Result<(), Fail> {
     let mut buffer = [0; LENGTH];
     let len = input.read(&mut buffer)?;
     for line in str::from_utf8(&buffer[..len])?.lines() {
         let Some((name, number)) = line.split_once(' ') else {
             return Err(Fail::new("a line has no number"));
         };
-        let what = refused(rt.alloc(), name, number.parse()?)?;
-        println!(rt; "{line} {what}")?;
+        let what = refused(alloc, name, number.parse()?)?;
+        writeln!(out, "{line} {what}")?;
     }
     Ok(())
 }
