@@ -36,7 +36,7 @@ no_more : (t : Bool) (r : Prefix) → cond (t && false) Incomplete r ≡ r
 no_more true r = refl
 no_more false r = refl
 
-pair_can_be_other : (a : ℕ) → euc_jp_prefix (a ∷ 0xFF ∷ []) ≡ Malformed 2
+pair_can_be_malformed : (a : ℕ) → euc_jp_prefix (a ∷ 0xFF ∷ []) ≡ Malformed 2
 pair_can_be_malformed a = no_more (a == 0x8F) _
     ∙ trail_can_be_malformed 1 _ (no_char (a == 0x8E) (is_euc_byte a) _)
 

@@ -18,3 +18,12 @@ returns-in-EucKr-clause-need g c = rw c.in-EucKr.is c.decode-in-EucKr.ensures.ne
 
 pub returns-in-ShiftJis-clause-need : goal.returns-in-ShiftJis-clause-need
 returns-in-ShiftJis-clause-need g c = rw c.in-ShiftJis.is c.decode-in-ShiftJis.ensures.need
+
+pub returns-in-Utf16-clause-rule : goal.returns-in-Utf16-clause-rule
+returns-in-Utf16-clause-rule g c = rw c.in-Utf16.is c.decode-in-Utf16.ensures.rule
+
+pub returns-in-Utf16-clause-need : goal.returns-in-Utf16-clause-need
+returns-in-Utf16-clause-need g c = rw c.in-Utf16.is c.decode-in-Utf16.ensures.need
+
+pub returns-in-Utf16-clause-lawful : goal.returns-in-Utf16-clause-lawful
+returns-in-Utf16-clause-lawful g c = rw c.in-Utf16.is c.decode-in-Utf16.ensures.lawful

@@ -9,3 +9,12 @@ returns-in-EucKr-clause-lawful g c = rw c.in-EucKr.is c.decode_replacing-in-EucK
 
 pub returns-in-ShiftJis-clause-lawful : goal.returns-in-ShiftJis-clause-lawful
 returns-in-ShiftJis-clause-lawful g c = rw c.in-ShiftJis.is c.decode_replacing-in-ShiftJis.ensures.lawful
+
+pub returns-in-Utf16-clause-call : goal.returns-in-Utf16-clause-call
+returns-in-Utf16-clause-call g c = rw c.in-Utf16.is c.decode_replacing-in-Utf16.ensures.call
+
+pub returns-in-Utf16-clause-rule : goal.returns-in-Utf16-clause-rule
+returns-in-Utf16-clause-rule g c = rw c.in-Utf16.is c.decode_replacing-in-Utf16.ensures.rule
+
+pub returns-in-Utf16-clause-lawful : goal.returns-in-Utf16-clause-lawful
+returns-in-Utf16-clause-lawful g c = rw c.in-Utf16.is c.decode_replacing-in-Utf16.ensures.lawful

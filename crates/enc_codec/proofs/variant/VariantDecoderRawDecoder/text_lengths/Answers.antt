@@ -9,3 +9,6 @@ returns-in-EucKr-clause-enough c = rw c.in-EucKr.is c.text_lengths-in-EucKr.ensu
 
 pub returns-in-ShiftJis-clause-enough : goal.returns-in-ShiftJis-clause-enough
 returns-in-ShiftJis-clause-enough c = rw c.in-ShiftJis.is c.text_lengths-in-ShiftJis.ensures.enough
+
+pub returns-in-Utf16-clause-enough : goal.returns-in-Utf16-clause-enough
+returns-in-Utf16-clause-enough c = rw c.in-Utf16.is c.text_lengths-in-Utf16.ensures.enough

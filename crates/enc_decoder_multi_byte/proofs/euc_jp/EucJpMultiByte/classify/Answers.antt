@@ -1,6 +1,6 @@
 use Rattle.std.proofs.Common.{[], subst}
 use Rattle.enc_decoder.specs.Pending.{bytes_of_pending}
-use Rattle.enc_decoder_multi_byte.specs.MultiByte.{AreIncomplete}
+use Rattle.enc_decoder.specs.Prefixes.{AreIncomplete}
 use Rattle.enc_decoder_multi_byte.specs.EucJp.{euc_jp_prefix}
 use Rattle.enc_decoder_multi_byte.proofs.DoubleByteLemmas.{trail_finished}
 use Rattle.enc_decoder_multi_byte.proofs.euc_jp.EucJpMultiByte.classify.Goals as goal
