@@ -7,7 +7,7 @@ mod choice;
 mod variant;
 
 pub use choice::NewDecoder;
-pub use enc_decoder::{DecoderOutcome, DecoderStop, ErrorMode, RawDecoder, TextLengths};
+pub use enc_decoder::{CallOptions, DecoderOutcome, ErrorMode, RawDecoder, TextLengths};
 pub use enc_decoder_iso_2022_jp::Iso2022JpDecoder;
 pub use enc_decoder_multi_byte::{
     Big5Decoder, EucJpDecoder, EucKrDecoder, Gb18030Decoder, ShiftJisDecoder,

@@ -2,7 +2,7 @@
 //!
 //! Written by scripts/make-sources from data/templates: change the text there, and not this file.
 
-use enc_decoder::{DecoderOutcome, DecoderStop, ErrorMode, RawDecoder, TextLengths};
+use enc_decoder::{CallOptions, DecoderOutcome, RawDecoder, TextLengths};
 use enc_decoder_iso_2022_jp::Iso2022JpDecoder;
 use enc_decoder_multi_byte::{
     Big5Decoder, EucJpDecoder, EucKrDecoder, Gb18030Decoder, ShiftJisDecoder,
@@ -68,19 +68,9 @@ impl RawDecoder for VariantDecoder {
         &mut self,
         src: &[u8],
         out: &mut U,
-        last: bool,
-        mode: ErrorMode,
-    ) -> DecoderStop {
-        by_decoder!(self, decoder => decoder.decode(src, out, last, mode))
-    }
-
-    fn decode_replacing<U: Units>(
-        &mut self,
-        src: &[u8],
-        out: &mut U,
-        last: bool,
+        options: CallOptions,
     ) -> DecoderOutcome {
-        by_decoder!(self, decoder => decoder.decode_replacing(src, out, last))
+        by_decoder!(self, decoder => decoder.decode(src, out, options))
     }
 
     fn held(&self) -> usize {

@@ -13,7 +13,7 @@ use Rattle.enc_utf8.specs.Checked.{checked_add, checked_mul, checked_half}
 use Rattle.enc_decoder.specs.Sequence.{Sequence, is_malformed}
 use Rattle.enc_decoder.specs.Segmentation.{Rule, head_sequence, sequences_after, sequences_of}
 use Rattle.enc_decoder.specs.CodecState.{CodecState, remainder_of}
-use Rattle.enc_decoder.specs.Call.{DecodeErrorMode, Replacement, Fatal}
+use Rattle.enc_decoder.specs.Call.{ErrorMode, Replacement, Fatal}
 use Rattle.enc_decoder.specs.RuleLaws.{HasSmallTexts}
 use Rattle.enc_decoder.specs.declared.text_lengths.TextLengths.{TextLengths}
 use Rattle.enc_decoder.specs.declared.text_lengths.TextLengths.TheVariants as lengths
@@ -86,26 +86,25 @@ module _ (units_of : ℕ → List ℕ) (rule : Rule) (most : ℕ → ℕ → ℕ
     bounded set z = bounded_after set 0 z
 
 -- what a call reports is no more than all
-before_less : (units_of : ℕ → List ℕ) (keeps : Bool) (ss : List Sequence)
-    → units units_of (sequences_before_malformed keeps ss) ≤ units units_of ss
-before_less units_of keeps [] = omega arith
-before_less units_of keeps (s ∷ ss) =
-    by_test (is_malformed s.kind) keeps _ (before_less units_of keeps ss)
+before_less : (units_of : ℕ → List ℕ) (ss : List Sequence)
+    → units units_of (sequences_before_malformed ss) ≤ units units_of ss
+before_less units_of [] = omega arith
+before_less units_of (s ∷ ss) =
+    by_test (is_malformed s.kind) _ (before_less units_of ss)
   where
-    by_test : (t k : Bool) (others : List Sequence) → units units_of others ≤ units units_of ss
-        → units units_of (cond t (cond k (s ∷ []) []) (s ∷ others)) ≤ units units_of (s ∷ ss)
-    by_test true true others less = omega (arith, units-both units_of (s ∷ []) ss)
-    by_test true false others less = omega arith
-    by_test false k others less =
+    by_test : (t : Bool) (others : List Sequence) → units units_of others ≤ units units_of ss
+        → units units_of (cond t [] (s ∷ others)) ≤ units units_of (s ∷ ss)
+    by_test true others less = omega arith
+    by_test false others less =
         omega (arith, units-both units_of (s ∷ []) ss, units-both units_of (s ∷ []) others)
 
-pub needed_less : (units_of : ℕ → List ℕ) (mode : DecodeErrorMode) (ss : List Sequence)
+pub needed_less : (units_of : ℕ → List ℕ) (mode : ErrorMode) (ss : List Sequence)
     → needed_units units_of mode ss ≤ units units_of ss
 needed_less units_of Replacement ss = omega arith
-needed_less units_of (Fatal keeps) ss = before_less units_of keeps ss
+needed_less units_of Fatal ss = before_less units_of ss
 
 -- the need of a call is part of the need of all bytes
-pub needs_all : (units_of : ℕ → List ℕ) (mode : DecodeErrorMode) (v : CodecState) (src : List ℕ)
+pub needs_all : (units_of : ℕ → List ℕ) (mode : ErrorMode) (v : CodecState) (src : List ℕ)
     (last : Bool) (n : ℕ)
     → NeedExceeds units_of mode (remainder_of v) src last n
     → n < needed_units units_of mode (sequences_of v.rule v.set (v.pending ++ src))
@@ -120,7 +119,7 @@ needs_all units_of mode v src last n exceeds =
     )
 
 -- a need that is bounded by the number of all bytes
-pub never_passes : (units_of : ℕ → List ℕ) (mode : DecodeErrorMode) (most : ℕ → ℕ) (v : CodecState)
+pub never_passes : (units_of : ℕ → List ℕ) (mode : ErrorMode) (most : ℕ → ℕ) (v : CodecState)
     → ((z : List ℕ) → needed_units units_of mode (sequences_of v.rule v.set z) ≤ most (length z))
     → (src : List ℕ) (last : Bool) (n : ℕ) → most (length v.pending + length src) ≤ n
     → NeedExceeds units_of mode (remainder_of v) src last n → ⊥
@@ -148,11 +147,11 @@ pub enough_by : (formulas : TextLengths) (v : CodecState)
     → HasUnitsWithin encode_utf16 (utf_16_length formulas) v → AreEnoughForCodec formulas v
 enough_by formulas v utf_8 reporting utf_16 = record {
   utf_8 = enough encode_utf8 Replacement (utf_8_length formulas) utf_8;
-  reporting = λ keeps. enough encode_utf8 (Fatal keeps) (reporting_length formulas) reporting;
+  reporting = enough encode_utf8 Fatal (reporting_length formulas) reporting;
   utf_16 = λ mode. enough encode_utf16 mode (utf_16_length formulas) utf_16;
 }
   where
-    enough : (units_of : ℕ → List ℕ) (mode : DecodeErrorMode) (length_of : ℕ → ℕ → Option ℕ)
+    enough : (units_of : ℕ → List ℕ) (mode : ErrorMode) (length_of : ℕ → ℕ → Option ℕ)
         → HasUnitsWithin units_of length_of v → IsEnoughForCodec units_of mode length_of v
     enough units_of mode length_of within src last n bytes is_length exceeds = omega (
       arith,
@@ -213,7 +212,7 @@ module _ (v : CodecState) (few : HasFewUnits v.rule) where
       → needed_units encode_utf8 Replacement (sequences_of v.rule v.set z) ≤ 3 * length z
   utf_8_bounded z = all_bounded encode_utf8 3 (λ set b y. (few set b y).0) z
 
-  pub utf_16_bounded : (mode : DecodeErrorMode) (z : List ℕ)
+  pub utf_16_bounded : (mode : ErrorMode) (z : List ℕ)
       → needed_units encode_utf16 mode (sequences_of v.rule v.set z) ≤ length z
   utf_16_bounded mode z =
       let within = all_bounded encode_utf16 1 (λ set b y. omega (arith, (few set b y).1)) z in

@@ -16,22 +16,35 @@ use Rattle.enc_decoder.specs.Segmentation.{sequences_of}
 use Rattle.enc_decoder.specs.Remainder.{Remainder, AreBytes, AreFirstSequences, Determines, IsUndetermined}
 use Rattle.enc_decoder.specs.CodecState.{CodecState, remainder_of}
 use Rattle.enc_decoder.specs.CodecLaw.{IsNextEvent, MayFollowRead, text_chars, taken_bytes}
-use Rattle.enc_decoder.specs.Call.{RawDecoderCall, DecoderStops, DecodeErrorMode, ReadsToReported, AreReportedLens}
-use Rattle.enc_decoder.specs.Call.{is_replacement_mode, keeps_room}
+use Rattle.enc_decoder.specs.Call.{IsRawCall, DecoderStops, ReadsToReported, AreReportedLens}
+use Rattle.enc_decoder.specs.Call.{is_replacement_mode}
+use Rattle.enc_decoder.specs.CallRecord.{Call}
 use Rattle.enc_decoder.proofs.SegmentationLemmas.{sequences_of-nil}
 use Rattle.enc_decoder.proofs.DeterminedLemmas.{determined_at}
 use Rattle.enc_decoder.proofs.ByteLemmas.{bytes-drop, determines_by_more}
 use Rattle.enc_decoder.proofs.NextEventLemmas as event
 use Rattle.enc_decoder.proofs.StageLemmas.{Stage}
-use Rattle.enc_decoder.proofs.LeavesLemmas.{Leaves, AreAccounted, nothing_read}
+use Rattle.enc_decoder.proofs.LeavesLemmas.{Leaves, AreAccounted, call_at, nothing_read}
 use Rattle.enc_decoder.proofs.StateLeavesLemmas.{LeadsOn, unread, byte_follows, rest_follows, state_leaves}
 
--- a call that puts nothing out, by what it leaves
-abbrev pub quiet_call : {units_of : ℕ → List ℕ} {now new : Remainder} {mode : DecodeErrorMode}
-    {room : ℕ} {result : DecoderResult} (stage : Stage) → Leaves now new stage
-    → AreAccounted now new stage
-    → DecoderStops units_of now new stage.src stage.last mode room [] stage.done stage.read result
-    → RawDecoderCall units_of now new stage.src stage.last mode room result stage.read [] false
+-- a call that puts nothing out
+abbrev pub quiet : Stage → ℕ → DecoderResult → Call
+quiet stage room result = record {
+  src = stage.src;
+  last = stage.last;
+  mode = stage.mode;
+  room = room;
+  result = result;
+  read = stage.read;
+  wrote = [];
+  replaced = false;
+}
+
+-- the same by what it leaves
+abbrev pub quiet_call : {units_of : ℕ → List ℕ} {now new : Remainder} {room : ℕ}
+    {result : DecoderResult} (stage : Stage) → Leaves now new stage → AreAccounted now new stage
+    → DecoderStops units_of now new (quiet stage room result) [] stage.done result
+    → IsRawCall units_of now new (quiet stage room result)
 quiet_call stage leaves accounted stops = record {
   call = record {
     put = [];
@@ -95,8 +108,7 @@ module _ {C : Type 0} (state : C → CodecState) (c : C) (stage : Stage) where
   -- more input is needed
   pub input_empty : {units_of : ℕ → List ℕ} {room : ℕ}
       → IsNextEvent state c stage.src stage.read stage.last NeedsInput
-      → RawDecoderCall units_of now now (unread stage) stage.last stage.mode room InputEmpty 0 []
-      false
+      → IsRawCall units_of now now (call_at stage room InputEmpty 0 [] false)
   input_empty needs =
       let all_read : unread stage ≡ [] = drop_of_length-le stage.src needs.0 in
       quiet_call at_start (nothing_read at_start) (append-nil (state c).pending) (record {
@@ -198,11 +210,10 @@ module _ {C : Type 0} (state : C → CodecState) (c : C) (stage : Stage) where
               record { not_shown = inr (inl refl); shown_next = shown_then }
 
       -- its text doesn't fit
-      pub output_full : {units_of : ℕ → List ℕ} {mode : DecodeErrorMode} {room : ℕ}
-          → (keeps_room mode ≡ false → is_malformed s.kind ≡ false)
+      pub output_full : {units_of : ℕ → List ℕ} {room : ℕ}
+          → (is_replacement_mode stage.mode ≡ false → is_malformed s.kind ≡ false)
           → room < length (units_of_text units_of (text_chars s.text))
-          → RawDecoderCall units_of now now (unread stage) stage.last mode room OutputFull 0 []
-          false
+          → IsRawCall units_of now now (call_at stage room OutputFull 0 [] false)
       output_full not_reported full = quiet_call at_start (nothing_read at_start)
           (append-nil (state c).pending) (record {
             only_put = refl;
@@ -216,13 +227,12 @@ module _ {C : Type 0} (state : C → CodecState) (c : C) (stage : Stage) where
           })
 
       -- it is malformed, and is reported
-      abbrev pub reported : {units_of : ℕ → List ℕ} {mode : DecodeErrorMode} {room a : ℕ}
-          → AreBytes stage.src → is_replacement_mode mode ≡ false → is_malformed s.kind ≡ true
+      abbrev pub reported : {units_of : ℕ → List ℕ} {room a : ℕ} → AreBytes stage.src
+          → is_replacement_mode stage.mode ≡ false → is_malformed s.kind ≡ true
           → a ≡ length (state s.next).pending
-          → (keeps_room mode ≡ true → length (units_of 0xFFFD) ≤ room)
-          → RawDecoderCall units_of now (remainder_of (state s.next)) (unread stage) stage.last mode
-          room (Malformed s.len a) count [] false
-      reported bytes fatal malformed is_pending kept =
+          → IsRawCall units_of now (remainder_of (state s.next))
+          (call_at stage room (Malformed s.len a) count [] false)
+      reported bytes fatal malformed is_pending =
           let leaves : Leaves now (remainder_of (state s.next))
           (stage_at stage count (emitted ∷ []) [] false) = state_leaves bytes leads in
           quiet_call (stage_at stage count (emitted ∷ []) [] false) leaves leads.accounted (record {
@@ -236,7 +246,6 @@ module _ {C : Type 0} (state : C → CodecState) (c : C) (stage : Stage) where
             pending = is_pending;
             bounds = subst (AreReportedLens s.kind s.len) (sym is_pending)
                 (emits.0.bounds malformed);
-            room_kept = λ keeps. omega (arith, kept keeps);
             determined = determined_at stage.last now.sequences (unread stage) (emitted ∷ [])
                 (λ z ends. (_, leaves.residual z ends));
             none_after = leaves.none_after;

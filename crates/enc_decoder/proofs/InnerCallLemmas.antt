@@ -11,13 +11,12 @@ use Rattle.enc_output.specs.declared.decoder_result.DecoderResult.{DecoderResult
 use Rattle.enc_output.specs.declared.decoder_result.DecoderResult.TheVariants.{InputEmpty, OutputFull, Malformed}
 use Rattle.enc_decoder.specs.Sequence.{Sequence, sequence_bytes, is_repeated_escape, set_after, is_malformed}
 use Rattle.enc_decoder.specs.Remainder.{Remainder, AreBytes, AreFirstSequences, Determines, AreDetermined}
-use Rattle.enc_decoder.specs.Call.{DecoderCall, DecoderStops, AreReportedLens, ReadsToReported, AtMalformed}
-use Rattle.enc_decoder.specs.Call.{DecodeErrorMode}
-use Rattle.enc_decoder.specs.CallRecord.{Call, IsCall}
-use Rattle.enc_decoder.specs.Converting.{shifted_result}
+use Rattle.enc_decoder.specs.Call.{IsCall, DecoderStops, AreReportedLens, ReadsToReported, AtMalformed}
+use Rattle.enc_decoder.specs.Call.{shifted_result, is_replacement_mode}
+use Rattle.enc_decoder.specs.CallRecord.{Call}
 use Rattle.enc_decoder.proofs.SequenceLemmas.{sequence_bytes-one}
 use Rattle.enc_decoder.proofs.DeterminedLemmas.{begins_after}
-use Rattle.enc_decoder.proofs.StageLemmas.{Stage, HasWritten, IsPartAt, stage_after, written_on, length_on}
+use Rattle.enc_decoder.proofs.StageLemmas.{Stage, HasWritten, IsPartAt, call_from, stage_after, written_on, length_on}
 use Rattle.enc_decoder.proofs.InnerInputLemmas.{ShiftsInput, MatchesRead, HasSequence, sequence_at_end, most_or_more}
 use Rattle.enc_decoder.proofs.InnerInputLemmas.{determines_outside, determines_inside, none_before, determined_outside}
 use Rattle.enc_decoder.proofs.InnerInputLemmas.{none_shown, none_after_shown, shown_next, reads_all}
@@ -25,7 +24,7 @@ use Rattle.enc_decoder.proofs.InnerInputLemmas.{none_shown, none_after_shown, sh
 -- whether a call that stops so reports a repeated escape
 abbrev pub stops_at_escape : (units_of : ℕ → List ℕ) (old new : Remainder) (c : Call)
     (put done : List Sequence) (result : DecoderResult)
-    → DecoderStops units_of old new c.src c.last c.mode c.room put done c.read result → Bool
+    → DecoderStops units_of old new c put done result → Bool
 stops_at_escape units_of old new c put done InputEmpty stops = false
 stops_at_escape units_of old new c put done OutputFull stops = false
 stops_at_escape units_of old new c put done (Malformed l a) stops =
@@ -36,32 +35,21 @@ abbrev pub reports_escape : {units_of : ℕ → List ℕ} {old new : Remainder} 
 reports_escape {units_of} {old} {new} c call =
     stops_at_escape units_of old new c call.put call.done c.result call.stops
 
--- a repeated escape is reported only in a mode that doesn't replace
-pub escape_is_fatal : {units_of : ℕ → List ℕ} {old new : Remainder} {replaces : Bool} (c : Call)
-    (result : DecoderResult) (call : IsCall units_of old new (record c { result = result }))
-    → ((l a : ℕ) → result ≡ Malformed l a → replaces ≡ false)
-    → reports_escape (record c { result = result }) call ≡ true → replaces ≡ false
-escape_is_fatal c InputEmpty call reported escape = absurd (false≢true escape)
-escape_is_fatal c OutputFull call reported escape = absurd (false≢true escape)
-escape_is_fatal c (Malformed l a) call reported escape = reported l a refl
-
 -- A sequence that is reported, and the bytes pending after it, are among those pending and read.
-module _ {units_of : ℕ → List ℕ} {old new : Remainder} {src : List ℕ} {last : Bool}
-    {mode : DecodeErrorMode} where
-  pub reported_within : {room read l a : ℕ} {put done : List Sequence}
-      → AtMalformed units_of old new src last mode room put done read l a
-      → old.pending ++ take read src ≡ sequence_bytes done ++ new.pending
-      → l + length new.pending ≤ length old.pending + read
-  reported_within {read = read} {put = put} {done} stops accounted = omega (
-    arith,
-    ap length accounted,
-    length-append old.pending (take read src),
-    length-take read src,
-    length-append (sequence_bytes done) new.pending,
-    ap length (ap sequence_bytes stops.then_next ∙ sequence_bytes-one put stops.next),
-    length-append (sequence_bytes put) stops.next.bytes,
-    stops.len,
-  )
+pub reported_within : {old new : Remainder} {c : Call} {l a : ℕ} {put done : List Sequence}
+    → AtMalformed old new c put done l a
+    → old.pending ++ take c.read c.src ≡ sequence_bytes done ++ new.pending
+    → l + length new.pending ≤ length old.pending + c.read
+reported_within {old} {new} {c} {put = put} {done} stops accounted = omega (
+  arith,
+  ap length accounted,
+  length-append old.pending (take c.read c.src),
+  length-take c.read c.src,
+  length-append (sequence_bytes done) new.pending,
+  ap length (ap sequence_bytes stops.then_next ∙ sequence_bytes-one put stops.next),
+  length-append (sequence_bytes put) stops.next.bytes,
+  stops.len,
+)
 
 -- No byte is pending before the inner call, which reads those of what it does and holds.
 abbrev pub AreAllRead : Remainder → Remainder → Call → List Sequence → Type 0
@@ -106,12 +94,15 @@ module _ {units_of : ℕ → List ℕ} {old mid : Remainder} {stage : Stage} {in
       (call : IsCall units_of mid then inner) (state : MatchesState shift call new read left) where
     -- the call of the outer decoder stops as the inner one does
     abbrev InnerStops : DecoderResult → Type 0
-    InnerStops result = DecoderStops units_of mid then inner.src inner.last inner.mode inner.room
-        call.put call.done inner.read result
+    InnerStops result = DecoderStops units_of mid then inner call.put call.done result
+
+    abbrev outer : Call
+    outer = call_from stage inner.last (shifted_result inner.result left) read inner.wrote
+        inner.replaced
 
     abbrev OuterStops : DecoderResult → Type 0
-    OuterStops result = DecoderStops units_of old new stage.src inner.last stage.mode stage.room
-        (stage.done ++ call.put) (stage.done ++ call.done) read result
+    OuterStops result = DecoderStops units_of old new outer (stage.done ++ call.put)
+        (stage.done ++ call.done) result
 
     -- a repeated escape has all its bytes read, or fewer than it has
     abbrev EscapeRead : Bool → Type 0
@@ -149,7 +140,8 @@ module _ {units_of : ℕ → List ℕ} {old mid : Remainder} {stage : Stage} {in
       next = stops.next;
       determined = regrouped (AreDetermined inner.last old.sequences stage.src) stops.next
           (determined_outside shift (call.done ++ stops.next ∷ []) stops.determined);
-      not_reported = λ none_kept. stops.not_reported (sym part.keeps ∙ none_kept);
+      not_reported = λ is_fatal.
+          stops.not_reported (ap is_replacement_mode part.mode ∙ is_fatal);
       full = omega (
         arith,
         length_on written call.done,
@@ -252,18 +244,11 @@ module _ {units_of : ℕ → List ℕ} {old mid : Remainder} {stage : Stage} {in
             ∙ sym (append_assoc stage.done call.put (stops.next ∷ []));
         malformed = stops.malformed;
         replacement = stops.replacement;
-        not_replaced = part.reported l a is_malformed;
+        not_replaced = ap is_replacement_mode (sym part.mode) ∙ stops.not_replaced;
         len = stops.len;
         not_empty = stops.not_empty;
         pending = omega (arith, state.pending, stops.pending);
         bounds = lens (state.held l a is_malformed);
-        room_kept = λ keeps. omega (
-          arith,
-          length_on written call.put,
-          stops.room_kept (sym part.keeps ∙ keeps),
-          written.fits,
-          part.room,
-        );
         determined = determined_outside shift call.done stops.determined;
         none_after = none_after_shown shift reads call.done stops.none_after;
         reads = reads_on (is_repeated_escape stops.next.kind) (sure_at_escape escape) stops.reads;
@@ -285,13 +270,12 @@ module _ {units_of : ℕ → List ℕ} {old mid : Remainder} {stage : Stage} {in
       scalars = call.scalars;
       fits = omega (arith, call.fits, part.room);
       flag = call.flag;
-      none_replaced = λ is_fatal. call.none_replaced (part.fatal is_fatal);
+      none_replaced = λ is_fatal.
+          call.none_replaced (ap is_replacement_mode part.mode ∙ is_fatal);
     })
 
     -- The outer one does what was done, and then what the inner one does.
-    pub call_outside : (e : DecoderCall units_of old new stage.src inner.last stage.mode stage.room
-        (shifted_result inner.result left) read (stage.wrote ++ inner.wrote)
-        (stage.replaced || inner.replaced)) × (e.done ≡ stage.done ++ call.done)
+    pub call_outside : (e : IsCall units_of old new outer) × (e.done ≡ stage.done ++ call.done)
     call_outside = (
       record {
         put = stage.done ++ call.put;

@@ -10,47 +10,11 @@ use Rattle.enc_output.specs.declared.decoder_result.DecoderResult.TheVariants.{I
 use Rattle.enc_output.specs.Output.{Output, with_appended}
 use Rattle.enc_decoder.specs.Sequence.{Sequence, is_repeated_escape}
 use Rattle.enc_decoder.specs.Remainder.{Remainder, AreBytes, Determines, AreDetermined}
-use Rattle.enc_decoder.specs.Call.{DecoderCallInto, DecoderStops, ReadsToReported}
-use Rattle.enc_decoder.specs.CallRecord.{Call, CallInto, IsCallInto, call_writing}
-use Rattle.enc_decoder.specs.Converting.{PrefixedCallInto}
+use Rattle.enc_decoder.specs.Call.{IsCallInto, DecoderStops, ReadsToReported, reaches_end}
+use Rattle.enc_decoder.specs.CallRecord.{Call, CallInto, call_writing}
 use Rattle.enc_decoder.proofs.ByteLemmas.{bytes-append, determines_with}
-use Rattle.enc_decoder.proofs.StageLemmas.{reports_in}
 use Rattle.enc_decoder.proofs.TwoCallsLemmas.{two_calls}
 use Rattle.enc_output.proofs.OutputLemmas.{with_appended-with_appended, room_left}
-use Rattle.std.proofs.Math.ListN.{drop_of_length-le}
-
--- the same for all bytes, held and others
-abbrev pub IsPrefixedInto : (ℕ → List ℕ) → Remainder → Remainder → CallInto → Type 0
-IsPrefixedInto units_of old new c =
-    PrefixedCallInto units_of old new c.src c.last c.mode c.before c.after c.result c.read
-    c.replaced
-
-module _ {units_of : ℕ → List ℕ} {old new : Remainder} {c : CallInto} where
-  -- the same call over the same bytes, and the number of bytes read
-  with_bytes : {src : List ℕ} {read : ℕ} → c.src ≡ src → c.read ≡ read
-      → IsCallInto units_of old new c
-      → IsPrefixedInto units_of old new (record c { src = src; read = read })
-  with_bytes same_src same_read call = rw (← same_src, ← same_read) (record {
-    wrote = call.wrote;
-    onto = call.onto;
-    call = call.call.call;
-    accounted = call.call.accounted;
-  })
-
-  -- no bytes are held
-  pub none_held : {held : List ℕ} → held ≡ [] → IsCallInto units_of old new c
-      → IsPrefixedInto units_of old new
-      (record c { src = held ++ c.src; read = length held - 0 + c.read })
-  none_held is_empty call = with_bytes (ap (λ x. x ++ c.src) (sym is_empty))
-      (omega (arith, ap length is_empty)) call
-
-  -- no bytes follow them
-  pub none_follow : {src : List ℕ} → src ≡ [] → IsCallInto units_of old new c
-      → IsPrefixedInto units_of old new
-      (record c { src = c.src ++ src; read = length c.src - (length c.src - c.read) + 0 })
-  none_follow is_empty call =
-      with_bytes (sym (append-nil c.src) ∙ ap (λ x. c.src ++ x) (sym is_empty))
-      (omega (arith, call.call.call.within)) call
 
 -- what held bytes determine, they do whatever follows
 
@@ -98,13 +62,16 @@ module _ (remaining : List ℕ → List Sequence) (held src : List ℕ) (bytes :
 
 -- a call that stops within the bytes held stops so whatever follows
 module _ (units_of : ℕ → List ℕ) (old new : Remainder) (c : Call) (src : List ℕ) (last : Bool)
-    (put done : List Sequence) where
-  stops_still : AreBytes c.src → AreBytes src → c.read ≤ length c.src
-      → (result : DecoderResult) → (result ≡ InputEmpty → ⊥)
-      → DecoderStops units_of old new c.src false c.mode c.room put done c.read result
-      → DecoderStops units_of old new (c.src ++ src) last c.mode c.room put done c.read result
-  stops_still bytes also within InputEmpty stopped stops = absurd (stopped refl)
-  stops_still bytes also within OutputFull stopped stops =
+    (bytes : AreBytes c.src) (also : AreBytes src) (within : c.read ≤ length c.src) where
+  abbrev longer : Call
+  longer = record c { src = c.src ++ src; last = last }
+
+  stops_still : (put done : List Sequence) (result : DecoderResult)
+      → (result ≡ InputEmpty → ⊥)
+      → DecoderStops units_of old new (record c { last = false }) put done result
+      → DecoderStops units_of old new longer put done result
+  stops_still put done InputEmpty stopped stops = absurd (stopped refl)
+  stops_still put done OutputFull stopped stops =
       let ss = done ++ stops.next ∷ [] in
       record {
         only_put = stops.only_put;
@@ -119,7 +86,7 @@ module _ (units_of : ℕ → List ℕ) (old new : Remainder) (c : Call) (src : L
               stops.determined stops.reads.shown_next;
         };
       }
-  stops_still bytes also within (Malformed l a) stopped stops = record {
+  stops_still put done (Malformed l a) stopped stops = record {
     next = stops.next;
     then_next = stops.then_next;
     malformed = stops.malformed;
@@ -129,7 +96,6 @@ module _ (units_of : ℕ → List ℕ) (old new : Remainder) (c : Call) (src : L
     not_empty = stops.not_empty;
     pending = stops.pending;
     bounds = stops.bounds;
-    room_kept = stops.room_kept;
     determined = known_at old.sequences c.src src bytes also last done stops.determined;
     none_after = still old.sequences c.src src bytes also c.read within (λ x. (c.read ≡ 0)
         ⊎ ((s : Sequence) → Determines old.sequences x (done ++ s ∷ []) → ⊥)) stops.none_after;
@@ -137,85 +103,64 @@ module _ (units_of : ℕ → List ℕ) (old new : Remainder) (c : Call) (src : L
         (is_repeated_escape stops.next.kind) new.pending stops.reads;
   }
 
-pub stops_in_held : {units_of : ℕ → List ℕ} {old new : Remainder} {c : CallInto} (src : List ℕ)
-    {last : Bool} → AreBytes c.src → AreBytes src → (c.result ≡ InputEmpty → ⊥)
-    → c.last ≡ false → IsCallInto units_of old new c
-    → IsPrefixedInto units_of old new (record c {
-      src = c.src ++ src;
-      last = last;
-      read = length c.src - (length c.src - c.read) + 0;
-    })
-stops_in_held {units_of} {old} {new} {c} src {last} bytes also stopped not_last given =
-    let into = subst (λ l. IsCallInto units_of old new (record c { last = l })) not_last given in
-    let call = into.call.call in
-    let all_read : c.read ≡ length c.src - (length c.src - c.read) + 0 =
-    omega (arith, call.within) in
-    rw (← all_read) (record {
+not_ended : (result : DecoderResult) → reaches_end false result ≡ false
+not_ended InputEmpty = refl
+not_ended OutputFull = refl
+not_ended (Malformed l a) = refl
+
+pub stops_in_held : {units_of : ℕ → List ℕ} {old new : Remainder} (c : CallInto) (src : List ℕ)
+    (last : Bool) → AreBytes c.src → AreBytes src → (c.result ≡ InputEmpty → ⊥)
+    → IsCallInto units_of old new (record c { last = false })
+    → IsCallInto units_of old new (record c { src = c.src ++ src; last = last })
+stops_in_held {units_of} {old} {new} c src last bytes also stopped into =
+    let raw = into.call in
+    let call = raw.call in
+    let same_taken : take c.read (c.src ++ src) ≡ take c.read c.src =
+    take-append-le c.read c.src src call.within in
+    record {
       wrote = into.wrote;
       onto = into.onto;
       call = record {
-        put = call.put;
-        done = call.done;
-        within = omega (arith, call.within, length-append c.src src);
-        residual = λ z _.
-            let same_rest = drop-append-le c.read c.src src call.within in
-            rw (append_assoc, same_rest, append_assoc)
-            (call.residual (src ++ z) (λ e. absurd (false≢true e)));
-        set = call.set;
-        text = call.text;
-        scalars = call.scalars;
-        fits = call.fits;
-        flag = call.flag;
-        none_replaced = call.none_replaced;
-        stops = stops_still units_of old new (call_writing c into.wrote) src last call.put call.done
-            bytes also call.within c.result stopped call.stops;
+        call = record {
+          put = call.put;
+          done = call.done;
+          within = omega (arith, call.within, length-append c.src src);
+          residual = λ z _.
+              let same_rest = drop-append-le c.read c.src src call.within in
+              rw (append_assoc, same_rest, append_assoc)
+              (call.residual (src ++ z) (λ e. absurd (false≢true e)));
+          set = call.set;
+          text = call.text;
+          scalars = call.scalars;
+          fits = call.fits;
+          flag = call.flag;
+          none_replaced = call.none_replaced;
+          stops = stops_still units_of old new (call_writing c into.wrote) src last bytes also
+              call.within call.put call.done c.result stopped call.stops;
+        };
+        accounted = ap (λ x. old.pending ++ x) same_taken ∙ raw.accounted;
+        goes_on = λ y _ first. rw same_taken (raw.goes_on y
+            (λ e. absurd (false≢true (sym (not_ended c.result) ∙ e))) (rw same_taken at first));
       };
-      accounted = ap (λ x. old.pending ++ x) (take-append-le c.read c.src src call.within)
-          ∙ into.call.accounted;
-    })
+    }
 
 -- a call that reads them all, and the next one
-pub joins : {units_of : ℕ → List ℕ} {old mid new : Remainder} {held : List ℕ} {before : Output}
-    {given : ℕ} {had : Bool} {c : CallInto} → AreBytes held → AreBytes c.src
-    → DecoderCallInto units_of old mid held false c.mode before c.before InputEmpty given had
+pub joins : {units_of : ℕ → List ℕ} {old mid new : Remainder} (held c : CallInto)
+    → AreBytes held.src → AreBytes c.src → c.mode ≡ held.mode → c.before ≡ held.after
+    → IsCallInto units_of old mid (record held { last = false; result = InputEmpty })
     → IsCallInto units_of mid new c
-    → IsPrefixedInto units_of old new (record c {
-      src = held ++ c.src;
-      before = before;
-      read = length held - 0 + c.read;
-      replaced = had || c.replaced;
+    → IsCallInto units_of old new (record c {
+      src = held.src ++ c.src;
+      mode = held.mode;
+      before = held.before;
+      read = held.read + c.read;
+      replaced = held.replaced || c.replaced;
     })
-joins {held = held} {before} {given} {had} {c} bytes also first second =
-    let held_call : Call = call_writing (record c {
-      src = held;
-      last = false;
-      before = before;
-      result = InputEmpty;
-      read = given;
-      replaced = had;
-    }) first.wrote in
-    let next_call : Call = call_writing c second.wrote in
-    let all_read = first.call.call.stops.all_read in
-    let both = two_calls {first = held_call} {second = next_call} bytes also (record {
-      src = ap (λ x. x ++ c.src) (sym (drop_of_length-le held (omega (arith, all_read))));
-      at_end = λ e. cc;
-      settled = record {
-        keeps = refl;
-        fatal = λ is_fatal. is_fatal;
-        not_ended = refl;
-        not_full = λ e. cc;
-        replaces = λ l a e. cc;
-      };
-      part = λ done. record {
-        room = room_left before c.before first.wrote first.onto;
-        keeps = refl;
-        fatal = λ is_fatal. is_fatal;
-        reported = reports_in next_call c.result second.call.call;
-      };
-    }) first.call second.call in
-    with_bytes refl (omega (arith, all_read)) (record {
-      wrote = first.wrote ++ second.wrote;
-      onto = second.onto ∙ ap (λ o. with_appended o second.wrote) first.onto
-          ∙ with_appended-with_appended before first.wrote second.wrote;
-      call = both;
-    })
+joins held c bytes also same_mode onto first second = record {
+  wrote = first.wrote ++ second.wrote;
+  onto = second.onto ∙ ap (λ o. with_appended o second.wrote) (onto ∙ first.onto)
+      ∙ with_appended-with_appended held.before first.wrote second.wrote;
+  call = two_calls (call_writing held first.wrote) first.call bytes also same_mode
+      (ap (λ (o : Output). o.room) onto
+      ∙ room_left held.before held.after first.wrote first.onto) second.call;
+}

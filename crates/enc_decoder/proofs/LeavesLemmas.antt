@@ -7,13 +7,12 @@ use Rattle.enc_output.specs.declared.decoder_result.DecoderResult.{DecoderResult
 use Rattle.enc_output.specs.declared.decoder_result.DecoderResult.TheVariants.{InputEmpty, OutputFull, Malformed}
 use Rattle.enc_decoder.specs.Sequence.{Sequence, sequence_bytes, set_after}
 use Rattle.enc_decoder.specs.Remainder.{Remainder, AreBytes, AreFirstSequences, Determines}
-use Rattle.enc_decoder.specs.Call.{DecoderCall, RawDecoderCall, DecodeErrorMode}
-use Rattle.enc_decoder.specs.CallRecord.{Call, IsCall}
-use Rattle.enc_decoder.specs.Converting.{shifted_result}
+use Rattle.enc_decoder.specs.Call.{IsCall, IsRawCall, shifted_result}
+use Rattle.enc_decoder.specs.CallRecord.{Call}
 use Rattle.enc_decoder.proofs.SequenceLemmas.{sequence_bytes-append, set_after-append}
 use Rattle.enc_decoder.proofs.DeterminedLemmas.{begins_after, determines_fewer}
 use Rattle.enc_decoder.proofs.ByteLemmas.{bytes-drop, determines_by_more}
-use Rattle.enc_decoder.proofs.StageLemmas.{Stage, HasWritten, IsPartAt, stage_at, stage_after}
+use Rattle.enc_decoder.proofs.StageLemmas.{Stage, HasWritten, IsPartAt, call_from, stage_at, stage_after}
 use Rattle.enc_decoder.proofs.InnerInputLemmas.{ShiftsInput, MatchesRead, none_after_shown, determines_outside}
 use Rattle.enc_decoder.proofs.InnerCallLemmas.{call_outside, reports_escape}
 
@@ -42,12 +41,12 @@ abbrev pub AreAccounted : Remainder → Remainder → Stage → Type 0
 AreAccounted old mid stage =
     old.pending ++ take stage.read stage.src ≡ sequence_bytes stage.done ++ mid.pending
 
--- a call over the unread bytes of a stage, with this room
-abbrev pub call_at : Stage → DecodeErrorMode → ℕ → DecoderResult → ℕ → List ℕ → Bool → Call
-call_at stage mode room result read wrote replaced = record {
+-- a call over the unread bytes of a stage, in its mode and with this room
+abbrev pub call_at : Stage → ℕ → DecoderResult → ℕ → List ℕ → Bool → Call
+call_at stage room result read wrote replaced = record {
   src = drop stage.read stage.src;
   last = stage.last;
-  mode = mode;
+  mode = stage.mode;
   room = room;
   result = result;
   read = read;
@@ -85,10 +84,9 @@ module _ {old mid : Remainder} {stage : Stage} (bytes : AreBytes stage.src)
     )
   ]
 
-  abbrev shift : (mode : DecodeErrorMode) (room : ℕ) (result : DecoderResult) (n : ℕ)
-      (more : List ℕ) (replaced : Bool)
-      → ShiftsInput old mid stage (call_at stage mode room result n more replaced)
-  shift mode room result n more replaced = record {
+  abbrev shift : (room : ℕ) (result : DecoderResult) (n : ℕ) (more : List ℕ) (replaced : Bool)
+      → ShiftsInput old mid stage (call_at stage room result n more replaced)
+  shift room result n more replaced = record {
     held = 0;
     from = stage.read;
     sure = leaves.sure;
@@ -111,10 +109,10 @@ module _ {old mid : Remainder} {stage : Stage} (bytes : AreBytes stage.src)
     none_below = below.2;
   }
 
-  module _ {mode : DecodeErrorMode} {room : ℕ} {result : DecoderResult} (n : ℕ) {more : List ℕ}
+  module _ {room : ℕ} {result : DecoderResult} (n : ℕ) {more : List ℕ}
       {replaced : Bool} where
     reads : n ≤ length (drop stage.read stage.src)
-        → MatchesRead (shift mode room result n more replaced) (stage.read + n)
+        → MatchesRead (shift room result n more replaced) (stage.read + n)
     reads within_rest = record {
       within = omega (arith, length-drop stage.read stage.src, leaves.within);
       there = omega arith;
@@ -129,19 +127,19 @@ module _ {old mid : Remainder} {stage : Stage} (bytes : AreBytes stage.src)
 
     -- The next call is, with those before, one call.
     pub one_call : {units_of : ℕ → List ℕ} {new : Remainder} → HasWritten units_of stage
-        → IsPartAt stage (call_at stage mode room result n more replaced)
-        → (call : IsCall units_of mid new (call_at stage mode room result n more replaced))
-        → (reports_escape (call_at stage mode room result n more replaced) call ≡ true
+        → IsPartAt stage (call_at stage room result n more replaced)
+        → (call : IsCall units_of mid new (call_at stage room result n more replaced))
+        → (reports_escape (call_at stage room result n more replaced) call ≡ true
         → leaves.sure ≤ stage.read + n)
-        → (e : DecoderCall units_of old new stage.src stage.last stage.mode stage.room result
-        (stage.read + n) (stage.wrote ++ more) (stage.replaced || replaced))
+        → (e : IsCall units_of old new
+        (call_from stage stage.last result (stage.read + n) more replaced))
         × (e.done ≡ stage.done ++ call.done)
     one_call {units_of} {new} written part call sure =
-        subst (λ r. (e : DecoderCall units_of old new stage.src stage.last stage.mode stage.room r
-        (stage.read + n) (stage.wrote ++ more) (stage.replaced || replaced))
+        subst (λ r. (e : IsCall units_of old new
+        (call_from stage stage.last r (stage.read + n) more replaced))
         × (e.done ≡ stage.done ++ call.done)) (unshifted result)
         (call_outside (bytes-drop stage.read stage.src bytes)
-        (shift mode room result n more replaced) written part (reads call.within) call (record {
+        (shift room result n more replaced) written part (reads call.within) call (record {
           after = λ z ends. ap (λ x. new.sequences (x ++ z)) (drop-drop n stage.read stage.src);
           set = call.set ∙ ap (λ x. set_after x call.done) leaves.set
               ∙ sym (set_after-append old.set stage.done call.done);
@@ -153,7 +151,7 @@ module _ {old mid : Remainder} {stage : Stage} (bytes : AreBytes stage.src)
         }))
       where
         none_pending_at : (result : DecoderResult)
-            → IsCall units_of mid new (call_at stage mode room result n more replaced)
+            → IsCall units_of mid new (call_at stage room result n more replaced)
             → stage.last ≡ true → result ≡ InputEmpty → new.pending ≡ []
         none_pending_at InputEmpty call is_last is_empty = call.stops.none_pending is_last
         none_pending_at OutputFull call is_last is_empty = cc
@@ -187,16 +185,15 @@ module _ {old mid : Remainder} {stage : Stage} (bytes : AreBytes stage.src)
       (rw (after, sequence_bytes-append, append_assoc) refl)
 
   -- the same for decoders that look for no byte order mark
-  pub raw_call : {units_of : ℕ → List ℕ} {new : Remainder} {mode : DecodeErrorMode}
-      {room : ℕ} {result : DecoderResult} {n : ℕ} {more : List ℕ} {replaced : Bool}
+  pub raw_call : {units_of : ℕ → List ℕ} {new : Remainder} {room : ℕ} {result : DecoderResult}
+      {n : ℕ} {more : List ℕ} {replaced : Bool}
       → HasWritten units_of stage → AreAccounted old mid stage
-      → IsPartAt stage (call_at stage mode room result n more replaced)
-      → (next : RawDecoderCall units_of mid new (drop stage.read stage.src) stage.last mode
-      room result n more replaced)
-      → (reports_escape (call_at stage mode room result n more replaced) next.call ≡ true
+      → IsPartAt stage (call_at stage room result n more replaced)
+      → (next : IsRawCall units_of mid new (call_at stage room result n more replaced))
+      → (reports_escape (call_at stage room result n more replaced) next.call ≡ true
       → leaves.sure ≤ stage.read + n)
-      → RawDecoderCall units_of old new stage.src stage.last stage.mode stage.room result
-      (stage.read + n) (stage.wrote ++ more) (stage.replaced || replaced)
+      → IsRawCall units_of old new
+      (call_from stage stage.last result (stage.read + n) more replaced)
   raw_call {new = new} {n = n} written accounted part next sure =
       let both = one_call n written part next.call sure in
       record {
@@ -214,7 +211,7 @@ module _ {old mid : Remainder} {stage : Stage} (bytes : AreBytes stage.src)
       → Leaves mid new (stage_at stage n ss more replaced)
       → Leaves old new (stage_after stage n ss more replaced)
   leaves_on {new} {n} {ss} {more} {replaced} next =
-      let shift_on = shift stage.mode 0 InputEmpty n more replaced in
+      let shift_on = shift 0 InputEmpty n more replaced in
       record {
         sure = stage.read + n + 1;
         surely = omega arith;

@@ -16,13 +16,11 @@ pub mod Latin1Lemmas
 pub mod NeedLemmas
 pub mod EnoughLemmas
 pub mod LookaheadLemmas
-pub mod ReplacingLemmas
 pub mod StageLemmas
 pub mod InnerInputLemmas
 pub mod InnerCallLemmas
 pub mod LeavesLemmas
 pub mod StateLeavesLemmas
-pub mod SettledCallLemmas
 pub mod TwoCallsLemmas
 pub mod OutputStageLemmas
 pub mod TakenRunLemmas

@@ -9,15 +9,13 @@ use Rattle.std.proofs.lemmas.Bool.{false≢true, cond-true, cond-false}
 use Rattle.enc_output.specs.declared.decoder_result.DecoderResult.{DecoderResult}
 use Rattle.enc_output.specs.declared.decoder_result.DecoderResult.TheVariants.{InputEmpty, OutputFull, Malformed}
 use Rattle.enc_output.specs.declared.decoder_result.DecoderResult.TheVariants as stop
-use Rattle.enc_output.specs.Output.{Output}
 use Rattle.enc_utf8.specs.Text.{units_of_text}
 use Rattle.enc_decoder.specs.Sequence.{Sequence, is_malformed, any_malformed, sequence_text}
 use Rattle.enc_decoder.specs.Remainder.{Remainder, AreFirstSequences, Determines, AreDetermined}
-use Rattle.enc_decoder.specs.Call.{DecodeErrorMode, Replacement, Fatal, is_replacement_mode, keeps_room}
-use Rattle.enc_decoder.specs.Call.{DecoderStops}
-use Rattle.enc_decoder.specs.Need.{sequences_before_malformed, needed_sequences, needed_units, NeedExceeds, kept_room}
-use Rattle.enc_decoder.specs.Need.{MeetsDecodeNeed, MeetsDecodeNeedInto}
-use Rattle.enc_decoder.specs.CallRecord.{Call, CallInto, IsCall, IsCallInto, call_writing}
+use Rattle.enc_decoder.specs.Call.{ErrorMode, Replacement, Fatal, is_replacement_mode, IsCall, DecoderStops}
+use Rattle.enc_decoder.specs.Need.{sequences_before_malformed, needed_sequences, needed_units, NeedExceeds}
+use Rattle.enc_decoder.specs.Need.{MeetsDecodeNeed}
+use Rattle.enc_decoder.specs.CallRecord.{Call}
 use Rattle.enc_decoder.proofs.SequenceLemmas.{units-append}
 use Rattle.enc_decoder.proofs.DeterminedLemmas.{determines_fewer, determined_at, LeavesOff, determined_after}
 use Rattle.enc_decoder.proofs.DeterminedLemmas.{determined_past}
@@ -53,35 +51,34 @@ module _ (units_of : ℕ → List ℕ) where
   longer_if true s x p q h = omega arith
   longer_if false s x p q h = omega (arith, h, units-both (s ∷ []) p, units-both (s ∷ []) q)
 
-  before_more : (keeps : Bool) (ss ts : List Sequence)
-      → units (sequences_before_malformed keeps ss)
-      ≤ units (sequences_before_malformed keeps (ss ++ ts))
-  before_more keeps [] ts = omega arith
-  before_more keeps (s ∷ ss) ts = longer_if (is_malformed s.kind) s _ _ _ (before_more keeps ss ts)
+  before_more : (ss ts : List Sequence)
+      → units (sequences_before_malformed ss) ≤ units (sequences_before_malformed (ss ++ ts))
+  before_more [] ts = omega arith
+  before_more (s ∷ ss) ts = longer_if (is_malformed s.kind) s _ _ _ (before_more ss ts)
 
   -- more sequences need no less
-  pub needed_more : (mode : DecodeErrorMode) (ss ts : List Sequence)
+  pub needed_more : (mode : ErrorMode) (ss ts : List Sequence)
       → needed_units units_of mode ss ≤ needed_units units_of mode (ss ++ ts)
   needed_more Replacement ss ts = omega (arith, units-both ss ts)
-  needed_more (Fatal keeps) ss ts = before_more keeps ss ts
+  needed_more Fatal ss ts = before_more ss ts
 
 either_false : (a b : Bool) → (a || b) ≡ false → (a ≡ false) × (b ≡ false)
 either_false true b neither = absurd (false≢true (sym neither))
 either_false false b neither = (refl, neither)
 
 -- after sequences that are not malformed
-before_clean : (keeps : Bool) (ss ts : List Sequence) → any_malformed ss ≡ false
-    → sequences_before_malformed keeps (ss ++ ts) ≡ ss ++ sequences_before_malformed keeps ts
-before_clean keeps [] ts n = refl
-before_clean keeps (s ∷ ss) ts n =
+before_clean : (ss ts : List Sequence) → any_malformed ss ≡ false
+    → sequences_before_malformed (ss ++ ts) ≡ ss ++ sequences_before_malformed ts
+before_clean [] ts n = refl
+before_clean (s ∷ ss) ts n =
     let both_valid = either_false (is_malformed s.kind) (any_malformed ss) n in
-    cond-false _ _ _ both_valid.0 ∙ ap (λ x. s ∷ x) (before_clean keeps ss ts both_valid.1)
+    cond-false _ _ _ both_valid.0 ∙ ap (λ x. s ∷ x) (before_clean ss ts both_valid.1)
 
-pub needed_clean : (mode : DecodeErrorMode) (ss ts : List Sequence)
+pub needed_clean : (mode : ErrorMode) (ss ts : List Sequence)
     → (is_replacement_mode mode ≡ false → any_malformed ss ≡ false)
     → needed_sequences mode (ss ++ ts) ≡ ss ++ needed_sequences mode ts
 needed_clean Replacement ss ts n = refl
-needed_clean (Fatal keeps) ss ts n = before_clean keeps ss ts (n refl)
+needed_clean Fatal ss ts n = before_clean ss ts (n refl)
 
 -- determined sequences come first
 
@@ -91,21 +88,16 @@ at_end true remaining x ss are_determined = are_determined
 at_end false remaining x ss are_determined =
     subst (λ y. AreFirstSequences ss (remaining y)) (append-nil x) (are_determined [] tt)
 
-same_either : (t : Bool) (x : List Sequence) → cond t x x ≡ x
-same_either true x = refl
-same_either false x = refl
-
 -- a sequence that is not to be reported is needed
-one_needed : (mode : DecodeErrorMode) (s : Sequence)
-    → (keeps_room mode ≡ false → is_malformed s.kind ≡ false)
+one_needed : (mode : ErrorMode) (s : Sequence)
+    → (is_replacement_mode mode ≡ false → is_malformed s.kind ≡ false)
     → needed_sequences mode (s ∷ []) ≡ s ∷ []
 one_needed Replacement s not_reported = refl
-one_needed (Fatal true) s not_reported = same_either (is_malformed s.kind) (s ∷ [])
-one_needed (Fatal false) s not_reported = cond-false _ _ _ (not_reported refl)
+one_needed Fatal s not_reported = cond-false _ _ _ (not_reported refl)
 
-none_needed : (units_of : ℕ → List ℕ) (mode : DecodeErrorMode) → needed_units units_of mode [] ≡ 0
+none_needed : (units_of : ℕ → List ℕ) (mode : ErrorMode) → needed_units units_of mode [] ≡ 0
 none_needed units_of Replacement = refl
-none_needed units_of (Fatal keeps) = refl
+none_needed units_of Fatal = refl
 
 module _ (units_of : ℕ → List ℕ) where
   pub units-one : (s : Sequence) (text : List ℕ) → s.text ≡ text
@@ -113,23 +105,13 @@ module _ (units_of : ℕ → List ℕ) where
   units-one s text is_text =
       ap (λ t. length (units_of_text units_of t)) (append-nil s.text ∙ is_text)
 
-  -- after one that is reported nothing more is needed
-  reported_need : (mode : DecodeErrorMode) (s : Sequence) (ts : List Sequence)
-      → is_malformed s.kind ≡ true → s.text ≡ 0xFFFD ∷ [] → is_replacement_mode mode ≡ false
-      → needed_units units_of mode (s ∷ ts) ≡ kept_room units_of mode
-  reported_need Replacement s ts malformed is_text fatal = absurd (false≢true (sym fatal))
-  reported_need (Fatal true) s ts malformed is_text fatal =
-      ap (units units_of) (cond-true _ _ _ malformed) ∙ units-one s (0xFFFD ∷ []) is_text
-      ∙ ap length (append-nil (units_of 0xFFFD))
-  reported_need (Fatal false) s ts malformed is_text fatal =
+  -- from one that is reported on nothing is needed
+  reported_need : (mode : ErrorMode) (s : Sequence) (ts : List Sequence)
+      → is_malformed s.kind ≡ true → is_replacement_mode mode ≡ false
+      → needed_units units_of mode (s ∷ ts) ≡ 0
+  reported_need Replacement s ts malformed fatal = absurd (false≢true (sym fatal))
+  reported_need Fatal s ts malformed fatal =
       ap (units units_of) (cond-true _ _ _ malformed)
-
-  kept_fits : (mode : DecodeErrorMode) (n room : ℕ)
-      → (keeps_room mode ≡ true → n + length (units_of 0xFFFD) ≤ room) → n ≤ room
-      → n + kept_room units_of mode ≤ room
-  kept_fits Replacement n room kept fits = omega (arith, fits)
-  kept_fits (Fatal true) n room kept fits = kept refl
-  kept_fits (Fatal false) n room kept fits = omega (arith, fits)
 
 module _ {units_of : ℕ → List ℕ} {old new : Remainder} (c : Call)
     (call : IsCall units_of old new c) where
@@ -219,14 +201,16 @@ module _ {units_of : ℕ → List ℕ} {old new : Remainder} (c : Call)
     )
 
   abbrev Meets : DecoderResult → Type 0
-  Meets result = MeetsDecodeNeed units_of c.mode old new c.src c.last c.room result c.read put_units
+  Meets result = MeetsDecodeNeed units_of old new (record c { result = result })
 
   abbrev Stops : DecoderResult → Type 0
-  Stops result = DecoderStops units_of old new c.src c.last c.mode c.room call.put call.done c.read
-      result
+  Stops result = DecoderStops units_of old new c call.put call.done result
+
+  wrote_put : length c.wrote ≡ put_units
+  wrote_put = ap length call.text
 
   fits : put_units ≤ c.room
-  fits = omega (arith, call.fits, ap length call.text)
+  fits = omega (arith, call.fits, wrote_put)
 
   -- where all is read, nothing more is determined
   none_further : Stops InputEmpty → (s : Sequence) (ts : List Sequence)
@@ -261,8 +245,8 @@ module _ {units_of : ℕ → List ℕ} {old new : Remainder} (c : Call)
         | inr more ↦ none_further stops more.0 more.1 more.2
       ]),
     );
-    reaches = reaches need (needed_put stops.only_put);
-    left = left stops.only_put;
+    reaches = rw wrote_put (reaches need (needed_put stops.only_put));
+    left = rw wrote_put (left stops.only_put);
   }
 
   -- the next one doesn't fit
@@ -283,41 +267,33 @@ module _ {units_of : ℕ → List ℕ} {old new : Remainder} (c : Call)
       },
       λ _. refl,
     );
-    reaches = reaches need (needed_put stops.only_put);
-    left = left stops.only_put;
+    reaches = rw wrote_put (reaches need (needed_put stops.only_put));
+    left = rw wrote_put (left stops.only_put);
   }
 
   -- one is reported
   module _ (l a : ℕ) (stops : Stops (stop.Malformed l a)) where
-    abbrev kept : ℕ
-    kept = kept_room units_of c.mode
-
-    needed_all : (ts : List Sequence) → need (call.done ++ ts) ≡ put_units + kept
+    needed_all : (ts : List Sequence) → need (call.done ++ ts) ≡ put_units + 0
     needed_all ts =
         ap (λ ss. need (ss ++ ts)) stops.then_next
         ∙ ap need (append_assoc call.put (stops.next ∷ []) ts)
         ∙ needed_past (stops.next ∷ ts)
-        ∙ ap (λ k. put_units + k) (reported_need units_of c.mode stops.next ts stops.malformed
-        stops.replacement stops.not_replaced)
+        ∙ ap (λ k. put_units + k)
+        (reported_need units_of c.mode stops.next ts stops.malformed stops.not_replaced)
 
-    bounded : (n : ℕ) → Exceeds n → n < put_units + kept
-    bounded n exceeds =
-        elim (compared (λ _. kept) needed_all n exceeds) [ inl fewer ↦ fewer | inr more ↦ more.3 ]
+    bounded : (n : ℕ) → Exceeds n → n < put_units
+    bounded n exceeds = elim (compared (λ _. 0) needed_all n exceeds) [
+      | inl fewer ↦ omega (arith, fewer)
+      | inr more ↦ omega (arith, more.3)
+    ]
 
     meets_malformed : Meets (stop.Malformed l a)
     meets_malformed = record {
-      full = (
-        λ e. absurd (cc),
-        λ exceeds. absurd (omega (
-          arith,
-          bounded c.room exceeds,
-          kept_fits units_of c.mode put_units c.room stops.room_kept fits,
-        )),
-      );
-      reaches = reaches (λ _. kept) needed_all;
+      full = (λ e. absurd (cc), λ exceeds. absurd (omega (arith, bounded c.room exceeds, fits)));
+      reaches = rw wrote_put (reaches (λ _. 0) needed_all);
       left = λ n. (
-        λ exceeds. omega (arith, bounded (put_units + n) exceeds),
-        λ fewer. passes (λ _. kept) needed_all (put_units + n) (omega (arith, fewer)),
+        λ exceeds. absurd (omega (arith, wrote_put, bounded (length c.wrote + n) exceeds)),
+        λ none. absurd none,
       );
     }
 
@@ -327,16 +303,5 @@ module _ {units_of : ℕ → List ℕ} {old new : Remainder} (c : Call)
   meets_by (stop.Malformed l a) stops = meets_malformed l a stops
 
   -- Every call meets what it needs.
-  pub meets_need : MeetsDecodeNeed units_of c.mode old new c.src c.last c.room c.result c.read
-      (length c.wrote)
-  meets_need = subst (MeetsDecodeNeed units_of c.mode old new c.src c.last c.room c.result c.read)
-      (sym (ap length call.text)) (meets_by c.result call.stops)
-
--- the same by the rooms of an output before and after
-pub meets_into : {units_of : ℕ → List ℕ} {old new : Remainder} {c : CallInto}
-    → IsCallInto units_of old new c
-    → MeetsDecodeNeedInto units_of c.mode old new c.src c.last c.before c.after c.result c.read
-meets_into {units_of} {old} {new} {c} into =
-    subst (MeetsDecodeNeed units_of c.mode old new c.src c.last c.before.room c.result c.read)
-    (omega (arith, into.call.call.fits, ap (λ (o : Output). o.room) into.onto))
-    (meets_need (call_writing c into.wrote) into.call.call)
+  pub meets_need : MeetsDecodeNeed units_of old new c
+  meets_need = meets_by c.result call.stops

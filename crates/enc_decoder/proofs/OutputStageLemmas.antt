@@ -5,12 +5,12 @@ use Rattle.enc_decoder.proofs.LeavesLemmas.{nothing_read}
 use Rattle.std.proofs.Common.{◌≡◌, ℕ, ◌+◌, ◌-◌, ◌≤◌, Bool, true, false, List, [], ◌++◌, length, drop, refl, ap, ◌∙◌}
 use Rattle.std.proofs.Common.{sym, append-nil, subst}
 use Rattle.enc_output.specs.declared.decoder_result.DecoderResult.{DecoderResult}
-use Rattle.enc_output.specs.declared.decoder_result.DecoderResult.TheVariants.{Malformed}
 use Rattle.enc_output.specs.Output.{Output, with_appended}
 use Rattle.enc_output.proofs.OutputLemmas.{with_appended-nil, with_appended-with_appended, room_left}
 use Rattle.enc_decoder.specs.Sequence.{Sequence}
 use Rattle.enc_decoder.specs.Remainder.{Remainder, AreBytes}
-use Rattle.enc_decoder.specs.Call.{DecoderCallInto, DecodeErrorMode, is_replacement_mode, keeps_room}
+use Rattle.enc_decoder.specs.Call.{IsRawCall, IsCallInto, ErrorMode}
+use Rattle.enc_decoder.specs.CallRecord.{CallInto}
 use Rattle.enc_decoder.proofs.StageLemmas.{stage_after, stage_at, written_on}
 use Rattle.enc_decoder.proofs.StageLemmas.{Stage, HasWritten, nothing_written}
 use Rattle.enc_decoder.proofs.InnerCallLemmas.{reports_escape}
@@ -31,7 +31,7 @@ pub record Reaches (units_of : ℕ → List ℕ) (old now : Remainder) (before a
 
 -- the same, by what a loop knows of the stage
 pub record Progress (units_of : ℕ → List ℕ) (old now : Remainder) (src : List ℕ) (last : Bool)
-    (mode : DecodeErrorMode) (before after : Output) (read : ℕ) (replaced : Bool) : Type 0 where
+    (mode : ErrorMode) (before after : Output) (read : ℕ) (replaced : Bool) : Type 0 where
   pub done : List Sequence
   pub wrote : List ℕ
   pub reaches : Reaches units_of old now before after (record {
@@ -44,6 +44,19 @@ pub record Progress (units_of : ℕ → List ℕ) (old now : Remainder) (src : L
     wrote = wrote;
     replaced = replaced;
   })
+
+-- the call that ends there, over an output
+abbrev pub call_to : Stage → Output → Output → DecoderResult → ℕ → CallInto
+call_to stage before after result read = record {
+  src = stage.src;
+  last = stage.last;
+  mode = stage.mode;
+  before = before;
+  after = after;
+  result = result;
+  read = read;
+  replaced = stage.replaced;
+}
 
 -- what a loop knows where it reaches a stage
 pub progress_at : {units_of : ℕ → List ℕ} {old now : Remainder} {before after : Output}
@@ -59,7 +72,7 @@ progress_at {units_of} {old} {now} {before} {after} {stage} reaches same_read sa
 
 -- nothing is read yet
 pub start : {units_of : ℕ → List ℕ} {old : Remainder} {src : List ℕ} {last : Bool}
-    {mode : DecodeErrorMode} {before : Output} → AreBytes src
+    {mode : ErrorMode} {before : Output} → AreBytes src
     → Progress units_of old old src last mode before before 0 false
 start {old} {src} {last} {mode} {before} bytes = record {
   done = [];
@@ -86,23 +99,19 @@ module _ {units_of : ℕ → List ℕ} {old now : Remainder} {before at : Output
       ∙ with_appended-with_appended before stage.wrote more
 
   -- one more call, which replaces nothing, is a call with the earlier ones
-  pub call_into : {new : Remainder} {then : Output} {mode : DecodeErrorMode}
-      {result : DecoderResult} {n read : ℕ} → keeps_room stage.mode ≡ keeps_room mode
-      → (is_replacement_mode stage.mode ≡ false → is_replacement_mode mode ≡ false)
-      → ((l a : ℕ) → result ≡ Malformed l a → is_replacement_mode stage.mode ≡ false)
-      → (next : DecoderCallInto units_of now new (drop stage.read stage.src) stage.last mode at then
-      result n false)
-      → (reports_escape (call_at stage mode at.room result n next.wrote false) next.call.call ≡ true
-      → reaches.leaves.sure ≤ stage.read + n) → stage.read + n ≡ read
-      → DecoderCallInto units_of old new stage.src stage.last stage.mode before then result read
-      stage.replaced
-  call_into keeps fatal reported next sure same_read = record {
-    wrote = stage.wrote ++ next.wrote;
-    onto = onto_on next.wrote next.onto;
-    call = rw (← reaches.room, ← same_read, ← or_false stage.replaced)
-        (raw_call reaches.bytes reaches.leaves reaches.written reaches.accounted
-        (record { room = room_at; keeps = keeps; fatal = fatal; reported = reported })
-        next.call sure);
+  pub call_over : {new : Remainder} {then : Output} {result : DecoderResult} {n read : ℕ}
+      → (next : IsRawCall units_of now new (call_at stage at.room result n [] false))
+      → (reports_escape (call_at stage at.room result n [] false) next.call ≡ true
+      → reaches.leaves.sure ≤ stage.read + n)
+      → then ≡ at → stage.read + n ≡ read
+      → IsCallInto units_of old new
+      (call_to stage before then result read)
+  call_over {result = result} {n} next sure unchanged same_read = record {
+    wrote = stage.wrote;
+    onto = unchanged ∙ reaches.onto;
+    call = rw (← reaches.room, ← same_read) (rw (append-nil, or_false)
+        at (raw_call reaches.bytes reaches.leaves reaches.written reaches.accounted
+        (record { room = room_at; mode = refl }) next sure));
   }
 
   -- more sequences are done, and their text is written

@@ -3,12 +3,10 @@ use Rattle.std.proofs.Common.{◌≡◌, ℕ, ◌+◌, ◌-◌, ◌≤◌, Bool,
 use Rattle.std.proofs.Common.{arith, ◌||◌, drop}
 use Rattle.std.proofs.lemmas.List.{length-append}
 use Rattle.enc_output.specs.declared.decoder_result.DecoderResult.{DecoderResult}
-use Rattle.enc_output.specs.declared.decoder_result.DecoderResult.TheVariants.{InputEmpty, OutputFull, Malformed}
 use Rattle.enc_utf8.specs.Text.{AreScalars, units_of_text}
-use Rattle.enc_decoder.specs.Sequence.{Sequence, sequence_text, any_malformed, is_malformed}
-use Rattle.enc_decoder.specs.Call.{DecodeErrorMode, is_replacement_mode, keeps_room}
-use Rattle.enc_decoder.specs.CallRecord.{Call, IsCall}
-use Rattle.enc_decoder.specs.Remainder.{Remainder}
+use Rattle.enc_decoder.specs.Sequence.{Sequence, sequence_text, any_malformed}
+use Rattle.enc_decoder.specs.Call.{ErrorMode, is_replacement_mode}
+use Rattle.enc_decoder.specs.CallRecord.{Call}
 use Rattle.enc_decoder.proofs.SequenceLemmas.{units-append, any_malformed-append, scalars_of-append}
 
 -- The chunk, whether nothing follows it, the error mode and the room of the output; the number of
@@ -16,7 +14,7 @@ use Rattle.enc_decoder.proofs.SequenceLemmas.{units-append, any_malformed-append
 pub record Stage : Type 0 where
   pub src : List ℕ
   pub last : Bool
-  pub mode : DecodeErrorMode
+  pub mode : ErrorMode
   pub room : ℕ
   pub read : ℕ
   pub done : List Sequence
@@ -31,32 +29,22 @@ pub record HasWritten (units_of : ℕ → List ℕ) (stage : Stage) : Type 0 whe
   pub flag : stage.replaced ≡ any_malformed stage.done
   pub none_replaced : is_replacement_mode stage.mode ≡ false → stage.replaced ≡ false
 
--- The next call has the room that is left. Its error mode may be another: it keeps room for U+FFFD
--- as the mode of the stage does, and replaces only if that does.
+-- The next call has the room that is left, and the mode of the stage.
 pub record IsPartAt (stage : Stage) (next : Call) : Type 0 where
   pub room : next.room ≡ stage.room - length stage.wrote
-  pub keeps : keeps_room stage.mode ≡ keeps_room next.mode
-  pub fatal : is_replacement_mode stage.mode ≡ false → is_replacement_mode next.mode ≡ false
-  pub reported : (l a : ℕ) → next.result ≡ Malformed l a → is_replacement_mode stage.mode ≡ false
+  pub mode : next.mode ≡ stage.mode
 
--- only a call that doesn't replace reports
-pub reports_in : {units_of : ℕ → List ℕ} {old new : Remainder} (c : Call) (result : DecoderResult)
-    → IsCall units_of old new (record c { result = result }) → (l a : ℕ) → result ≡ Malformed l a
-    → is_replacement_mode c.mode ≡ false
-reports_in c InputEmpty call l a is_malformed = cc
-reports_in c OutputFull call l a is_malformed = cc
-reports_in c (Malformed m n) call l a is_malformed = call.stops.not_replaced
-
--- the next call in the mode of the stage
-pub same_mode : {units_of : ℕ → List ℕ} {old new : Remainder} (stage : Stage) (c : Call)
-    (result : DecoderResult) → c.room ≡ stage.room - length stage.wrote
-    → IsCall units_of old new (record c { mode = stage.mode; result = result })
-    → IsPartAt stage (record c { mode = stage.mode; result = result })
-same_mode stage c result is_room call = record {
-  room = is_room;
-  keeps = refl;
-  fatal = λ is_fatal. is_fatal;
-  reported = reports_in (record c { mode = stage.mode }) result call;
+-- what is done at a stage, and then a call that reads up to `read`, as one call
+abbrev pub call_from : Stage → Bool → DecoderResult → ℕ → List ℕ → Bool → Call
+call_from stage last result read wrote replaced = record {
+  src = stage.src;
+  last = last;
+  mode = stage.mode;
+  room = stage.room;
+  result = result;
+  read = read;
+  wrote = stage.wrote ++ wrote;
+  replaced = stage.replaced || replaced;
 }
 
 -- a stage of calls over the unread bytes of a stage
@@ -105,7 +93,7 @@ length_on {units_of} {stage} written ts =
     ∙ length-append stage.wrote more
 
 -- nothing is read or done yet
-abbrev pub start_stage : List ℕ → Bool → DecodeErrorMode → ℕ → Stage
+abbrev pub start_stage : List ℕ → Bool → ErrorMode → ℕ → Stage
 start_stage src last mode room = record {
   src = src;
   last = last;
@@ -117,7 +105,7 @@ start_stage src last mode room = record {
   replaced = false;
 }
 
-pub nothing_written : {units_of : ℕ → List ℕ} {src : List ℕ} {last : Bool} {mode : DecodeErrorMode}
+pub nothing_written : {units_of : ℕ → List ℕ} {src : List ℕ} {last : Bool} {mode : ErrorMode}
     {room read : ℕ}
     → HasWritten units_of (record (start_stage src last mode room) { read = read })
 nothing_written = record {

@@ -18,33 +18,35 @@
 --
 -- Malformed(1, 0), read = 2: a malformed sequence of 1 byte, and 0 bytes read after it.
 use Rattle.std.specs.Prelude.{◌≡◌, ℕ, ◌+◌, ◌-◌, ◌<◌, ◌≤◌, ◌⊎◌, Bool, true, false, List, [], ◌∷◌, ◌++◌, length, take}
-use Rattle.std.specs.Prelude.{drop}
+use Rattle.std.specs.Prelude.{drop, if◌then◌else◌}
 use Rattle.enc_output.specs.declared.decoder_result.DecoderResult.{DecoderResult}
 use Rattle.enc_output.specs.declared.decoder_result.DecoderResult.TheVariants.{InputEmpty, OutputFull}
 use Rattle.enc_output.specs.declared.decoder_result.DecoderResult.TheVariants as stop
+pub use Rattle.enc_decoder.specs.declared.error_mode.ErrorMode.{ErrorMode}
+pub use Rattle.enc_decoder.specs.declared.error_mode.ErrorMode.TheVariants.{Replacement, Fatal}
 use Rattle.enc_decoder.specs.declared.byte_codec.Kind.{Kind}
 use Rattle.enc_decoder.specs.declared.byte_codec.Kind.TheVariants.{Valid, Skipped, Malformed, RepeatedEscape}
-use Rattle.enc_output.specs.Output.{Output, with_appended}
+use Rattle.enc_output.specs.Output.{with_appended}
 use Rattle.enc_utf8.specs.Text.{AreScalars, units_of_text}
 use Rattle.enc_decoder.specs.Sequence.{Sequence, is_malformed, is_repeated_escape, sequence_bytes, sequence_text}
 use Rattle.enc_decoder.specs.Sequence.{any_malformed, set_after}
 use Rattle.enc_decoder.specs.Remainder.{Remainder, AreFirstSequences, Determines, AreDetermined}
-
--- The error mode of a call: write U+FFFD for a malformed sequence, or stop and report it. If room
--- is kept, it is reported only if U+FFFD fits, and otherwise the output is full.
-pub data DecodeErrorMode : Type 0 where
-  Replacement : DecodeErrorMode
-  Fatal : Bool → DecodeErrorMode
+use Rattle.enc_decoder.specs.CallRecord.{Call, CallInto, call_writing}
+use Rattle.enc_decoder.specs.CodecState.{CodecState, remainder_of}
 
 -- whether malformed sequences are replaced
-abbrev pub is_replacement_mode : DecodeErrorMode → Bool
+abbrev pub is_replacement_mode : ErrorMode → Bool
 is_replacement_mode Replacement = true
-is_replacement_mode (Fatal keeps_room) = false
+is_replacement_mode Fatal = false
 
--- whether a malformed sequence needs room for U+FFFD
-abbrev pub keeps_room : DecodeErrorMode → Bool
-keeps_room Replacement = true
-keeps_room (Fatal keeps) = keeps
+-- the error mode, by that
+abbrev pub decode_error_mode : Bool → ErrorMode
+decode_error_mode replace = if replace then Replacement else Fatal
+
+-- whether a call stops at a sequence of this kind and reports it
+abbrev pub reports : ErrorMode → Kind → Bool
+reports Replacement kind = false
+reports Fatal kind = is_malformed kind
 
 -- The bytes read before a sequence that is not put out: one byte less than the shortest prefix that
 -- determines it and all before it, but at least 0. If only the end of the input determines it, all
@@ -88,57 +90,53 @@ AreReportedLens Malformed l a = AreMalformedLens l a
 AreReportedLens RepeatedEscape l a = (l ≡ 3) × (a ≡ 3)
 
 -- All input is read, and no determined sequence is left.
-pub record DecoderAtInputEmpty (old new : Remainder) (src : List ℕ) (last : Bool)
-    (put done : List Sequence) (read : ℕ) : Type 0 where
+pub record DecoderAtInputEmpty (old new : Remainder) (c : Call)
+    (put done : List Sequence) : Type 0 where
   pub only_put : done ≡ put
-  pub all_read : read ≡ length src
-  pub none_determined : last ≡ false → (s : Sequence)
-      → Determines old.sequences src (done ++ s ∷ []) → ⊥
-  pub none_left : last ≡ true → new.sequences [] ≡ []
-  pub none_pending : last ≡ true → new.pending ≡ []
+  pub all_read : c.read ≡ length c.src
+  pub none_determined : c.last ≡ false → (s : Sequence)
+      → Determines old.sequences c.src (done ++ s ∷ []) → ⊥
+  pub none_left : c.last ≡ true → new.sequences [] ≡ []
+  pub none_pending : c.last ≡ true → new.pending ≡ []
 
 -- The next sequence is determined, and its text does not fit.
-pub record DecoderAtOutputFull (units_of : ℕ → List ℕ) (old : Remainder) (src : List ℕ)
-    (last : Bool) (mode : DecodeErrorMode) (room : ℕ) (put done : List Sequence)
-    (read : ℕ) : Type 0 where
+pub record DecoderAtOutputFull (units_of : ℕ → List ℕ) (old : Remainder) (c : Call)
+    (put done : List Sequence) : Type 0 where
   pub only_put : done ≡ put
   pub next : Sequence
-  pub determined : AreDetermined last old.sequences src (done ++ next ∷ [])
-  pub not_reported : keeps_room mode ≡ false → is_malformed next.kind ≡ false
-  pub full : room < length (units_of_text units_of (sequence_text done))
+  pub determined : AreDetermined c.last old.sequences c.src (done ++ next ∷ [])
+  pub not_reported : is_replacement_mode c.mode ≡ false → is_malformed next.kind ≡ false
+  pub full : c.room < length (units_of_text units_of (sequence_text done))
       + length (units_of_text units_of next.text)
-  pub reads : ReadsBeforeSequence old.sequences src (done ++ next ∷ []) read
+  pub reads : ReadsBeforeSequence old.sequences c.src (done ++ next ∷ []) c.read
 
 -- The next sequence is determined and malformed, has l bytes, and a bytes are pending after it. So
 -- it is the l bytes before the last a of all bytes read so far.
-pub record AtMalformed (units_of : ℕ → List ℕ) (old new : Remainder) (src : List ℕ) (last : Bool)
-    (mode : DecodeErrorMode) (room : ℕ) (put done : List Sequence) (read l a : ℕ) : Type 0 where
+pub record AtMalformed (old new : Remainder) (c : Call) (put done : List Sequence)
+    (l a : ℕ) : Type 0 where
   pub next : Sequence
   pub then_next : done ≡ put ++ next ∷ []
   pub malformed : is_malformed next.kind ≡ true
   pub replacement : next.text ≡ 0xFFFD ∷ []
-  pub not_replaced : is_replacement_mode mode ≡ false
+  pub not_replaced : is_replacement_mode c.mode ≡ false
   pub len : l ≡ length next.bytes
   pub not_empty : 0 < l
   pub pending : a ≡ length new.pending
   pub bounds : AreReportedLens next.kind l a
-  pub room_kept : keeps_room mode ≡ true
-      → length (units_of_text units_of (sequence_text put)) + length (units_of 0xFFFD) ≤ room
-  pub determined : AreDetermined last old.sequences src done
+  pub determined : AreDetermined c.last old.sequences c.src done
   -- the bytes read determine no sequence after it
-  pub none_after : (read ≡ 0)
-      ⊎ ((s : Sequence) → Determines old.sequences (take read src) (done ++ s ∷ []) → ⊥)
-  pub reads : ReadsToReported (is_repeated_escape next.kind) old.sequences src done read new.pending
+  pub none_after : (c.read ≡ 0)
+      ⊎ ((s : Sequence) → Determines old.sequences (take c.read c.src) (done ++ s ∷ []) → ⊥)
+  pub reads : ReadsToReported (is_repeated_escape next.kind) old.sequences c.src done c.read
+      new.pending
 
 -- why a call stopped
-abbrev pub DecoderStops : (ℕ → List ℕ) → Remainder → Remainder → List ℕ → Bool → DecodeErrorMode → ℕ
-    → List Sequence → List Sequence → ℕ → DecoderResult → Type 0
-DecoderStops units_of old new src last mode room put done read InputEmpty =
-    DecoderAtInputEmpty old new src last put done read
-DecoderStops units_of old new src last mode room put done read OutputFull =
-    DecoderAtOutputFull units_of old src last mode room put done read
-DecoderStops units_of old new src last mode room put done read (stop.Malformed l a) =
-    AtMalformed units_of old new src last mode room put done read l a
+abbrev pub DecoderStops : (ℕ → List ℕ) → Remainder → Remainder → Call → List Sequence
+    → List Sequence → DecoderResult → Type 0
+DecoderStops units_of old new c put done InputEmpty = DecoderAtInputEmpty old new c put done
+DecoderStops units_of old new c put done OutputFull =
+    DecoderAtOutputFull units_of old c put done
+DecoderStops units_of old new c put done (stop.Malformed l a) = AtMalformed old new c put done l a
 
 -- whether a call has reached the end of the input
 abbrev pub reaches_end : Bool → DecoderResult → Bool
@@ -146,42 +144,47 @@ reaches_end last InputEmpty = last
 reaches_end last OutputFull = false
 reaches_end last (stop.Malformed l a) = false
 
--- A call of a decoder with the bytes src, which nothing follows if `last`, over an output with
--- `room`. It takes the sequences that it puts out, and the one that it reports, from those
--- remaining, and nothing else.
-pub record DecoderCall (units_of : ℕ → List ℕ) (old new : Remainder) (src : List ℕ) (last : Bool)
-    (mode : DecodeErrorMode) (room : ℕ) (result : DecoderResult) (read : ℕ) (wrote : List ℕ)
-    (replaced : Bool) : Type 0 where
+-- the same result, if `held` bytes more are held after those of a codec
+abbrev pub shifted_result : DecoderResult → ℕ → DecoderResult
+shifted_result InputEmpty held = InputEmpty
+shifted_result OutputFull held = OutputFull
+shifted_result (stop.Malformed l a) held = stop.Malformed l (a + held)
+
+-- A call of a decoder. It takes the sequences that it puts out, and the one that it reports, from
+-- those remaining, and nothing else.
+pub record IsCall (units_of : ℕ → List ℕ) (old new : Remainder) (c : Call) : Type 0 where
   pub put : List Sequence
   pub done : List Sequence
-  pub within : read ≤ length src
-  -- whatever follows src
-  pub residual : (z : List ℕ) → (last ≡ true → z ≡ [])
-      → old.sequences (src ++ z) ≡ done ++ new.sequences (drop read src ++ z)
+  pub within : c.read ≤ length c.src
+  -- whatever follows the chunk
+  pub residual : (z : List ℕ) → (c.last ≡ true → z ≡ [])
+      → old.sequences (c.src ++ z) ≡ done ++ new.sequences (drop c.read c.src ++ z)
   pub set : new.set ≡ set_after old.set done
-  pub text : wrote ≡ units_of_text units_of (sequence_text put)
+  pub text : c.wrote ≡ units_of_text units_of (sequence_text put)
   pub scalars : AreScalars (sequence_text put)
-  pub fits : length wrote ≤ room
-  pub flag : replaced ≡ any_malformed put
-  pub none_replaced : is_replacement_mode mode ≡ false → replaced ≡ false
-  pub stops : DecoderStops units_of old new src last mode room put done read result
+  pub fits : length c.wrote ≤ c.room
+  pub flag : c.replaced ≡ any_malformed put
+  pub none_replaced : is_replacement_mode c.mode ≡ false → c.replaced ≡ false
+  pub stops : DecoderStops units_of old new c put done c.result
 
 -- A call of a decoder that looks for no byte order mark: all bytes are in sequences.
-pub record RawDecoderCall (units_of : ℕ → List ℕ) (old new : Remainder) (src : List ℕ) (last : Bool)
-    (mode : DecodeErrorMode) (room : ℕ) (result : DecoderResult) (read : ℕ) (wrote : List ℕ)
-    (replaced : Bool) : Type 0 where
-  pub call : DecoderCall units_of old new src last mode room result read wrote replaced
+pub record IsRawCall (units_of : ℕ → List ℕ) (old new : Remainder) (c : Call) : Type 0 where
+  pub call : IsCall units_of old new c
   -- The bytes read are those of the sequences done and those pending.
-  pub accounted : old.pending ++ take read src ≡ sequence_bytes call.done ++ new.pending
+  pub accounted : old.pending ++ take c.read c.src ≡ sequence_bytes call.done ++ new.pending
   -- Wherever the sequences done come first after the bytes read, those of the new state follow.
-  pub goes_on : (y : List ℕ) → (reaches_end last result ≡ true → y ≡ [])
-      → AreFirstSequences call.done (old.sequences (take read src ++ y))
-      → old.sequences (take read src ++ y) ≡ call.done ++ new.sequences y
+  pub goes_on : (y : List ℕ) → (reaches_end c.last c.result ≡ true → y ≡ [])
+      → AreFirstSequences call.done (old.sequences (take c.read c.src ++ y))
+      → old.sequences (take c.read c.src ++ y) ≡ call.done ++ new.sequences y
 
 -- the same, for a call that appends what it writes to an output
-pub record DecoderCallInto (units_of : ℕ → List ℕ) (old new : Remainder) (src : List ℕ)
-    (last : Bool) (mode : DecodeErrorMode) (before after : Output) (result : DecoderResult)
-    (read : ℕ) (replaced : Bool) : Type 0 where
+pub record IsCallInto (units_of : ℕ → List ℕ) (old new : Remainder) (c : CallInto) : Type 0 where
   pub wrote : List ℕ
-  pub onto : after ≡ with_appended before wrote
-  pub call : RawDecoderCall units_of old new src last mode before.room result read wrote replaced
+  pub onto : c.after ≡ with_appended c.before wrote
+  pub call : IsRawCall units_of old new (call_writing c wrote)
+
+-- the same, of a codec, whose rule stays
+pub record IsCodecCall (units_of : ℕ → List ℕ) (old new : CodecState)
+    (c : CallInto) : Type 0 where
+  pub call : IsCallInto units_of (remainder_of old) (remainder_of new) c
+  pub rule : new.rule ≡ old.rule

@@ -2,9 +2,9 @@ pub mod Sequence
 pub mod Segmentation
 pub mod Division
 pub mod Remainder
-pub mod Call
-pub mod CallRecord
 pub mod CodecState
+pub mod CallRecord
+pub mod Call
 pub mod CodecLaw
 pub mod RuleLaws
 pub mod Pending
@@ -14,5 +14,3 @@ pub mod Lengths
 pub mod Need
 pub mod Prefixes
 pub mod Lookahead
-pub mod Replacing
-pub mod Converting

@@ -3,7 +3,7 @@
 ghost use Rattle.std.specs.Prelude.{◌≡◌, ◌<◌, ◌≤◌, length, drop, IfSome, IsTrue};
 ghost use Rattle.enc_decoder.specs.CodecState.{CodecState};
 ghost use Rattle.enc_decoder.specs.CodecLaw.{HandlesByte, IsNextOfPending, IsNextAtEnd, lone_fault};
-ghost use Rattle.enc_decoder.specs.Taking.{TakesRun, IsReplacedCharAt};
+ghost use Rattle.enc_decoder.specs.Taking.{TakesRun, TakesSequences, IsReplacedCharAt};
 ghost use Rattle.enc_decoder.specs.declared.byte_codec.HandlerResult.TheVariants as steps;
 ghost use Rattle.enc_decoder.specs.Sequence.{is_malformed as malformed_kind};
 
@@ -102,6 +102,31 @@ pub trait ByteCodec: Copy {
     {
         let _byte = (self, byte);
         false
+    }
+
+    /// Returns whether sequences after a malformed one are put out one by one (`replaced_char`),
+    /// and not in a run (`replace_run`).
+    ///
+    /// The output is the same either way.
+    #[inline(always)]
+    fn replaces_each() -> bool {
+        false
+    }
+
+    /// Takes whole sequences from the front of `src`, with U+FFFD for each malformed one.
+    ///
+    /// Puts out their text and returns their length in bytes. The state is the same after them. It
+    /// may take any number of them, and none: all while bytes are pending. It is called after a
+    /// malformed sequence, since more of them follow if the input is no text of the encoding.
+    #[inline(always)]
+    fn replace_run<U: Units>(self, src: &[u8], out: &mut U) -> usize
+        ensures { TakesSequences U.units_of (state self) (state self) src.now result
+            (U.output out.old) (U.output out.new) }
+    {
+        let _codec = self;
+        let _bytes = src;
+        let _output = out;
+        0
     }
 
     /// Returns the text of the sequence that begins at `at`, if nothing is pending there, and its

@@ -1,76 +1,46 @@
 //! A codec's call over held bytes and those that follow them.
 
-ghost use Rattle.std.specs.Prelude.{◌≡◌, ℕ, ◌+◌, ◌-◌, ◌≤◌, ◌++◌, length};
-ghost use Rattle.enc_decoder.specs.CodecState.{remainder_of};
-ghost use Rattle.enc_decoder.specs.Call.{reaches_end as ends};
-ghost use Rattle.enc_decoder.specs.Converting.{PrefixedCallInto, ReadsHeldFirst, shifted_result};
-ghost use Rattle.enc_decoder.specs.Replacing.{replaces, decode_error_mode};
+ghost use Rattle.std.specs.Prelude.{◌≡◌, ℕ, ◌+◌, ◌≤◌, ◌++◌};
+ghost use Rattle.enc_decoder.specs.Call.{IsCodecCall, shifted_result, reaches_end as ends};
+ghost use Rattle.enc_decoder.specs.CallRecord.{call_into};
 
 use crate::RawDecoder;
-use crate::error_mode::{CallOptions, ErrorMode};
-use crate::outcome::{DecoderOutcome, HeldFirstOutcome};
+use crate::error_mode::CallOptions;
+use crate::outcome::DecoderOutcome;
 use enc_output::{DecoderResult, Units};
 
-/// A call of a decoder in either error mode.
-///
-/// Its values come one by one, since an outcome would be copied through memory.
-macro_rules! decode_in_mode {
-    ($codec:expr, $src:expr, $out:expr, $last:expr, $mode:expr) => {
-        match $mode {
-            ErrorMode::Replacement => {
-                let outcome = $codec.decode_replacing($src, $out, $last);
-                (outcome.result, outcome.read, outcome.replaced)
-            }
-            ErrorMode::Fatal => {
-                let stop = $codec.decode($src, $out, $last, ErrorMode::Fatal);
-                (stop.result, stop.read, false)
-            }
-        }
-    };
-}
-
 /// Decodes the held bytes and then those of `src`, as if they came together.
-pub fn convert<D: RawDecoder, U: Units>(
+///
+/// Both are counted as read.
+pub fn decode_held_first<D: RawDecoder, U: Units>(
     codec: &mut D,
     held: &[u8],
     src: &[u8],
     out: &mut U,
     options: CallOptions,
-) -> HeldFirstOutcome
-    ensures call { PrefixedCallInto U.units_of (remainder_of (D.state codec.old))
-        (remainder_of (D.state codec.new)) (held.now ++ src.now) options.last
-        (decode_error_mode (replaces options.mode)) (U.output out.old) (U.output out.new)
-        result.result (length held.now - result.left + result.read) result.replaced }
-    ensures reads { ReadsHeldFirst held.now src.now result.left result.read }
-    ensures rule { (D.state codec.new).rule ≡ (D.state codec.old).rule }
+) -> DecoderOutcome
+    ensures call { IsCodecCall U.units_of (D.state codec.old) (D.state codec.new)
+        (call_into (held.now ++ src.now) options (U.output out.old) (U.output out.new) result) }
     ensures formulas { D.formulas codec.new ≡ D.formulas codec.old }
 {
-    let mut had = false;
-    if !held.is_empty() {
-        let alone = src.is_empty();
-        let (result, given, replaced) = decode_in_mode!(
-            codec,
-            held,
-            out,
-            alone & options.last,
-            options.mode
-        );
-        if alone | (result != DecoderResult::InputEmpty) {
-            return HeldFirstOutcome {
-                result,
-                left: held.len() - given,
-                read: 0,
-                replaced,
-            };
-        }
-        had = replaced;
+    if held.is_empty() {
+        return codec.decode(src, out, options);
     }
-    let (result, read, replaced) = decode_in_mode!(codec, src, out, options.last, options.mode);
-    HeldFirstOutcome {
-        result,
-        left: 0,
-        read,
-        replaced: had | replaced,
+    if src.is_empty() {
+        return codec.decode(held, out, options);
+    }
+    let first = codec.decode(held, out, CallOptions {
+        last: false,
+        mode: options.mode,
+    });
+    if first.result != DecoderResult::InputEmpty {
+        return first;
+    }
+    let then = codec.decode(src, out, options);
+    DecoderOutcome {
+        result: then.result,
+        read: first.read + then.read,
+        replaced: first.replaced | then.replaced,
     }
 }
 

@@ -18,13 +18,12 @@ mod text_lengths;
 
 pub use byte_codec::{ByteCodec, Emission, HandlerResult, Kind, Text};
 pub use error_mode::{CallOptions, ErrorMode};
-pub use held_first::{convert, reaches_end, shift_malformed};
+pub use held_first::{decode_held_first, reaches_end, shift_malformed};
 pub use latin1::latin1_up_to;
-pub use machine::{report_or_run, run};
-pub use outcome::{DecoderOutcome, DecoderStop, HeldFirstOutcome};
+pub use machine::run;
+pub use outcome::DecoderOutcome;
 pub use pending::Pending;
 pub use prefix::Prefix;
 pub use prefix_codec::PrefixCodec;
 pub use raw_decoder::RawDecoder;
-pub use replaced::replace_each;
 pub use text_lengths::TextLengths;

@@ -12,14 +12,13 @@ ghost use Rattle.enc_decoder.specs.Need.{AreEnoughForCodec};
 ghost use Rattle.enc_output.specs.PieceRuns.{PutsPieces};
 
 use crate::byte_codec::{ByteCodec, Emission, HandlerResult, Kind, Text};
-use crate::error_mode::ErrorMode;
+use crate::error_mode::CallOptions;
 use crate::latin1::latin1_up_to;
 use crate::machine::run;
-use crate::outcome::DecoderStop;
+use crate::outcome::DecoderOutcome;
 use crate::pending::Pending;
 use crate::prefix::Prefix;
 use crate::raw_decoder::RawDecoder;
-use crate::replaced::replace_each;
 use crate::text_lengths::TextLengths;
 use enc_output::Units;
 
@@ -228,6 +227,11 @@ impl<C: PrefixCodec> ByteCodec for C {
     }
 
     #[inline(always)]
+    fn replaces_each() -> bool {
+        C::replaces_each()
+    }
+
+    #[inline(always)]
     fn replaced_char(self, src: &[u8], at: usize) -> Option<(char, usize)> {
         self.replaced_at(src, at)
     }
@@ -281,19 +285,10 @@ impl<C: PrefixCodec> RawDecoder for C {
         &mut self,
         src: &[u8],
         out: &mut U,
-        last: bool,
-        mode: ErrorMode,
-    ) -> DecoderStop {
+        options: CallOptions,
+    ) -> DecoderOutcome {
         self.laws();
-        run(self, src, out, last, mode)
-    }
-
-    #[inline(always)]
-    fn replace_run<U: Units>(&self, src: &[u8], out: &mut U) -> usize {
-        if !C::replaces_each() {
-            return 0;
-        }
-        replace_each(*self, src, out)
+        run(self, src, out, options)
     }
 
     fn held(&self) -> usize {

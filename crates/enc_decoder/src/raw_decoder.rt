@@ -1,20 +1,19 @@
 //! The contract of every decoder.
 
-ghost use Rattle.std.specs.Prelude.{◌≡◌, ◌≤◌, true, false, length};
-ghost use Rattle.enc_decoder.specs.CodecState.{CodecState, remainder_of};
-ghost use Rattle.enc_decoder.specs.Call.{DecoderCallInto, Replacement, Fatal};
-ghost use Rattle.enc_decoder.specs.Replacing.{replaces};
+ghost use Rattle.std.specs.Prelude.{◌≡◌, ◌≤◌, length};
+ghost use Rattle.enc_decoder.specs.CodecState.{CodecState};
+ghost use Rattle.enc_decoder.specs.Call.{IsCodecCall};
+ghost use Rattle.enc_decoder.specs.CallRecord.{call_into};
 ghost use Rattle.enc_decoder.specs.Latin1.{AnswersCodecLatin1};
 ghost use Rattle.enc_decoder.specs.RuleLaws.{IsLawfulRule};
-ghost use Rattle.enc_decoder.specs.Taking.{TakesSequences};
-ghost use Rattle.enc_decoder.specs.Need.{MeetsDecodeNeedInto, AreEnoughForCodec};
+ghost use Rattle.enc_decoder.specs.Need.{AreEnoughForCodec};
 ghost use Rattle.enc_decoder.specs.Lengths.{utf_8_length, reporting_length, utf_16_length};
 ghost use Rattle.enc_decoder.specs.declared.text_lengths.TextLengths.{TextLengths};
 
-use crate::error_mode::ErrorMode;
-use crate::outcome::{DecoderOutcome, DecoderStop};
+use crate::error_mode::CallOptions;
+use crate::outcome::DecoderOutcome;
 use crate::text_lengths::TextLengths;
-use enc_output::{DecoderResult, Units};
+use enc_output::Units;
 
 /// A decoder of one encoding, which looks for no byte order mark (Encoding Standard 4.1).
 ///
@@ -27,84 +26,23 @@ pub trait RawDecoder: Copy {
     // the formulas for lengths to allocate
     ghost formulas: { Self → TextLengths };
 
-    /// Decodes a chunk up to a malformed sequence, and reports it (Encoding Standard 4.1).
+    /// Decodes a chunk (Encoding Standard 4.1, "process a queue").
     ///
-    /// It stops when all of `src` is read, the next sequence does not fit into `out`, or one is
-    /// malformed. With `last` nothing follows `src`. In error mode "replacement" the caller writes
-    /// U+FFFD for a malformed sequence. So it is reported only if U+FFFD fits into `out`, and
-    /// otherwise the output is full.
+    /// It stops when all of `src` is read, when the next sequence does not fit into `out`, and in
+    /// error mode "fatal" when one is malformed.
     fn decode<U: Units>(
         &mut self,
         src: &[u8],
         out: &mut U,
-        last: bool,
-        mode: ErrorMode,
-    ) -> DecoderStop
-        ensures call { DecoderCallInto U.units_of (remainder_of (state self.old))
-            (remainder_of (state self.new)) src.now last (Fatal (replaces mode)) (U.output out.old)
-            (U.output out.new) result.result result.read false }
-        ensures rule { (state self.new).rule ≡ (state self.old).rule }
-
-        // The output is full exactly if the call needs more room than there is. In error mode
-        // "replacement" it needs that of U+FFFD too.
-        ensures need { MeetsDecodeNeedInto U.units_of (Fatal (replaces mode))
-            (remainder_of (state self.old)) (remainder_of (state self.new)) src.now last
-            (U.output out.old) (U.output out.new) result.result result.read }
+        options: CallOptions,
+    ) -> DecoderOutcome
+        ensures call { IsCodecCall U.units_of (state self.old) (state self.new)
+            (call_into src.now options (U.output out.old) (U.output out.new) result) }
         ensures formulas { formulas self.new ≡ formulas self.old }
 
         // A valid sequence is determined by its own bytes, and any other by three more at most, or
         // by the end. A text has at most four UTF-8 code units.
         ensures lawful { IsLawfulRule (state self.old).rule };
-
-    /// Takes whole sequences from the front of `src`, with U+FFFD for each malformed one.
-    ///
-    /// Puts out their text and returns their length in bytes. The state is the same after them. It
-    /// may take any number of them, and none: all while bytes are pending. It is called after a
-    /// malformed sequence, since more of them follow if the input is no text of the encoding.
-    #[inline(always)]
-    fn replace_run<U: Units>(&self, src: &[u8], out: &mut U) -> usize
-        ensures { TakesSequences U.units_of (state self.now) (state self.now) src.now result
-            (U.output out.old) (U.output out.new) }
-    {
-        let _bytes = src;
-        let _output = out;
-        0
-    }
-
-    /// Decodes a chunk, with replacement (Encoding Standard 4.1, error mode "replacement").
-    ///
-    /// It stops when all of `src` is read or the next sequence does not fit into `out`.
-    ///
-    /// A decoder that is one of several leaves the whole call to that one, so that it is not chosen
-    /// anew after each malformed sequence.
-    fn decode_replacing<U: Units>(&mut self, src: &[u8], out: &mut U, last: bool) -> DecoderOutcome
-        ensures call { DecoderCallInto U.units_of (remainder_of (state self.old))
-            (remainder_of (state self.new)) src.now last Replacement (U.output out.old)
-            (U.output out.new) result.result result.read result.replaced }
-        ensures rule { (state self.new).rule ≡ (state self.old).rule }
-        ensures formulas { formulas self.new ≡ formulas self.old }
-        ensures lawful { IsLawfulRule (state self.old).rule }
-    {
-        let mut read = 0;
-        let mut replaced = false;
-        loop {
-            let (_, rest) = src.split_at(read);
-            let stop = self.decode(rest, out, last, ErrorMode::Replacement);
-            read += stop.read;
-            // one place that makes the outcome: of two, each would copy its padding through memory
-            let DecoderResult::Malformed(_, _) = stop.result else {
-                return DecoderOutcome {
-                    result: stop.result,
-                    read,
-                    replaced,
-                };
-            };
-            let _ = out.put('\u{FFFD}');
-            replaced = true;
-            let (_, rest) = src.split_at(read);
-            read += self.replace_run(rest, out);
-        }
-    }
 
     /// Returns the number of pending bytes, at most five.
     fn held(&self) -> usize

@@ -35,15 +35,17 @@ fn replace_some<C: ByteCodec, U: Units>(codec: C, src: &[u8], out: &mut U) -> us
     at
 }
 
-/// Puts out sequences from the front of `src` one by one, with U+FFFD for each malformed one, as
-/// `RawDecoder::replace_run` does.
+/// Takes whole sequences after a malformed one, with U+FFFD for each that is malformed too.
 ///
-/// It takes none while bytes are pending.
+/// Returns their length in bytes. It takes none while bytes are pending.
 #[inline(always)]
-pub fn replace_each<C: ByteCodec, U: Units>(codec: C, src: &[u8], out: &mut U) -> usize
+pub(crate) fn replace_more<C: ByteCodec, U: Units>(codec: C, src: &[u8], out: &mut U) -> usize
     ensures { TakesSequences U.units_of (C.state codec) (C.state codec) src.now result
         (U.output out.old) (U.output out.new) }
 {
+    if !C::replaces_each() {
+        return codec.replace_run(src, out);
+    }
     if codec.held() != 0 {
         return 0;
     }

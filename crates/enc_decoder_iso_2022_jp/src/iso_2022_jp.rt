@@ -11,8 +11,8 @@ use crate::replaced_ascii::{ReplacedAscii, has_many_malformed};
 use crate::runs::{is_seven_bit, take_escape};
 use crate::sequences::{cut_off, show_given_back};
 use enc_decoder::{
-    ByteCodec, DecoderStop, Emission, ErrorMode, HandlerResult, RawDecoder, TextLengths,
-    latin1_up_to, report_or_run,
+    ByteCodec, CallOptions, DecoderOutcome, Emission, HandlerResult, RawDecoder, TextLengths,
+    latin1_up_to, run,
 };
 use enc_output::{Pieces, Units, put_run};
 use std::marker::Model;
@@ -128,6 +128,16 @@ impl ByteCodec for Iso2022JpDecoder {
         }
     }
 
+    /// In ASCII each byte but 1B is a character or malformed by itself.
+    #[inline(always)]
+    fn replace_run<U: Units>(self, src: &[u8], out: &mut U) -> usize {
+        if !self.is_in_ascii() || !has_many_malformed(src) {
+            return 0;
+        }
+        let (front, _) = src.split_at(src.len().min(REPLACED));
+        put_run(out, ReplacedAscii, front)
+    }
+
     fn next_step(self, byte: u8) -> HandlerResult<Iso2022JpDecoder> {
         match self.held {
             None => step_first(self.set, byte),
@@ -186,20 +196,9 @@ impl RawDecoder for Iso2022JpDecoder {
         &mut self,
         src: &[u8],
         out: &mut U,
-        last: bool,
-        mode: ErrorMode,
-    ) -> DecoderStop {
-        report_or_run(self, src, out, last, mode)
-    }
-
-    /// In ASCII each byte but 1B is a character or malformed by itself.
-    #[inline(always)]
-    fn replace_run<U: Units>(&self, src: &[u8], out: &mut U) -> usize {
-        if !self.is_in_ascii() || !has_many_malformed(src) {
-            return 0;
-        }
-        let (front, _) = src.split_at(src.len().min(REPLACED));
-        put_run(out, ReplacedAscii, front)
+        options: CallOptions,
+    ) -> DecoderOutcome {
+        run(self, src, out, options)
     }
 
     fn held(&self) -> usize {

@@ -2,10 +2,7 @@
 
 ghost use Rattle.std.specs.Prelude.{◌≡◌, true, false};
 
-use enc_decoder::{
-    ByteCodec, DecoderStop, Emission, ErrorMode, HandlerResult, Kind, RawDecoder, Text,
-    TextLengths, run,
-};
+use enc_decoder::{ByteCodec, CallOptions, DecoderOutcome, Emission, HandlerResult, Kind, RawDecoder, Text, TextLengths, run};
 use enc_output::Units;
 use std::marker::Model;
 
@@ -94,10 +91,9 @@ impl RawDecoder for ReplacementDecoder {
         &mut self,
         src: &[u8],
         out: &mut U,
-        last: bool,
-        mode: ErrorMode,
-    ) -> DecoderStop {
-        run(self, src, out, last, mode)
+        options: CallOptions,
+    ) -> DecoderOutcome {
+        run(self, src, out, options)
     }
 
     fn held(&self) -> usize {

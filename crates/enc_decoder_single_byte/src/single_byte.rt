@@ -7,10 +7,7 @@ ghost use Rattle.enc_index.specs.Grid.{HasWord};
 ghost use Rattle.enc_index.specs.Runs.{single_byte_runs};
 
 use crate::one_byte::show_byte;
-use enc_decoder::{
-    ByteCodec, DecoderStop, Emission, ErrorMode, HandlerResult, RawDecoder, TextLengths,
-    latin1_up_to, run,
-};
+use enc_decoder::{ByteCodec, CallOptions, DecoderOutcome, Emission, HandlerResult, RawDecoder, TextLengths, latin1_up_to, run};
 use enc_index::SingleByteIndex;
 use enc_output::{Pieces, Units, put_run};
 
@@ -147,10 +144,9 @@ impl RawDecoder for SingleByteDecoder {
         &mut self,
         src: &[u8],
         out: &mut U,
-        last: bool,
-        mode: ErrorMode,
-    ) -> DecoderStop {
-        run(self, src, out, last, mode)
+        options: CallOptions,
+    ) -> DecoderOutcome {
+        run(self, src, out, options)
     }
 
     fn held(&self) -> usize {

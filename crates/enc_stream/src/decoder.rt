@@ -18,7 +18,7 @@ use crate::bom::BomHandling;
 use crate::encoding::Encoding;
 use crate::life_cycle::LifeCycle;
 use crate::sniffing::{Sniffed, sniff};
-use crate::text::convert_text;
+use crate::text::decode_text;
 use enc_codec::VariantDecoder;
 use enc_decoder::{CallOptions, DecoderOutcome, ErrorMode};
 use enc_output::{DecoderResult, Units, Utf8Slice, Utf16Slice};
@@ -109,7 +109,7 @@ impl Decoder {
             Sniffed::Text(life) => self.life = life,
         }
         let options = CallOptions { last, mode };
-        let of_text = convert_text(&mut self.life, &mut self.codec, rest, out, options);
+        let of_text = decode_text(&mut self.life, &mut self.codec, rest, out, options);
         DecoderOutcome {
             result: of_text.result,
             read: len + of_text.read,

@@ -11,7 +11,7 @@ ghost use Rattle.enc_stream.specs.Sniffing.{HasNoMark};
 
 use crate::life_cycle::LifeCycle;
 use enc_codec::RawDecoder;
-use enc_decoder::{CallOptions, DecoderOutcome, convert, reaches_end, shift_malformed};
+use enc_decoder::{CallOptions, DecoderOutcome, decode_held_first, reaches_end, shift_malformed};
 use enc_output::Units;
 
 /// Returns the held bytes of a byte order mark that the codec has not read. It has `pending` bytes
@@ -26,7 +26,7 @@ fn unread(life: LifeCycle, pending: usize) -> &'static [u8]
 ///
 /// The codec is unchanged if the call puts out and reports nothing, and reads nothing of `src`.
 #[inline(always)]
-pub(crate) fn convert_text<D: RawDecoder, U: Units>(
+pub(crate) fn decode_text<D: RawDecoder, U: Units>(
     life: &mut LifeCycle,
     codec: &mut D,
     src: &[u8],
@@ -48,23 +48,25 @@ pub(crate) fn convert_text<D: RawDecoder, U: Units>(
 {
     let before = *codec;
     let held = unread(*life, before.held());
-    let done = convert(codec, held, src, out, options);
+    let done = decode_held_first(codec, held, src, out, options);
+    let left = held.len().saturating_sub(done.read);
+    let read = done.read.saturating_sub(held.len());
     let outcome = DecoderOutcome {
-        result: shift_malformed(done.result, done.left),
-        read: done.read,
+        result: shift_malformed(done.result, left),
+        read,
         replaced: done.replaced,
     };
     if reaches_end(options.last, done.result) {
         *life = LifeCycle::Finished;
         return outcome;
     }
-    let pending = codec.held() + done.left;
-    let untouched = (done.read == 0) & (pending == before.held() + held.len());
+    let pending = codec.held() + left;
+    let untouched = (read == 0) & (pending == before.held() + held.len());
     if untouched {
         *codec = before;
         return outcome;
     }
-    let leaves_bb = (done.read == 0) & ((held.len() == 2) & (pending == 1));
+    let leaves_bb = (read == 0) & ((held.len() == 2) & (pending == 1));
     if leaves_bb {
         *life = LifeCycle::ConvertingWithPendingBb;
         return outcome;
