@@ -13,7 +13,8 @@ use Rattle.enc_utf8.specs.Checked.{checked_add, checked_mul, checked_half}
 use Rattle.enc_decoder.specs.Sequence.{Sequence, is_malformed}
 use Rattle.enc_decoder.specs.Segmentation.{Rule, head_sequence, sequences_after, sequences_of}
 use Rattle.enc_decoder.specs.CodecState.{CodecState, remainder_of}
-use Rattle.enc_decoder.specs.Call.{ErrorMode, Replacement, Fatal}
+use Rattle.enc_decoder.specs.declared.error_mode.ErrorMode.{ErrorMode}
+use Rattle.enc_decoder.specs.declared.error_mode.ErrorMode.TheVariants.{Replacement, Fatal}
 use Rattle.enc_decoder.specs.RuleLaws.{HasSmallTexts}
 use Rattle.enc_decoder.specs.declared.text_lengths.TextLengths.{TextLengths}
 use Rattle.enc_decoder.specs.declared.text_lengths.TextLengths.TheVariants as lengths

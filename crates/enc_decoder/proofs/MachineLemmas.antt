@@ -14,7 +14,9 @@ use Rattle.enc_decoder.specs.Remainder.{Remainder}
 use Rattle.enc_decoder.specs.CodecState.{CodecState, remainder_of}
 use Rattle.enc_decoder.specs.CodecLaw.{IsNextEvent, text_chars, taken_bytes}
 use Rattle.enc_decoder.specs.declared.byte_codec.Kind.{Kind}
-use Rattle.enc_decoder.specs.Call.{IsCallInto, ErrorMode, Replacement, Fatal, is_replacement_mode, reports}
+use Rattle.enc_decoder.specs.declared.error_mode.ErrorMode.{ErrorMode}
+use Rattle.enc_decoder.specs.declared.error_mode.ErrorMode.TheVariants.{Replacement, Fatal}
+use Rattle.enc_decoder.specs.Call.{IsCallInto, is_replacement_mode, reports}
 use Rattle.enc_decoder.proofs.SequenceLemmas.{or_false, or_true}
 use Rattle.enc_decoder.proofs.StageLemmas.{Stage, stage_after, nothing_written}
 use Rattle.enc_decoder.proofs.StateLeavesLemmas.{unread}

@@ -12,7 +12,9 @@ use Rattle.enc_output.specs.declared.decoder_result.DecoderResult.TheVariants as
 use Rattle.enc_utf8.specs.Text.{units_of_text}
 use Rattle.enc_decoder.specs.Sequence.{Sequence, is_malformed, any_malformed, sequence_text}
 use Rattle.enc_decoder.specs.Remainder.{Remainder, AreFirstSequences, Determines, AreDetermined}
-use Rattle.enc_decoder.specs.Call.{ErrorMode, Replacement, Fatal, is_replacement_mode, IsCall, DecoderStops}
+use Rattle.enc_decoder.specs.declared.error_mode.ErrorMode.{ErrorMode}
+use Rattle.enc_decoder.specs.declared.error_mode.ErrorMode.TheVariants.{Replacement, Fatal}
+use Rattle.enc_decoder.specs.Call.{is_replacement_mode, IsCall, DecoderStops}
 use Rattle.enc_decoder.specs.Need.{sequences_before_malformed, needed_sequences, needed_units, NeedExceeds}
 use Rattle.enc_decoder.specs.Need.{MeetsDecodeNeed}
 use Rattle.enc_decoder.specs.CallRecord.{Call}

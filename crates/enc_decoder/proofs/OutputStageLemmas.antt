@@ -9,7 +9,8 @@ use Rattle.enc_output.specs.Output.{Output, with_appended}
 use Rattle.enc_output.proofs.OutputLemmas.{with_appended-nil, with_appended-with_appended, room_left}
 use Rattle.enc_decoder.specs.Sequence.{Sequence}
 use Rattle.enc_decoder.specs.Remainder.{Remainder, AreBytes}
-use Rattle.enc_decoder.specs.Call.{IsRawCall, IsCallInto, ErrorMode}
+use Rattle.enc_decoder.specs.declared.error_mode.ErrorMode.{ErrorMode}
+use Rattle.enc_decoder.specs.Call.{IsRawCall, IsCallInto}
 use Rattle.enc_decoder.specs.CallRecord.{CallInto}
 use Rattle.enc_decoder.proofs.StageLemmas.{stage_after, stage_at, written_on}
 use Rattle.enc_decoder.proofs.StageLemmas.{Stage, HasWritten, nothing_written}

@@ -13,7 +13,8 @@ use Rattle.enc_decoder.specs.Sequence.{Sequence, is_malformed, sequence_text}
 use Rattle.enc_decoder.specs.Remainder.{Remainder, AreBytes, AreDetermined}
 use Rattle.enc_decoder.specs.CodecState.{CodecState, remainder_of}
 use Rattle.enc_decoder.specs.Lengths.{utf_8_length, reporting_length, utf_16_length}
-use Rattle.enc_decoder.specs.Call.{ErrorMode, Replacement, Fatal}
+use Rattle.enc_decoder.specs.declared.error_mode.ErrorMode.{ErrorMode}
+use Rattle.enc_decoder.specs.declared.error_mode.ErrorMode.TheVariants.{Replacement, Fatal}
 use Rattle.enc_decoder.specs.CallRecord.{Call}
 
 -- the sequences before the first malformed one

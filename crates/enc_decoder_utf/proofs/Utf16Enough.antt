@@ -9,7 +9,8 @@ use Rattle.enc_utf8.specs.Checked.{checked_add, checked_mul, checked_half}
 use Rattle.enc_decoder.specs.Segmentation.{Head, Rule, head_sequence, sequences_of, sequences_after}
 use Rattle.enc_decoder.specs.Remainder.{AreBytes}
 use Rattle.enc_decoder.specs.CodecState.{CodecState, remainder_of}
-use Rattle.enc_decoder.specs.Call.{DecodeErrorMode, Replacement, Fatal}
+use Rattle.enc_decoder.specs.declared.error_mode.ErrorMode.{ErrorMode}
+use Rattle.enc_decoder.specs.declared.error_mode.ErrorMode.TheVariants.{Replacement, Fatal}
 use Rattle.enc_decoder.specs.RuleLaws.{IsSmallText}
 use Rattle.enc_decoder.specs.declared.pending.Pending.{Pending}
 use Rattle.enc_decoder.specs.declared.pending.Pending.TheVariants.{Nothing, One, Two, Three}
@@ -169,7 +170,7 @@ module _ (units_of : ℕ → List ℕ) (each : ℕ) (most : ℕ → ℕ) (one : 
       omega (arith, with_rest 0 b (c ∷ d ∷ z) 0 1 (omega (arith, is_basic)) rest)
 
   never : AreIncomplete (utf_16_prefix s.big_endian) [] (bytes_of_pending s.pending)
-      → (mode : DecodeErrorMode) (src : List ℕ) (last : Bool) (n : ℕ) → AreBytes src
+      → (mode : ErrorMode) (src : List ℕ) (last : Bool) (n : ℕ) → AreBytes src
       → most (length (bytes_of_pending s.pending) + length src) + 1 ≤ n
       → NeedExceeds units_of mode (remainder_of (state s)) src last n → ⊥
   never leads mode src last n are_bytes enough exceeds =
@@ -220,8 +221,8 @@ utf_16_enough s lead_first =
       utf_8 = λ src last n are_bytes is_length.
           never_utf_8 Replacement src last n are_bytes
           (omega (arith, thrice (length src) held n is_length));
-      reporting = λ keeps src last n are_bytes is_length.
-          never_utf_8 (Fatal keeps) src last n are_bytes
+      reporting = λ src last n are_bytes is_length.
+          never_utf_8 Fatal src last n are_bytes
           (omega (arith, thrice (length src) held n is_length));
       utf_16 = λ mode src last n are_bytes is_length.
           never_utf_16 mode src last n are_bytes

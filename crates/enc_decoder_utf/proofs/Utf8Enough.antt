@@ -11,7 +11,7 @@ use Rattle.enc_utf8.specs.Checked.{checked_add, checked_mul}
 use Rattle.enc_decoder.specs.Sequence.{Sequence, is_malformed}
 use Rattle.enc_decoder.specs.Segmentation.{head_sequence, sequences_after, sequences_of}
 use Rattle.enc_decoder.specs.CodecState.{CodecState}
-use Rattle.enc_decoder.specs.Call.{Replacement, Fatal}
+use Rattle.enc_decoder.specs.declared.error_mode.ErrorMode.TheVariants.{Replacement, Fatal}
 use Rattle.enc_decoder.specs.declared.text_lengths.TextLengths.TheVariants as lengths
 use Rattle.enc_decoder.specs.Need.{sequences_before_malformed, needed_units, AreEnoughForCodec, IsBmpText}
 use Rattle.enc_decoder.proofs.NeedLemmas.{units, units-both, units-one}
@@ -83,31 +83,29 @@ few_units set b z = holds_of_first
     omega (arith, length-encode character, length-append (encode_utf8 character) []))
     replaced.utf_8
 
-before_bounded : (keeps : Bool) (set k : ℕ) (z : List ℕ)
-    → units encode_utf8 (sequences_before_malformed keeps (sequences_after utf_8_rule set k z))
+before_bounded : (set k : ℕ) (z : List ℕ)
+    → units encode_utf8 (sequences_before_malformed (sequences_after utf_8_rule set k z))
     ≤ length (drop k z) + 3
 unfolding sequences_after
-before_bounded keeps set zero [] = omega arith
-before_bounded keeps set (suc k) [] = omega arith
-before_bounded keeps set (suc k) (b ∷ z) = before_bounded keeps set k z
-before_bounded keeps set zero (b ∷ z) =
+before_bounded set zero [] = omega arith
+before_bounded set (suc k) [] = omega arith
+before_bounded set (suc k) (b ∷ z) = before_bounded set k z
+before_bounded set zero (b ∷ z) =
     let head = utf_8_rule set b z in
     let bytes = length-append (take head.more z) (drop head.more z) in
     let all_bytes = ap length (take-append-drop head.more z) in
-    first (is_malformed head.kind) keeps (head_sequence head b z)
-    (sequences_before_malformed keeps (sequences_after utf_8_rule head.set head.more z))
-    (length (drop head.more z)) (suc (length z)) (before_bounded keeps head.set head.more z)
+    first (is_malformed head.kind) (head_sequence head b z)
+    (sequences_before_malformed (sequences_after utf_8_rule head.set head.more z))
+    (length (drop head.more z)) (suc (length z)) (before_bounded head.set head.more z)
     (few_units set b z) (omega arith)
   where
-    first : (t k : Bool) (s : Sequence) (rest : List Sequence) (left all : ℕ)
+    first : (t : Bool) (s : Sequence) (rest : List Sequence) (left all : ℕ)
         → units encode_utf8 rest ≤ left + 3
         → length (units_of_text encode_utf8 s.text) ≤ cond t 3 (length s.bytes)
         → length s.bytes + left ≡ all
-        → units encode_utf8 (cond t (cond k (s ∷ []) []) (s ∷ rest)) ≤ all + 3
-    first true true s rest left all rest_few few parts =
-        omega (arith, units-one encode_utf8 s s.text refl)
-    first true false s rest left all rest_few few parts = omega arith
-    first false k s rest left all rest_few few parts = omega (
+        → units encode_utf8 (cond t [] (s ∷ rest)) ≤ all + 3
+    first true s rest left all rest_few few parts = omega arith
+    first false s rest left all rest_few few parts = omega (
       arith,
       units-one encode_utf8 s s.text refl,
       units-both encode_utf8 (s ∷ []) rest,
@@ -118,8 +116,8 @@ utf_8_enough v is_utf_8 = record {
   utf_8 = λ src last n _ is_length.
       never_passes encode_utf8 Replacement (λ k. 3 * k) v (utf_8_bounded v few) src last n
       (with_replacement src n is_length);
-  reporting = λ keeps src last n _ is_length.
-      never_passes encode_utf8 (Fatal keeps) (λ k. k + 3) v (reporting_bounded keeps) src last n
+  reporting = λ src last n _ is_length.
+      never_passes encode_utf8 Fatal (λ k. k + 3) v reporting_bounded src last n
       (sum_and 3 src n is_length);
   utf_16 = λ mode src last n _ is_length.
       never_passes encode_utf16 mode (λ k. k) v (utf_16_bounded v few mode) src last n
@@ -129,9 +127,9 @@ utf_8_enough v is_utf_8 = record {
     few : HasFewUnits v.rule
     few = subst HasFewUnits (sym is_utf_8) utf_8_few
 
-    reporting_bounded : (keeps : Bool) (z : List ℕ)
-        → needed_units encode_utf8 (Fatal keeps) (sequences_of v.rule v.set z) ≤ length z + 3
-    reporting_bounded keeps z = rw is_utf_8 (before_bounded keeps v.set 0 z)
+    reporting_bounded : (z : List ℕ)
+        → needed_units encode_utf8 Fatal (sequences_of v.rule v.set z) ≤ length z + 3
+    reporting_bounded z = rw is_utf_8 (before_bounded v.set 0 z)
 
     with_replacement : (src : List ℕ) (n : ℕ)
         → checked_add (checked_mul (checked_add (Some (length src)) (length v.pending)) 3) 3

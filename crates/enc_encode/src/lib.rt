@@ -10,7 +10,7 @@ mod laws;
 mod variant;
 
 pub use choice::{byte_lengths, has_encoder, new_encoder};
-pub use enc_encoder::{Barring, ByteLengths, CharacterSet, EncoderStop, RawEncoder};
+pub use enc_encoder::{Barring, ByteLengths, CharacterSet, EncoderOutcome, RawEncoder};
 pub use enc_index::Codec;
 pub use enc_input::EncoderResult;
 pub use encoders::big5::{Big5, Big5Encoder};

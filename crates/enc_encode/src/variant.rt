@@ -11,7 +11,7 @@ use crate::encoders::shift_jis::ShiftJisEncoder;
 use crate::encoders::single_byte::SingleByteEncoder;
 use crate::encoders::utf_8::Utf8Encoder;
 use crate::encoders::x_user_defined::XUserDefinedEncoder;
-use enc_encoder::{ByteLengths, EncoderStop, RawEncoder};
+use enc_encoder::{ByteLengths, EncoderOutcome, RawEncoder};
 use enc_input::Chars;
 
 /// An encoder of any encoding. It does what the encoder in it does.
@@ -61,7 +61,7 @@ impl RawEncoder for VariantEncoder {
 
     ghost formulas = { variant_encoder_lengths };
 
-    fn encode<C: Chars>(&mut self, src: &mut C, dst: &mut [u8], last: bool) -> EncoderStop {
+    fn encode<C: Chars>(&mut self, src: &mut C, dst: &mut [u8], last: bool) -> EncoderOutcome {
         by_encoder!(self, encoder => encoder.encode(src, dst, last))
     }
 

@@ -11,7 +11,7 @@ use Rattle.enc_encoder.specs.Steps.{Step, step_chars, any_reported}
 use Rattle.enc_encoder.specs.Text.{KeepsText}
 use Rattle.enc_encoder.specs.Writes.{Leaves, Adds, Place, place}
 use Rattle.enc_encoder.specs.Call.{EncoderCallInto, EncoderStops}
-use Rattle.enc_encoder.specs.ErrorMode.{EncodeErrorMode, Fatal, Html, EncoderCallInMode, MapsEveryCharacter}
+use Rattle.enc_encoder.specs.ErrorMode.{EncodeErrorMode, Fatal, Html, IsCallInMode, MapsEveryCharacter}
 use Rattle.enc_encoder.specs.ErrorMode.{StopsInHtmlMode, StopsInMode, StepsFitInMode, bytes_in_mode, is_html_mode}
 use Rattle.enc_encoder.specs.ErrorMode.{mode_of}
 use Rattle.enc_encoder.specs.declared.error_mode.ErrorMode.{ErrorMode}
@@ -26,8 +26,16 @@ pub record CallOnto (units_of : ℕ → List ℕ) (mode : EncodeErrorMode) (last
     (from to : Place) (result : EncoderResult) (read : ℕ) (replaced : Bool) : Type 0 where
   pub within : to.written ≤ length from.slice
   pub rest_stays : drop to.written to.slice ≡ drop to.written from.slice
-  pub call : EncoderCallInMode units_of mode from.state to.state from.rest to.rest last
-      (length from.slice) result read (take to.written to.slice) replaced
+  pub call : IsCallInMode units_of from.state to.state to.rest (record {
+    src = from.rest;
+    last = last;
+    mode = mode;
+    room = length from.slice;
+    result = result;
+    read = read;
+    wrote = take to.written to.slice;
+    replaced = replaced;
+  })
 
 -- these steps, and the bytes that a call in the mode writes of them
 module _ {last : Bool} {old : RawEncoderState} {src slice : List ℕ} {to : Place}

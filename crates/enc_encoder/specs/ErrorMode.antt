@@ -142,18 +142,3 @@ pub record IsCallInMode (units_of : ℕ → List ℕ) (old new : RawEncoderState
   pub stops : StopsInMode c.mode new rest c.last c.room done c.result
   pub units : c.read ≡ length (units_of_text units_of (step_chars done))
   pub text : KeepsText old new c.src rest c.last c.result c.wrote
-
--- the same, of what a call has one by one
-abbrev pub EncoderCallInMode : (ℕ → List ℕ) → EncodeErrorMode → RawEncoderState → RawEncoderState
-    → List ℕ → List ℕ → Bool → ℕ → EncoderResult → ℕ → List ℕ → Bool → Type 0
-EncoderCallInMode units_of mode old new src rest last room result read wrote replaced =
-    IsCallInMode units_of old new rest (record {
-      src = src;
-      last = last;
-      mode = mode;
-      room = room;
-      result = result;
-      read = read;
-      wrote = wrote;
-      replaced = replaced;
-    })

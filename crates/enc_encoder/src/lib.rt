@@ -27,7 +27,7 @@ pub use error_mode::ErrorMode;
 pub use lawful_repertoire::LawfulRepertoire;
 pub use machine::run;
 pub use made_bytes::{four, one, two};
-pub use outcome::{EncoderOutcome, EncoderStop};
+pub use outcome::EncoderOutcome;
 pub use raw_encoder::RawEncoder;
 pub use reference::{LONGEST_REFERENCE, put_reference};
 pub use replacing::encode_in_mode;

@@ -1,6 +1,6 @@
 //! The loop over the characters of a call, for every encoder and every input.
 
-ghost use Rattle.std.specs.Prelude.{◌≡◌, ℕ, ◌+◌, ◌-◌, ◌<◌, ◌≤◌, ◌++◌, length, take, drop};
+ghost use Rattle.std.specs.Prelude.{◌≡◌, ℕ, ◌+◌, ◌-◌, ◌<◌, ◌≤◌, ◌++◌, false, length, take, drop};
 ghost use Rattle.std.specs.Prelude.{IsTrue, IsFalse};
 ghost use Rattle.enc_input.specs.Bytes.{byte_list};
 ghost use Rattle.enc_encoder.specs.CharLaw.{IsStepAtEnd, IsNextStepOfCall};
@@ -11,7 +11,7 @@ ghost use Rattle.enc_encoder.specs.Runs.{WritesRun};
 
 use crate::char_encoder::CharEncoder;
 use crate::character_set::CharacterSet;
-use crate::outcome::EncoderStop;
+use crate::outcome::EncoderOutcome;
 use crate::transition::Transition;
 use crate::transitions::{first_written_char, take_char, take_escape};
 use enc_input::{Bytes, Chars, EncoderResult};
@@ -86,12 +86,13 @@ pub fn run<E: CharEncoder, C: Chars>(
     src: &mut C,
     dst: &mut [u8],
     last: bool,
-) -> EncoderStop
+) -> EncoderOutcome
     requires lawful { IsLawfulEncoderRule (E.state encoder.old).rule }
-    ensures { EncoderCallInto C.units_of last
+    ensures call { EncoderCallInto C.units_of last
         (place (E.state encoder.old) (C.rest src.old) dst.old 0)
         (place (E.state encoder.new) (C.rest src.new) dst.new result.written)
         result.result result.read }
+    ensures replaced { result.replaced ≡ false }
 {
     let unread = src.unread();
     let mut state = *encoder;
@@ -99,27 +100,30 @@ pub fn run<E: CharEncoder, C: Chars>(
     loop {
         let Some(taken) = what_comes(state, src, last) else {
             *encoder = state;
-            return EncoderStop {
+            return EncoderOutcome {
                 result: EncoderResult::InputEmpty,
                 read: unread - src.unread(),
                 written,
+                replaced: false,
             };
         };
         if let Some(c) = taken.report {
             src.advance();
             *encoder = taken.next;
-            return EncoderStop {
+            return EncoderOutcome {
                 result: EncoderResult::Unmappable(c),
                 read: unread - src.unread(),
                 written,
+                replaced: false,
             };
         }
         if !put(dst, written, taken.bytes) {
             *encoder = state;
-            return EncoderStop {
+            return EncoderOutcome {
                 result: EncoderResult::OutputFull,
                 read: unread - src.unread(),
                 written,
+                replaced: false,
             };
         }
         if taken.reads {

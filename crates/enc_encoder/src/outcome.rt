@@ -2,18 +2,7 @@
 
 use enc_input::EncoderResult;
 
-/// The outcome of a call up to an unmappable character.
-#[derive(Clone, Copy)]
-pub struct EncoderStop {
-    /// Why it stopped.
-    pub result: EncoderResult,
-    /// The number of code units read.
-    pub read: usize,
-    /// The number of bytes written.
-    pub written: usize,
-}
-
-/// The outcome of a call in an error mode.
+/// The outcome of a call of an encoder.
 #[derive(Clone, Copy)]
 pub struct EncoderOutcome {
     /// Why it stopped. With references that is never at an unmappable character.

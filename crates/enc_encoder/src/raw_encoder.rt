@@ -1,6 +1,6 @@
 //! The contract of every encoder.
 
-ghost use Rattle.std.specs.Prelude.{◌≡◌};
+ghost use Rattle.std.specs.Prelude.{◌≡◌, false};
 ghost use Rattle.enc_encoder.specs.EncoderRule.{RawEncoderState, IsLawfulEncoderRule};
 ghost use Rattle.enc_encoder.specs.EncoderRule.{is_escape_due};
 ghost use Rattle.enc_encoder.specs.Call.{EncoderCallInto};
@@ -10,7 +10,7 @@ ghost use Rattle.enc_encoder.specs.Lengths.{from_utf_8_length, from_utf_16_lengt
 ghost use Rattle.enc_encoder.specs.declared.byte_lengths.ByteLengths.{ByteLengths};
 
 use crate::byte_lengths::ByteLengths;
-use crate::outcome::EncoderStop;
+use crate::outcome::EncoderOutcome;
 use enc_input::Chars;
 
 /// An encoder of one encoding (Encoding Standard 4.1).
@@ -31,11 +31,12 @@ pub trait RawEncoder {
     ///
     /// The bytes of a character are written together; an escape sequence before it may be written
     /// alone. The bytes of `dst` after those written are unchanged.
-    fn encode<C: Chars>(&mut self, src: &mut C, dst: &mut [u8], last: bool) -> EncoderStop
+    fn encode<C: Chars>(&mut self, src: &mut C, dst: &mut [u8], last: bool) -> EncoderOutcome
         ensures call { EncoderCallInto C.units_of last
             (place (state self.old) (C.rest src.old) dst.old 0)
             (place (state self.new) (C.rest src.new) dst.new result.written)
             result.result result.read }
+        ensures replaced { result.replaced ≡ false }
         ensures lawful { IsLawfulEncoderRule (state self.old).rule }
         ensures formulas { formulas self.new ≡ formulas self.old };
 

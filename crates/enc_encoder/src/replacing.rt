@@ -3,7 +3,7 @@
 
 ghost use Rattle.std.specs.Prelude.{◌≡◌, ◌≤◌, length, take, drop};
 ghost use Rattle.enc_encoder.specs.Replacing.{result_when_full};
-ghost use Rattle.enc_encoder.specs.ErrorMode.{EncoderCallInMode, MapsEveryCharacter, mode_of};
+ghost use Rattle.enc_encoder.specs.ErrorMode.{IsCallInMode, MapsEveryCharacter, mode_of};
 ghost use Rattle.enc_encoder.specs.ErrorMode.{is_nothing_left};
 ghost use Rattle.enc_encoder.specs.declared.error_mode.ErrorMode.TheVariants.{HtmlOfMappable};
 
@@ -46,20 +46,22 @@ pub fn encode_in_mode<E: RawEncoder, C: Chars>(
     requires mappable { mode ≡ HtmlOfMappable → MapsEveryCharacter (E.state encoder.old).rule }
     ensures within { result.written ≤ length dst.old }
     ensures rest { drop result.written dst.new ≡ drop result.written dst.old }
-    ensures call { EncoderCallInMode C.units_of (mode_of mode)
-        (E.state encoder.old) (E.state encoder.new) (C.rest src.old) (C.rest src.new) last
-        (length dst.old) result.result result.read (take result.written dst.new) result.replaced }
+    ensures call { IsCallInMode C.units_of (E.state encoder.old) (E.state encoder.new)
+        (C.rest src.new) (record {
+      src = C.rest src.old;
+      last = last;
+      mode = mode_of mode;
+      room = length dst.old;
+      result = result.result;
+      read = result.read;
+      wrote = take result.written dst.new;
+      replaced = result.replaced;
+    }) }
 {
     match mode {
         ErrorMode::Html => (),
         ErrorMode::Fatal | ErrorMode::HtmlOfMappable => {
-            let stop = encoder.encode(src, dst, last);
-            return EncoderOutcome {
-                result: stop.result,
-                read: stop.read,
-                written: stop.written,
-                replaced: false,
-            };
+            return encoder.encode(src, dst, last);
         }
     }
     if dst.len() < LONGEST_REFERENCE {

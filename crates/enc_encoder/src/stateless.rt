@@ -12,7 +12,7 @@ use crate::character_set::CharacterSet;
 use crate::lawful_repertoire::LawfulRepertoire;
 use crate::machine::run;
 use crate::made_bytes::one;
-use crate::outcome::EncoderStop;
+use crate::outcome::EncoderOutcome;
 use crate::raw_encoder::RawEncoder;
 use enc_input::{Bytes, Chars, Mapping};
 use enc_utf8::ascii_in;
@@ -172,7 +172,7 @@ impl<R: LawfulRepertoire> RawEncoder for StatelessEncoder<Barring<R>> {
 
     ghost formulas = { λ e. R.lengths e.repertoire.repertoire };
 
-    fn encode<C: Chars>(&mut self, src: &mut C, dst: &mut [u8], last: bool) -> EncoderStop {
+    fn encode<C: Chars>(&mut self, src: &mut C, dst: &mut [u8], last: bool) -> EncoderOutcome {
         let repertoire = self.repertoire.repertoire;
         let barred = self.repertoire.barred;
         repertoire.laws();

@@ -8,7 +8,7 @@ use Rattle.enc_utf8.specs.Text.{AreScalars}
 use Rattle.enc_output.specs.declared.decoder_result.DecoderResult.{DecoderResult}
 use Rattle.enc_output.specs.declared.decoder_result.DecoderResult.TheVariants.{InputEmpty, OutputFull, Malformed}
 use Rattle.enc_decoder.specs.Sequence.{sequence_bytes, any_malformed}
-use Rattle.enc_decoder.specs.Call.{Fatal}
+use Rattle.enc_decoder.specs.declared.error_mode.ErrorMode.TheVariants.{Fatal}
 use Rattle.enc_decoder.proofs.SequenceLemmas.{sequence_bytes-one, scalars_of-one, units-one, any_malformed-one}
 use Rattle.enc_decoder.proofs.SequenceLemmas.{or_true}
 use Rattle.enc_stream.specs.Decoding.{DecoderState, has_finished, DecodesChunk}
@@ -34,14 +34,14 @@ use Rattle.enc_reader.proofs.TurnLemmas.{CanDecode, HandsOutSequences, unread_ca
 module _ (before : ReaderState) {new : DecoderState} {room : ℕ} {result : DecoderResult}
     {read : ℕ} {wrote : List ℕ}
     (decodes : DecodesChunk encode_utf8 before.decoder new
-    (unread_call before (Fatal false) room result read wrote false))
+    (unread_call before Fatal room result read wrote false))
     (can_decode : CanDecode before room) where
   abbrev after : ReaderState
   after = record { decoder = new; unread = drop read before.unread; ended = before.ended }
 
   abbrev Made : DecoderResult → Type 0
   Made r = DecodesChunk encode_utf8 before.decoder new
-      (unread_call before (Fatal false) room r read wrote false)
+      (unread_call before Fatal room r read wrote false)
 
   -- The sequences done are those put out, and the one that is reported.
   hands_out_by : (r : DecoderResult) (made : Made r)
@@ -114,7 +114,7 @@ module _ (before : ReaderState) {new : DecoderState} {room : ℕ} {result : Deco
           within_by l a made z,
           ap (λ ss. length (sequence_bytes ss)) stops.then_next,
           ap length (sequence_bytes-one put stops.next),
-          bytes_done (unread_call before (Fatal false) room (Malformed l a) read wrote false) made,
+          bytes_done (unread_call before Fatal room (Malformed l a) read wrote false) made,
           made.call.within,
           lengths,
         ) in

@@ -10,7 +10,8 @@ use Rattle.enc_decoder.proofs.FirstSequenceLemmas.{true_or_false}
 use Rattle.std.specs.Char.{encode_utf8}
 use Rattle.enc_utf8.specs.Text.{AreScalars, units_of_text}
 use Rattle.enc_decoder.specs.Sequence.{Sequence, sequence_text, any_malformed}
-use Rattle.enc_decoder.specs.Call.{DecodeErrorMode, Replacement}
+use Rattle.enc_decoder.specs.declared.error_mode.ErrorMode.{ErrorMode}
+use Rattle.enc_decoder.specs.declared.error_mode.ErrorMode.TheVariants.{Replacement}
 use Rattle.enc_decoder.specs.CallRecord.{Call}
 use Rattle.enc_utf8.specs.declared.coder_result.CoderResult.{CoderResult}
 use Rattle.enc_utf8.specs.declared.coder_result.CoderResult.TheVariants as result
@@ -40,7 +41,7 @@ pub record CanDecode (s : ReaderState) (room : ℕ) : Type 0 where
   pub roomy : 4 ≤ room
 
 -- a call of the decoder with the unread bytes
-abbrev pub unread_call : ReaderState → DecodeErrorMode → ℕ → DecoderResult → ℕ → List ℕ → Bool
+abbrev pub unread_call : ReaderState → ErrorMode → ℕ → DecoderResult → ℕ → List ℕ → Bool
     → Call
 unread_call s mode room result read wrote replaced = record {
   src = s.unread;
@@ -60,7 +61,7 @@ pub record HandsOutSequences (done : List Sequence) (handed : List ℕ)
   pub text : handed ≡ units_of_text encode_utf8 (sequence_text done)
   pub flag : malformed ≡ any_malformed done
 
-module _ (before : ReaderState) {new : DecoderState} {mode : DecodeErrorMode} {room : ℕ}
+module _ (before : ReaderState) {new : DecoderState} {mode : ErrorMode} {room : ℕ}
     {result : DecoderResult} {read : ℕ} {wrote : List ℕ} {replaced : Bool} where
   module _ (decodes : DecodesChunk encode_utf8 before.decoder new
       (unread_call before mode room result read wrote replaced))
@@ -229,7 +230,7 @@ chunk d ended filled at xs =
     record { decoder = d; unread = take (filled - at) (drop at xs); ended = ended }
 
 -- after a call with it, by the places in the buffer
-module _ {d new : DecoderState} {mode : DecodeErrorMode} {room : ℕ} {result : DecoderResult}
+module _ {d new : DecoderState} {mode : ErrorMode} {room : ℕ} {result : DecoderResult}
     {read : ℕ} {wrote : List ℕ} {replaced ended : Bool} where
   module _ (filled at : ℕ) (xs : List ℕ)
       (decodes : DecodesChunk encode_utf8 d new

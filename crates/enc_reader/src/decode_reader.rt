@@ -9,7 +9,7 @@ ghost use Rattle.enc_stream.specs.declared.constants.TheConstants.{UTF_8};
 ghost use Rattle.std.specs.Char.{encode_utf8};
 ghost use Rattle.std.specs.Io.KnownBytes.{IsAtEnd};
 ghost use Rattle.enc_output.specs.Results.{decoder_result_of};
-ghost use Rattle.enc_decoder.specs.Call.{Replacement};
+ghost use Rattle.enc_decoder.specs.declared.error_mode.ErrorMode.TheVariants.{Replacement};
 ghost use Rattle.enc_decoder.specs.Remainder.{IsUndetermined};
 ghost use Rattle.enc_stream.specs.Latin1.{DecoderMayBeLatin1};
 ghost use Rattle.enc_stream.specs.Decoding.{has_finished, remaining_sequences, AnswersDecode};

@@ -16,13 +16,14 @@ use Rattle.enc_decoder.specs.Sequence.{Sequence, sequence_bytes, sequence_text, 
 use Rattle.enc_decoder.specs.Segmentation.{sequences_of}
 use Rattle.enc_decoder.specs.CodecState.{CodecState}
 use Rattle.enc_decoder.specs.Remainder.{AreBytes, AreFirstSequences, Determines}
-use Rattle.enc_decoder.specs.Call.{DecodeErrorMode, reaches_end}
-use Rattle.enc_decoder.specs.CallRecord.{Call}
+use Rattle.enc_decoder.specs.declared.error_mode.ErrorMode.{ErrorMode}
+use Rattle.enc_decoder.specs.Call.{reaches_end}
+use Rattle.enc_decoder.specs.CallRecord.{CallInto}
 use Rattle.enc_decoder.proofs.ByteLemmas.{determines_by_more}
 use Rattle.enc_decoder.proofs.DeterminedLemmas.{begins_after}
 use Rattle.enc_decoder.proofs.SegmentationLemmas.{sequences_of-nil}
 use Rattle.enc_decoder.proofs.SequenceLemmas.{sequence_bytes-append}
-use Rattle.enc_decoder.proofs.StageLemmas.{Stage, start_stage, same_mode}
+use Rattle.enc_decoder.proofs.StageLemmas.{Stage, start_stage}
 use Rattle.enc_decoder.proofs.LeavesLemmas.{Leaves, call_at, one_call}
 use Rattle.enc_stream.specs.Encodings.{rule_of}
 use Rattle.enc_stream.specs.Bom.{Mark, find_mark, any_mark, marks_begun, mark_sequence, sequences_by_mark}
@@ -66,13 +67,27 @@ pub record GoesOnAs (old mid : DecoderState) (src : List ℕ) (len : ℕ) : Type
   pub held : (x : List ℕ) (n : ℕ) → are_still_held mid.held mid.marks (mid.pending ++ x) n
       ≡ are_still_held old.held old.marks (old.pending ++ (take len src ++ x)) (len + n)
 
+-- a call, by its values one by one
+abbrev pub made_call : List ℕ → Bool → ErrorMode → Output → Output → DecoderResult → ℕ → Bool
+    → CallInto
+made_call src last mode before after result read replaced = record {
+  src = src;
+  last = last;
+  mode = mode;
+  before = before;
+  after = after;
+  result = result;
+  read = read;
+  replaced = replaced;
+}
+
 module _ {old mid : DecoderState} {src : List ℕ} {len : ℕ} (bytes : AreBytes src)
     (goes_on : GoesOnAs old mid src len) where
-  abbrev reaches : Bool → DecodeErrorMode → ℕ → Stage
+  abbrev reaches : Bool → ErrorMode → ℕ → Stage
   reaches last mode room =
       record (start_stage src last mode room) { read = len; done = goes_on.done }
 
-  abbrev leaves : (last : Bool) (mode : DecodeErrorMode) (room : ℕ)
+  abbrev leaves : (last : Bool) (mode : ErrorMode) (room : ℕ)
       → Leaves (decoder_remainder old) (decoder_remainder mid) (reaches last mode room)
   leaves last mode room = record {
     sure = len;
@@ -90,14 +105,14 @@ module _ {old mid : DecoderState} {src : List ℕ} {len : ℕ} (bytes : AreBytes
     none_after = inr goes_on.nothing;
   }
 
-  pub after_prefix : {units_of : ℕ → List ℕ} {mode : DecodeErrorMode} {last : Bool}
+  pub after_prefix : {units_of : ℕ → List ℕ} {mode : ErrorMode} {last : Bool}
       {before after : Output} {new : DecoderState} {result : DecoderResult} {n : ℕ}
       {replaced : Bool}
-      → DecodesInto units_of mode mid new (drop len src) last before after result n replaced
-      → DecodesInto units_of mode old new src last before after result (len + n) replaced
+      → DecodesInto units_of mid new
+      (made_call (drop len src) last mode before after result n replaced)
+      → DecodesInto units_of old new (made_call src last mode before after result (len + n) replaced)
   after_prefix {mode = mode} {last} {before} {new = new} {result} {n} {replaced} rest =
       let stage : Stage = reaches last mode before.room in
-      let next : Call = call_at stage mode before.room result n rest.wrote replaced in
       let called =
       one_call bytes (leaves last mode before.room) n (record {
         text = rw goes_on.no_text refl;
@@ -105,7 +120,7 @@ module _ {old mid : DecoderState} {src : List ℕ} {len : ℕ} (bytes : AreBytes
         fits = omega arith;
         flag = sym goes_on.none_malformed;
         none_replaced = λ _. refl;
-      }) (same_mode stage next result (omega arith) rest.decodes.call) rest.decodes.call
+      }) (record { room = omega arith; mode = refl }) rest.decodes.call
       (λ _. omega arith) in
       let read : List ℕ = take n (drop len src) in
       let parted : take (len + n) src ≡ take len src ++ read = take-add len n src in
@@ -298,8 +313,8 @@ module _ (e : Encoding) {life now : LifeCycle} {v : CodecState} (src : List ℕ)
   }
 
   -- a call without input does nothing
-  idle : {units_of : ℕ → List ℕ} {mode : DecodeErrorMode} {out : Output}
-      → DecodesInto units_of mode held held [] false out out InputEmpty 0 false
+  idle : {units_of : ℕ → List ℕ} {mode : ErrorMode} {out : Output}
+      → DecodesInto units_of held held (made_call [] false mode out out InputEmpty 0 false)
   idle {out = out} =
       let holds_them = holds_marks e now v holds_now in
       record {
@@ -336,26 +351,26 @@ module _ (e : Encoding) {life now : LifeCycle} {v : CodecState} (src : List ℕ)
       }
 
   -- All of the chunk might begin one.
-  pub all_held : AreBytes src → {units_of : ℕ → List ℕ} {mode : DecodeErrorMode} {out : Output}
+  pub all_held : AreBytes src → {units_of : ℕ → List ℕ} {mode : ErrorMode} {out : Output}
       → len ≡ length src
-      → DecodesInto units_of mode from held src false out out InputEmpty len false
+      → DecodesInto units_of from held (made_call src false mode out out InputEmpty len false)
   all_held bytes {units_of} {mode} {out} reads_all =
       let none_left : drop len src ≡ [] = drop_of_length-le src (omega arith) in
       let none_more : len + 0 ≡ len = omega arith in
-      subst (λ n. DecodesInto units_of mode from held src false out out InputEmpty n false)
-      none_more (after_prefix bytes (goes_on_after_held (omega arith)) (rw none_left idle))
+      subst (λ n. DecodesInto units_of from held
+      (made_call src false mode out out InputEmpty n false)) none_more (after_prefix bytes (goes_on_after_held (omega arith)) (rw none_left idle))
 
 -- After the bytes before text.
 pub after_text : (e : Encoding) {life now : LifeCycle} {v : CodecState} (src : List ℕ) (len : ℕ)
     (awaits : Bool)
     → HeldBytesMatchCodec life v → len ≤ length src → ExtendsHeldMark life now (take len src)
     → awaits_mark life ≡ awaits → AreBytes src
-    → {units_of : ℕ → List ℕ} {mode : DecodeErrorMode} {last : Bool} {before after : Output}
+    → {units_of : ℕ → List ℕ} {mode : ErrorMode} {last : Bool} {before after : Output}
     {new : DecoderState} {result : DecoderResult} {n : ℕ} {replaced : Bool}
-    → DecodesInto units_of mode (decoder_state_of e now v) new (drop len src) last before after
-    result n replaced
-    → DecodesInto units_of mode (decoder_state_of e life v) new src last before after result
-    (len + n) replaced
+    → DecodesInto units_of (decoder_state_of e now v) new
+    (made_call (drop len src) last mode before after result n replaced)
+    → DecodesInto units_of (decoder_state_of e life v) new
+    (made_call src last mode before after result (len + n) replaced)
 after_text e src len true holds within extends awaits bytes rest =
     after_prefix bytes (goes_on_after_held e src len holds extends awaits within) rest
 after_text e {life} {now} {v} src len false holds within extends awaits bytes {n = n} rest =

@@ -9,7 +9,9 @@ use Rattle.enc_utf8.specs.declared.coder_result.CoderResult.{CoderResult}
 use Rattle.enc_utf8.specs.declared.coder_result.CoderResult.TheVariants as coder
 use Rattle.enc_output.specs.Results.{decoder_result_of}
 use Rattle.enc_output.specs.Output.{Output}
-use Rattle.enc_decoder.specs.Call.{Replacement, DecodeErrorMode}
+use Rattle.enc_decoder.specs.declared.error_mode.ErrorMode.TheVariants.{Replacement}
+use Rattle.enc_decoder.specs.Call.{is_replacement_mode}
+use Rattle.enc_decoder.specs.CallRecord.{CallInto}
 use Rattle.enc_stream.specs.Decoding.{DecoderState}
 use Rattle.enc_stream.specs.Decoding.{TakesSmallTexts, AnswersDecode, AnswersDecodeInto}
 use Rattle.enc_utf8.proofs.LengthLemmas.{lengths}
@@ -22,28 +24,24 @@ still_goes_on coder.OutputFull goes_on is_empty = cc
 
 -- a call that replaces reports nothing
 pub reports_none : {units_of : ℕ → List ℕ} {least : ℕ} → TakesSmallTexts units_of least
-    → {old new : DecoderState} {src : List ℕ} {last : Bool} {before after : Output}
-    {result : DecoderResult} {read : ℕ} {replaced : Bool}
-    → AnswersDecodeInto units_of Replacement old new src last before after result read replaced
-    → (l a : ℕ) → result ≡ Malformed l a → ⊥
-reports_none {least} takes answers l a is_malformed =
-    let reported = rw is_malformed at (answers.converts least takes) in
-    false≢true (sym reported.decodes.call.stops.not_replaced)
+    → {old new : DecoderState} {c : CallInto} → AnswersDecodeInto units_of old new c
+    → c.mode ≡ Replacement → (l a : ℕ) → c.result ≡ Malformed l a → ⊥
+reports_none {least} takes answers replaces l a is_malformed =
+    let stops = rw is_malformed at (answers.converts least takes).decodes.call.stops in
+    false≢true (sym stops.not_replaced ∙ ap is_replacement_mode replaces)
 
 -- A call over an output that is empty as yet.
 pub over_slice : {units_of : ℕ → List ℕ} {least : ℕ} → TakesSmallTexts units_of least
-    → {mode : DecodeErrorMode} {old new : DecoderState} {src : List ℕ} {last : Bool}
-    {before after : Output} {result : DecoderResult} {read : ℕ} {replaced : Bool}
-    → AnswersDecodeInto units_of mode old new src last before after result read replaced
+    → {old new : DecoderState} {c : CallInto} → AnswersDecodeInto units_of old new c
     → {text : List ℕ} {room : ℕ} {flag : Bool}
-    → before.written ≡ [] → before.room ≡ room → after.written ≡ text → replaced ≡ flag
+    → c.before.written ≡ [] → c.before.room ≡ room → c.after.written ≡ text → c.replaced ≡ flag
     → AnswersDecode units_of least old new (record {
-      src = src;
-      last = last;
-      mode = mode;
+      src = c.src;
+      last = c.last;
+      mode = c.mode;
       room = room;
-      result = result;
-      read = read;
+      result = c.result;
+      read = c.read;
       wrote = text;
       replaced = flag;
     })
@@ -57,22 +55,20 @@ over_slice {least} takes answers {text} none_before room_is text_is flag_is =
 pub over_text : {units_of : ℕ → List ℕ} {least : ℕ} {text now : List ℕ} {len room : ℕ}
     {flag : Bool}
     → TakesSmallTexts units_of least
-    → {mode : DecodeErrorMode} {old new : DecoderState} {src : List ℕ} {last : Bool}
-    {before after : Output} {result : DecoderResult} {read : ℕ} {replaced : Bool}
-    → AnswersDecodeInto units_of mode old new src last before after result read replaced
-    → before.written ≡ text → length text ≡ len → before.room ≡ room → after.written ≡ now
-    → replaced ≡ flag
+    → {old new : DecoderState} {c : CallInto} → AnswersDecodeInto units_of old new c
+    → c.before.written ≡ text → length text ≡ len → c.before.room ≡ room
+    → c.after.written ≡ now → c.replaced ≡ flag
     → AnswersDecode units_of least old new (record {
-      src = src;
-      last = last;
-      mode = mode;
+      src = c.src;
+      last = c.last;
+      mode = c.mode;
       room = room;
-      result = result;
-      read = read;
+      result = c.result;
+      read = c.read;
       wrote = drop len now;
       replaced = flag;
     })
-over_text {least} {text} {now} {len} takes {before} answers text_is len_is room_is now_is flag_is =
+over_text {least} {text} {now} {len} takes answers text_is len_is room_is now_is flag_is =
     let all : text ++ answers.wrote ≡ now =
     rw (← text_is) (sym (ap (λ (o : Output). o.written) answers.onto) ∙ now_is) in
     let wrote_rest : answers.wrote ≡ drop len now =

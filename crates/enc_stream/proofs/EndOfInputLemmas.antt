@@ -8,7 +8,7 @@ use Rattle.enc_output.specs.declared.decoder_result.DecoderResult.{DecoderResult
 use Rattle.enc_output.specs.declared.decoder_result.DecoderResult.TheVariants.{Malformed}
 use Rattle.enc_output.specs.declared.decoder_result.DecoderResult.TheVariants as decoder
 use Rattle.enc_utf8.specs.Text.{units_of_text}
-use Rattle.enc_decoder.specs.Converting.{shifted_result}
+use Rattle.enc_decoder.specs.Call.{shifted_result}
 use Rattle.enc_decoder.specs.Sequence.{sequence_text, any_malformed}
 use Rattle.enc_decoder.specs.Call.{reaches_end}
 use Rattle.enc_stream.specs.Decoding.{DecoderState, has_finished, remaining_sequences, whole_sequences, whole_utf_8}

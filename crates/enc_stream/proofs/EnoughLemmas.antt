@@ -12,7 +12,8 @@ use Rattle.enc_decoder.specs.Sequence.{Sequence}
 use Rattle.enc_decoder.specs.Segmentation.{sequences_of}
 use Rattle.enc_decoder.specs.CodecState.{CodecState}
 use Rattle.enc_decoder.specs.Remainder.{Remainder, AreBytes, AreFirstSequences}
-use Rattle.enc_decoder.specs.Call.{DecodeErrorMode, Replacement, Fatal}
+use Rattle.enc_decoder.specs.declared.error_mode.ErrorMode.{ErrorMode}
+use Rattle.enc_decoder.specs.declared.error_mode.ErrorMode.TheVariants.{Replacement, Fatal}
 use Rattle.enc_decoder.specs.Need.{needed_units, NeedExceeds, IsEnoughForCodec, AreEnoughForCodec}
 use Rattle.enc_decoder.proofs.NeedLemmas.{at_end}
 use Rattle.enc_decoder.proofs.EnoughLemmas.{same_some}
@@ -61,16 +62,16 @@ summed f n q answer_is =
     [ true ↦ λ same. same | false ↦ λ none. absurd (cc) ] answer_is
 
 -- which of the lengths that are enough a query asks
-asked : (q : Query) (f : TextLengths) (v : CodecState) (mode : DecodeErrorMode) → IsForMode q mode
+asked : (q : Query) (f : TextLengths) (v : CodecState) (mode : ErrorMode) → IsForMode q mode
     → AreEnoughForCodec f v → IsEnoughForCodec (query_units q) mode (formula_length q f) v
 asked query.Utf8 f v Replacement fits_mode enough = enough.utf_8
-asked query.Utf8 f v (Fatal keeps) fits_mode enough = absurd fits_mode
+asked query.Utf8 f v Fatal fits_mode enough = absurd fits_mode
 asked query.Utf8Reporting f v Replacement fits_mode enough = absurd fits_mode
-asked query.Utf8Reporting f v (Fatal keeps) fits_mode enough = enough.reporting keeps
+asked query.Utf8Reporting f v Fatal fits_mode enough = enough.reporting
 asked query.Utf16 f v mode fits_mode enough = enough.utf_16 mode
 
 -- The sequences in front need more than the answer of a query for calls of this mode.
-record NeedMore (q : Query) (mode : DecodeErrorMode) (front : List Sequence) (answer : ℕ) : Type 0
+record NeedMore (q : Query) (mode : ErrorMode) (front : List Sequence) (answer : ℕ) : Type 0
   where
     asks : IsForMode q mode
     passes : answer < needed_units (query_units q) mode front
@@ -79,11 +80,11 @@ none_begins : (front : List Sequence) → AreFirstSequences front [] → front �
 none_begins [] begins = refl
 none_begins (s ∷ ss) begins = absurd (let same = begins.1 in cc)
 
-none_needs : (units_of : ℕ → List ℕ) (mode : DecodeErrorMode) → needed_units units_of mode [] ≡ 0
+none_needs : (units_of : ℕ → List ℕ) (mode : ErrorMode) → needed_units units_of mode [] ≡ 0
 none_needs units_of Replacement = refl
-none_needs units_of (Fatal keeps) = refl
+none_needs units_of Fatal = refl
 
-module _ {q : Query} {mode : DecodeErrorMode} {front : List Sequence} {answer : ℕ}
+module _ {q : Query} {mode : ErrorMode} {front : List Sequence} {answer : ℕ}
     (need : NeedMore q mode front answer) where
   -- The first sequences of a codec need no more than its formula gives, for as many bytes or more.
   never_more : (f : TextLengths) (w : CodecState) → AreEnoughForCodec f w → (src : List ℕ)
@@ -144,13 +145,13 @@ module _ {q : Query} {mode : DecodeErrorMode} {front : List Sequence} {answer : 
 
 -- A byte order mark needs no room: what needs more stands after it.
 
-mark_needs_none : (units_of : ℕ → List ℕ) (mode : DecodeErrorMode) (m : Mark)
+mark_needs_none : (units_of : ℕ → List ℕ) (mode : ErrorMode) (m : Mark)
     (ss : List Sequence)
     → needed_units units_of mode (mark_sequence m ∷ ss) ≡ needed_units units_of mode ss
 mark_needs_none units_of Replacement m ss = refl
-mark_needs_none units_of (Fatal keeps) m ss = refl
+mark_needs_none units_of Fatal m ss = refl
 
-after_mark : {q : Query} {mode : DecodeErrorMode} {answer : ℕ} (m : Mark)
+after_mark : {q : Query} {mode : ErrorMode} {answer : ℕ} (m : Mark)
     (front all : List Sequence) → NeedMore q mode front answer
     → AreFirstSequences front (mark_sequence m ∷ all)
     → (rest : List Sequence) × NeedMore q mode rest answer × AreFirstSequences rest all
@@ -172,7 +173,7 @@ after_mark {q} {mode} {answer} m (s ∷ rest) all need first = (
 )
 
 -- where one of these byte order marks may be in front
-by_marks : {q : Query} {mode : DecodeErrorMode} {front : List Sequence} {answer : ℕ}
+by_marks : {q : Query} {mode : ErrorMode} {front : List Sequence} {answer : ℕ}
     (need : NeedMore q mode front answer) (looked_for : List Mark) (e : Encoding)
     (bytes : List ℕ) (n : ℕ) → AreBytes bytes → length bytes ≤ n
     → GivesNoMore need n e × EachMark (λ m. GivesNoMore need n m.encoding) looked_for
@@ -191,7 +192,7 @@ by_marks {front = front} need looked_for e bytes n are_bytes fits most =
         (found_has (λ k. GivesNoMore need n k.encoding) looked_for bytes m most.1 found_is) after.2
 
 -- the greatest of some lengths is no less than each
-each_most : {q : Query} {mode : DecodeErrorMode} {front : List Sequence} {answer : ℕ}
+each_most : {q : Query} {mode : ErrorMode} {front : List Sequence} {answer : ℕ}
     (need : NeedMore q mode front answer) (marks : List Mark) (own : Option ℕ) (n : ℕ)
     → IsAtMost (length_with_marks q marks own n) answer
     → IsAtMost own answer × EachMark (λ m. GivesNoMore need n m.encoding) marks
@@ -213,7 +214,7 @@ bb_pending (c ∷ z) held =
 -- The length that a query answers is enough, by the decoder's own state.
 module _ (e : Encoding) (v : CodecState) (rule : rule_of e ≡ v.rule)
     (enough : AreEnoughForCodec (codec_lengths (codec_by_id e.id)) v)
-    {q : Query} {mode : DecodeErrorMode} {front : List Sequence} {answer : ℕ}
+    {q : Query} {mode : ErrorMode} {front : List Sequence} {answer : ℕ}
     (need : NeedMore q mode front answer) where
   abbrev own : TextLengths
   own = codec_lengths (codec_by_id e.id)
@@ -293,7 +294,7 @@ pub room_is_enough : (q : Query) (e : Encoding) (life : LifeCycle) (v : CodecSta
     → rule_of e ≡ v.rule
     → HeldBytesMatchCodec life v → AreEnoughForCodec (codec_lengths (codec_by_id e.id)) v
     → (n : ℕ) (result : Option ℕ) → result ≡ max_length q (decoder_state_of e life v) n
-    → IfSome result (λ room. (mode : DecodeErrorMode) → IsForMode q mode
+    → IfSome result (λ room. (mode : ErrorMode) → IsForMode q mode
     → IsEnoughRoom (query_units q) mode (decoder_state_of e life v) n room)
 room_is_enough q e life v rule holds enough n None answer_is = tt
 room_is_enough q e life v rule holds enough n (Some room) answer_is =
@@ -306,13 +307,13 @@ room_is_enough q e life v rule holds enough n (Some room) answer_is =
 -- the same of each query
 
 -- no need of n bytes exceeds the room
-abbrev pub IsEnough : (ℕ → List ℕ) → DecodeErrorMode → Remainder → ℕ → ℕ → Type 0
+abbrev pub IsEnough : (ℕ → List ℕ) → ErrorMode → Remainder → ℕ → ℕ → Type 0
 IsEnough units_of mode remainder n room =
     (src : List ℕ) (last : Bool) → AreBytes src → length src ≡ n
     → NeedExceeds units_of mode remainder src last room → ⊥
 
 abbrev ReportsRoom : Query → Remainder → ℕ → Option ℕ → Type 0
-ReportsRoom q remainder n result = IfSome result (λ room. (mode : DecodeErrorMode)
+ReportsRoom q remainder n result = IfSome result (λ room. (mode : ErrorMode)
     → IsForMode q mode → IsEnough (query_units q) mode remainder n room)
 
 pub room_with_replacement : (remainder : Remainder) (n : ℕ) (result : Option ℕ)
@@ -323,12 +324,12 @@ room_with_replacement remainder n (Some room) h = h Replacement tt
 
 pub room_to_report : (remainder : Remainder) (n : ℕ) (result : Option ℕ)
     → ReportsRoom query.Utf8Reporting remainder n result
-    → IfSome result (IsEnough encode_utf8 (Fatal false) remainder n)
+    → IfSome result (IsEnough encode_utf8 Fatal remainder n)
 room_to_report remainder n None h = tt
-room_to_report remainder n (Some room) h = h (Fatal false) tt
+room_to_report remainder n (Some room) h = h Fatal tt
 
 pub room_in_utf_16 : (remainder : Remainder) (n : ℕ) (result : Option ℕ)
     → ReportsRoom query.Utf16 remainder n result
-    → IfSome result (λ room. (mode : DecodeErrorMode) → IsEnough encode_utf16 mode remainder n room)
+    → IfSome result (λ room. (mode : ErrorMode) → IsEnough encode_utf16 mode remainder n room)
 room_in_utf_16 remainder n None h = tt
 room_in_utf_16 remainder n (Some room) h = λ mode. h mode tt

@@ -15,12 +15,14 @@ use Rattle.enc_decoder.specs.Sequence.{Sequence, sequence_bytes, set_after}
 use Rattle.enc_decoder.specs.Segmentation.{Rule, sequences_of}
 use Rattle.enc_decoder.specs.CodecState.{CodecState, remainder_of}
 use Rattle.enc_decoder.specs.Remainder.{AreFirstSequences}
-use Rattle.enc_decoder.specs.Call.{DecodeErrorMode, reaches_end}
-use Rattle.enc_decoder.specs.Converting.{PrefixedCallInto, ReadsHeldFirst, shifted_result}
-use Rattle.enc_decoder.specs.CallRecord.{Call}
+use Rattle.enc_decoder.specs.declared.error_mode.ErrorMode.{ErrorMode}
+use Rattle.enc_decoder.specs.Call.{reaches_end}
+use Rattle.enc_decoder.specs.Call.{IsCall, IsCallInto, shifted_result}
+use Rattle.enc_decoder.specs.CallRecord.{Call, call_writing}
+use Rattle.enc_stream.proofs.AfterMarkLemmas.{made_call}
 use Rattle.enc_decoder.proofs.ByteLemmas.{bytes-append}
 use Rattle.enc_decoder.proofs.FirstSequenceLemmas.{true_or_false}
-use Rattle.enc_decoder.proofs.StageLemmas.{start_stage, nothing_written, same_mode}
+use Rattle.enc_decoder.proofs.StageLemmas.{start_stage, nothing_written}
 use Rattle.enc_decoder.proofs.InnerInputLemmas.{most_or_more}
 use Rattle.enc_decoder.proofs.JoinedCallLemmas.{no_bytes}
 use Rattle.enc_decoder.proofs.InnerCallLemmas.{MatchesState, AreAllRead, reports_escape, call_outside}
@@ -43,16 +45,23 @@ use Rattle.enc_utf8.proofs.LengthLemmas.{lengths}
 use Rattle.enc_stream.proofs.RemainingRuleLemmas.{none_without_bytes}
 
 module _ {e : Encoding} {life : LifeCycle} {v : CodecState} {src : List ℕ} {last : Bool}
-    (text : ReadsText e life v src last) {left read : ℕ}
-    (reads_held : ReadsHeldFirst (unread_bytes life (length v.pending)) src left read) where
+    (text : ReadsText e life v src last) {total : ℕ}
+    (all_within : total ≤ length (unread_bytes life (length v.pending)) + length src) where
   abbrev held : List ℕ
   held = unread_bytes life (length v.pending)
 
   abbrev pending : List ℕ
   pending = held_or_pending_bytes (held_mark_bytes life) v.pending
 
-  abbrev total : ℕ
-  total = length held - left + read
+  -- how many held bytes are unread, and how many others are read
+  abbrev left : ℕ
+  left = length held - total
+
+  abbrev read : ℕ
+  read = total - length held
+
+  within : read ≤ length src
+  within = omega (arith, all_within)
 
   -- all bytes held are read
   all_and_read : left ≡ 0 → total ≡ length held + read
@@ -64,69 +73,63 @@ module _ {e : Encoding} {life : LifeCycle} {v : CodecState} {src : List ℕ} {la
   dropped_all : left ≡ 0 → drop total (held ++ src) ≡ drop read src
   dropped_all none_left = rw (all_and_read none_left) (drop-append-add held src read)
 
-  module _ {units_of : ℕ → List ℕ} {w : CodecState} {mode : DecodeErrorMode} {before after : Output}
+  module _ {units_of : ℕ → List ℕ} {w : CodecState} {mode : ErrorMode} {before after : Output}
       {stop : DecoderResult} {replaced : Bool} (kept : w.rule ≡ v.rule)
-      (made : PrefixedCallInto units_of (remainder_of v) (remainder_of w) (held ++ src) last mode
-      before after stop total replaced) where
+      (made : IsCallInto units_of (remainder_of v) (remainder_of w)
+      (made_call (held ++ src) last mode before after stop total replaced)) where
     -- the call of the codec, what it does, and the bytes pending with those read
     abbrev call : Call
-    call = record {
-      src = held ++ src;
-      last = last;
-      mode = mode;
-      room = before.room;
-      result = stop;
-      read = total;
-      wrote = made.wrote;
-      replaced = replaced;
-    }
+    call = call_writing (made_call (held ++ src) last mode before after stop total replaced)
+        made.wrote
+
+    abbrev does : IsCall units_of (remainder_of v) (remainder_of w) call
+    does = made.call.call
 
     abbrev done : List Sequence
-    done = made.call.done
+    done = does.done
 
     abbrev bytes_read : List ℕ
     bytes_read = pending ++ take read src
 
     -- a call of the decoder with this state after it
     abbrev Leaves : DecoderState → Type 0
-    Leaves new = DecodesInto units_of mode (decoder_state_of e life v) new src last before after
-        (shifted_result stop left) read replaced
+    Leaves new = DecodesInto units_of (decoder_state_of e life v) new
+        (made_call src last mode before after (shifted_result stop left) read replaced)
 
     -- how many bytes are done
     done_len : length v.pending + total ≡ length (sequence_bytes done) + length w.pending
-    done_len =
-        omega (arith, lengths, ap length made.accounted, reads_held.within, reads_held.most)
+    done_len = omega (arith, lengths, ap length made.call.accounted, all_within)
 
     -- nothing is done where no byte is
     none_done : length (sequence_bytes done) ≡ 0 → done ≡ []
     none_done = none_without_bytes v.rule v.set (v.pending ++ ((held ++ src) ++ [])) done
         ((remainder_of w).sequences (drop total (held ++ src) ++ []))
-        (made.call.residual [] (λ _. refl))
+        (does.residual [] (λ _. refl))
 
     -- and nothing is reported where nothing is done
     none_reported : done ≡ [] → (l a : ℕ) → stop ≡ Malformed l a → ⊥
     none_reported nothing l a is_malformed =
-        let stops = rw is_malformed at made.call.stops in
+        let stops = rw is_malformed at does.stops in
         omega (
           arith,
           ap length (sym nothing ∙ stops.then_next),
-          length-append made.call.put (stops.next ∷ []),
+          length-append does.put (stops.next ∷ []),
         )
 
     accounted_all : left ≡ 0 → bytes_read ≡ sequence_bytes done ++ w.pending
     accounted_all none_left =
         at_hand text (take read src) ∙ ap (λ x. v.pending ++ x) (sym (taken_all none_left))
-        ∙ made.accounted
+        ∙ made.call.accounted
 
     -- unless it is settled that no mark comes, few bytes are read
-    escape : (reports_escape call made.call ≡ true → settled_from life ≤ read)
+    escape : (reports_escape call does ≡ true → settled_from life ≤ read)
         ⊎ ((total ≤ 5) × AreAllRead (remainder_of v) (remainder_of w) call done)
     escape = elim (most_or_more (settled_from life) read) [
       | inl settled ↦ inl (λ _. settled)
       | inr unsettled ↦ let awaited = awaited_unless_settled life read unsettled in
           inr (
             omega (arith, few_unread life (length v.pending), awaited.0),
-            ((text.holds.unread awaited.1).1, made.accounted),
+            ((text.holds.unread awaited.1).1, made.call.accounted),
           )
     ]
 
@@ -146,7 +149,7 @@ module _ {e : Encoding} {life : LifeCycle} {v : CodecState} {src : List ℕ} {la
 
     -- the decoder's call, by its state after it
     into : (next : LifeCycle) (state : CodecState)
-        → MatchesState (shifts text call) made.call
+        → MatchesState (shifts text call) does
         (decoder_remainder (decoder_state_of e next state)) read left
         → bytes_read ≡ sequence_bytes done ++ (decoder_state_of e next state).pending
         → (((z : List ℕ) → (last ≡ true → z ≡ []) → remaining_sequences old (src ++ z)
@@ -160,13 +163,13 @@ module _ {e : Encoding} {life : LifeCycle} {v : CodecState} {src : List ℕ} {la
         → Leaves (decoder_state_of e next state)
     into next state matches all_accounted goes_on next_marks next_held next_ended =
         let none : find_mark (marks_of life) bytes_read ≡ None =
-        unmarked_read text read reads_held.within in
+        unmarked_read text read within in
         let called =
         call_outside
         (bytes-append held src (bytes_unread life (length v.pending)) text.bytes)
         (shifts text call) nothing_written
-        (same_mode (start_stage src last mode before.room) call stop (omega arith) made.call)
-        (reads_on text call reads_held refl) made.call matches in
+        (record { room = omega arith; mode = refl }) (reads_on text call all_within refl) does
+        matches in
         let placed = end_placed last stop left in
         record {
           wrote = made.wrote;
@@ -187,13 +190,13 @@ module _ {e : Encoding} {life : LifeCycle} {v : CodecState} {src : List ℕ} {la
     pub ends : reaches_end last stop ≡ true → Leaves (decoder_state_of e Finished w)
     ends at_end_now =
         let is_last : last ≡ true = (at_end last stop at_end_now).0 in
-        let stops = rw (at_end last stop at_end_now).1 at made.call.stops in
+        let stops = rw (at_end last stop at_end_now).1 at does.stops in
         let none_left : left ≡ 0 =
-        omega (arith, lengths, stops.all_read, reads_held.within, reads_held.most) in
+        omega (arith, lengths, stops.all_read) in
         let whole : take read src ≡ src =
         ap (λ k. take k src)
         (let all_read : read ≡ length src =
-        omega (arith, lengths, stops.all_read, reads_held.within, reads_held.most) in all_read)
+        omega (arith, lengths, stops.all_read) in all_read)
         ∙ take-length src in
         let none_pending : w.pending ≡ [] = stops.none_pending is_last in
         into Finished w (record {
@@ -201,7 +204,7 @@ module _ {e : Encoding} {life : LifeCycle} {v : CodecState} {src : List ℕ} {la
               λ z nothing. ap (remainder_of w).sequences
               (ap (λ x. x ++ z) (drop_of_length-le (held ++ src) (omega (arith, stops.all_read)))
               ∙ nothing is_last) ∙ stops.none_left is_last;
-          set = made.call.set;
+          set = does.set;
           pending = omega (arith, none_left);
           none_pending = λ last_one _. stops.none_pending last_one;
           same = inl refl;
@@ -219,7 +222,7 @@ module _ {e : Encoding} {life : LifeCycle} {v : CodecState} {src : List ℕ} {la
         → Leaves (decoder_state_of e life v)
     stays not_ended nothing_read untouched =
         let nothing : done ≡ [] =
-        none_done (omega (arith, done_len, reads_held.most, nothing_read, untouched)) in
+        none_done (omega (arith, done_len, nothing_read, untouched)) in
         let none_read : bytes_read ≡ pending =
         ap (λ k. pending ++ take k src) nothing_read ∙ append-nil pending in
         let are_held = holds_marks e life v text.holds in
@@ -227,7 +230,7 @@ module _ {e : Encoding} {life : LifeCycle} {v : CodecState} {src : List ℕ} {la
           after = λ y ends.
               sym (ap (λ d. d ++ (remainder_of w).sequences (drop total (held ++ src) ++ y))
               nothing)
-              ∙ sym (made.call.residual y ends)
+              ∙ sym (does.residual y ends)
               ∙ ap (remainder_of v).sequences (append_assoc held src y)
               ∙ sym (by_codec text (src ++ y) (unmarked_all text y ends))
               ∙ ap (λ k. remaining_sequences (decoder_state_of e life v) (drop k src ++ y))
@@ -251,9 +254,11 @@ module _ {e : Encoding} {life : LifeCycle} {v : CodecState} {src : List ℕ} {la
         (touched : read ≡ 0 → length w.pending + left ≡ length v.pending + length held → ⊥)
         (no_bb : read ≡ 0 → length held ≡ 2 → length w.pending + left ≡ 1 → ⊥) where
       none_left : left ≡ 0
-      none_left = elim reads_held.first [
-        | inl none ↦ none
-        | inr none_read ↦ elim (most_or_more left 0) [
+      none_left = elim (most_or_more (length held) total) [
+        | inl past ↦ omega (arith, past)
+        | inr within_held ↦
+            let none_read : read ≡ 0 = omega (arith, within_held) in
+            elim (most_or_more left 0) [
           | inl none ↦ omega (arith, none)
           | inr some ↦ absurd (too_few none_read some)
         ]
@@ -262,7 +267,6 @@ module _ {e : Encoding} {life : LifeCycle} {v : CodecState} {src : List ℕ} {la
           too_few : read ≡ 0 → 0 < left → ⊥
           too_few none_read some_left =
               let all_done = done_len in
-              let within_held = reads_held.most in
               let at_most_two = few_unread life (length v.pending) in
               elim (held_or_pending life (length v.pending)) [
                 | inl none_held ↦ omega arith
@@ -290,7 +294,7 @@ module _ {e : Encoding} {life : LifeCycle} {v : CodecState} {src : List ℕ} {la
             ] in
             ap (marks_begun (marks_of life))
             (ap (λ ts. sequence_bytes ts ++ w.pending) is_done ∙ sym (accounted_all none_left))
-            ∙ begun_no_more text read some_read reads_held.within awaits
+            ∙ begun_no_more text read some_read within awaits
       ]
 
       -- nor is a byte held: if none is read, and bytes were held, none is left pending
@@ -322,7 +326,7 @@ module _ {e : Encoding} {life : LifeCycle} {v : CodecState} {src : List ℕ} {la
           | inl none_read ↦ rw (none_pending_now (omega (arith, none_read))
               (pending_in_front text awaits)) refl
           | inr some_read ↦ rw (not_begun_any (marks_of life) _ bytes_read read
-              (begun_no_more text read some_read reads_held.within awaits) some_read)
+              (begun_no_more text read some_read within awaits) some_read)
               (none_of w.pending)
         ]
       ]
@@ -334,7 +338,7 @@ module _ {e : Encoding} {life : LifeCycle} {v : CodecState} {src : List ℕ} {la
                 ap (λ x. (remainder_of w).sequences (x ++ y)) (dropped_all none_left)
                 ∙ ap (λ (q : Rule). sequences_of q w.set (w.pending ++ (drop read src ++ y)))
                 (kept ∙ sym text.same_rule);
-            set = made.call.set;
+            set = does.set;
             pending = omega (arith, none_left);
             none_pending = λ is_last is_empty.
                 absurd (not_at_end last stop not_ended is_last is_empty);
@@ -342,8 +346,8 @@ module _ {e : Encoding} {life : LifeCycle} {v : CodecState} {src : List ℕ} {la
             escape = escape;
             held = λ l a _. inl none_left;
           }) (accounted_all none_left)
-          (λ _ y _. text_goes_on text reads_held.within done (decoder_state_of e Converting w)
-          some_done made.call.set (accounted_all none_left) (λ y. refl) y)
+          (λ _ y _. text_goes_on text within done (decoder_state_of e Converting w)
+          some_done does.set (accounted_all none_left) (λ y. refl) y)
           (rw not_ended (sym (none_awaited_now done refl)))
           (sym none_held_now)
           (sym not_ended)
@@ -353,8 +357,8 @@ module _ {e : Encoding} {life : LifeCycle} {v : CodecState} {src : List ℕ} {la
         → length w.pending + left ≡ 1
         → Leaves (decoder_state_of e ConvertingWithPendingBb w)
     stays_bb not_ended nothing_read two one =
-        let leaves : LeavesBb v w src done left read life =
-        leaves_bb reads_held made.accounted nothing_read two one in
+        let leaves : LeavesBb v w src done total life =
+        leaves_bb made.call.accounted nothing_read two one in
         let all_read : bytes_read ≡ 0xEF ∷ 0xBB ∷ [] =
         ap (λ k. pending ++ take k src) nothing_read ∙ append-nil pending
         ∙ text.holds.held ∙ ap (λ x. x ++ held) leaves.none ∙ leaves.unread in
@@ -376,7 +380,7 @@ module _ {e : Encoding} {life : LifeCycle} {v : CodecState} {src : List ℕ} {la
               (kept ∙ sym text.same_rule)
               ∙ ap (λ k. sequences_of (rule_of e) w.set (0xBB ∷ (drop k src ++ y)))
               (sym nothing_read);
-          set = made.call.set;
+          set = does.set;
           pending = sym one;
           none_pending = λ is_last is_empty.
               absurd (not_at_end last stop not_ended is_last is_empty);
@@ -387,12 +391,12 @@ module _ {e : Encoding} {life : LifeCycle} {v : CodecState} {src : List ℕ} {la
             | inr some_left ↦ inr (
               omega (arith, one, some_left),
               omega (arith, one, some_left, two, nothing_read),
-              (leaves.none, made.accounted),
+              (leaves.none, made.call.accounted),
             )
           ];
         }) accounted
-        (λ _ y _. text_goes_on text reads_held.within done
-        (decoder_state_of e ConvertingWithPendingBb w) (λ _. some) made.call.set accounted
+        (λ _ y _. text_goes_on text within done
+        (decoder_state_of e ConvertingWithPendingBb w) (λ _. some) does.set accounted
         (λ y. refl) y)
         (rw not_ended (sym (none_once_done (marks_of life) done (0xBB ∷ []) some)))
         (rw (nothing_read, leaves.state) refl) (sym not_ended)

@@ -14,7 +14,8 @@ use Rattle.enc_utf8.specs.declared.coder_result.CoderResult.TheVariants as coder
 use Rattle.enc_output.specs.Results.{decoder_result_of}
 use Rattle.enc_utf8.specs.Text.{units_of_text}
 use Rattle.enc_decoder.specs.Sequence.{Sequence, sequence_text, is_malformed, any_malformed}
-use Rattle.enc_decoder.specs.Call.{DecodeErrorMode, reaches_end}
+use Rattle.enc_decoder.specs.declared.error_mode.ErrorMode.{ErrorMode}
+use Rattle.enc_decoder.specs.Call.{reaches_end}
 use Rattle.enc_decoder.specs.Remainder.{Remainder, AreBytes}
 use Rattle.enc_decoder.proofs.SequenceLemmas.{units-append, any_malformed-append}
 use Rattle.enc_decoder.proofs.SegmentationLemmas.{sequences_of-nil}
@@ -77,7 +78,7 @@ module _ {handling : BomHandling} {e : Encoding} {bytes src : List ℕ} {old : D
     {before : List ℕ} {had : Bool} (decoded : HasDecoded handling e bytes src true old before had)
   where
     -- if the call puts out all sequences that it does, their text is appended
-    goes_on : {new : DecoderState} {mode : DecodeErrorMode} {room read : ℕ}
+    goes_on : {new : DecoderState} {mode : ErrorMode} {room read : ℕ}
         {result : DecoderResult} {after : List ℕ} {replaced : Bool}
         (decodes : DecodesChunk encode_utf8 old new (record {
           src = src;
@@ -145,7 +146,7 @@ pub still_open : (result : CoderResult) {old new : DecoderState} {src : List ℕ
 still_open result decodes goes_on = decodes.finished ∙ not_at_end result goes_on
 
 -- with enough room a call is never full
-pub never_full : {units_of : ℕ → List ℕ} {mode : DecodeErrorMode} (length_answered : Option ℕ)
+pub never_full : {units_of : ℕ → List ℕ} {mode : ErrorMode} (length_answered : Option ℕ)
     (old : Remainder) {src : List ℕ} {room : ℕ}
     → IfSome length_answered (IsEnough units_of mode old (length src))
     → HasRoomFor length_answered room → AreBytes src

@@ -8,13 +8,11 @@ use Rattle.std.specs.Char.Escape.{encode_utf16}
 use Rattle.enc_stream.specs.declared.encoding.Encoding.{Encoding}
 use Rattle.enc_output.specs.declared.decoder_result.DecoderResult.{DecoderResult}
 use Rattle.enc_output.specs.declared.decoder_result.DecoderResult.TheVariants.{InputEmpty, OutputFull, Malformed}
-use Rattle.enc_output.specs.Output.{Output}
 use Rattle.enc_utf8.specs.Text.{DetermineTexts, units_of_text}
 use Rattle.enc_utf8.proofs.LengthLemmas.{lengths}
 use Rattle.enc_decoder.specs.Sequence.{Sequence, sequence_bytes, sequence_text, set_after}
 use Rattle.enc_decoder.specs.Remainder.{AreFirstSequences, AreDetermined}
-use Rattle.enc_decoder.specs.Call.{DecodeErrorMode}
-use Rattle.enc_decoder.specs.CallRecord.{Call}
+use Rattle.enc_decoder.specs.CallRecord.{Call, CallInto}
 use Rattle.enc_decoder.specs.RuleLaws.{HasTexts}
 use Rattle.enc_decoder.proofs.NeedLemmas.{meets_need}
 use Rattle.enc_decoder.proofs.SegmentationLemmas.{first_of}
@@ -190,12 +188,9 @@ converts {units_of} c determine takes holds going decodes = record {
   progress = λ goes_on roomy. less_left takes c roomy c.result decodes goes_on;
 }
 
-pub converts_into : {units_of : ℕ → List ℕ} {mode : DecodeErrorMode} {old new : DecoderState}
-    → DetermineTexts units_of → HoldsMarks old → has_finished old ≡ false
-    → {src : List ℕ} {last : Bool} {before after : Output} {result : DecoderResult} {read : ℕ}
-    {replaced : Bool}
-    → DecodesInto units_of mode old new src last before after result read replaced
-    → AnswersDecodeInto units_of mode old new src last before after result read replaced
+pub converts_into : {units_of : ℕ → List ℕ} {old new : DecoderState} → DetermineTexts units_of
+    → HoldsMarks old → has_finished old ≡ false → {c : CallInto} → DecodesInto units_of old new c
+    → AnswersDecodeInto units_of old new c
 converts_into determine holds going decodes = record {
   wrote = decodes.wrote;
   onto = decodes.onto;

@@ -11,7 +11,6 @@ use Rattle.enc_stream.specs.declared.life_cycle.LifeCycle.TheVariants.{Convertin
 use Rattle.enc_decoder.specs.Sequence.{Sequence, sequence_bytes}
 use Rattle.enc_decoder.specs.CodecState.{CodecState}
 use Rattle.enc_stream.specs.LifeCycle.{awaits_mark, held_mark_bytes, unread_bytes, HeldBytesMatchCodec}
-use Rattle.enc_decoder.specs.Converting.{ReadsHeldFirst}
 use Rattle.enc_decoder.proofs.JoinedCallLemmas.{no_bytes}
 use Rattle.enc_stream.proofs.LifeCycleLemmas.{second_if_two, held_are_few}
 use Rattle.enc_stream.proofs.PendingBytesLemmas.{none_unread}
@@ -30,31 +29,30 @@ one_and_rest front rest bytes b same one = (
   sym (drop-append_seam front rest) ∙ rw (one, same) refl,
 )
 
--- the codec does EF of EF BB and leaves BB
-pub record LeavesBb (v w : CodecState) (src : List ℕ) (done : List Sequence) (left read : ℕ)
+-- of EF BB and the bytes after them the codec reads `total`, does EF and leaves BB
+pub record LeavesBb (v w : CodecState) (src : List ℕ) (done : List Sequence) (total : ℕ)
     (life : LifeCycle) : Type 0 where
   pub state : life ≡ SeenUtf8Second
   pub unread : unread_bytes life (length v.pending) ≡ 0xEF ∷ 0xBB ∷ []
   pub none : v.pending ≡ []
   pub done_bytes : sequence_bytes done ≡ 0xEF ∷ []
-  pub bb_left : w.pending ++ drop (length (unread_bytes life (length v.pending)) - left + read)
-      (unread_bytes life (length v.pending) ++ src) ≡ 0xBB ∷ src
+  pub bb_left : w.pending ++ drop total (unread_bytes life (length v.pending) ++ src) ≡ 0xBB ∷ src
 
-pub leaves_bb : {v w : CodecState} {src : List ℕ} {done : List Sequence} {left read : ℕ}
+pub leaves_bb : {v w : CodecState} {src : List ℕ} {done : List Sequence} {total : ℕ}
     {life : LifeCycle}
-    → ReadsHeldFirst (unread_bytes life (length v.pending)) src left read
-    → v.pending ++ take (length (unread_bytes life (length v.pending)) - left + read)
-    (unread_bytes life (length v.pending) ++ src) ≡ sequence_bytes done ++ w.pending
-    → read ≡ 0 → length (unread_bytes life (length v.pending)) ≡ 2 → length w.pending + left ≡ 1
-    → LeavesBb v w src done left read life
-leaves_bb {v} {w} {src} {done} {left} {read} {life} reads_held accounted nothing_read two one =
+    → v.pending ++ take total (unread_bytes life (length v.pending) ++ src)
+    ≡ sequence_bytes done ++ w.pending
+    → total - length (unread_bytes life (length v.pending)) ≡ 0
+    → length (unread_bytes life (length v.pending)) ≡ 2
+    → length w.pending + (length (unread_bytes life (length v.pending)) - total) ≡ 1
+    → LeavesBb v w src done total life
+leaves_bb {v} {w} {src} {done} {total} {life} accounted nothing_read two one =
     let held : List ℕ = unread_bytes life (length v.pending) in
-    let total : ℕ = length held - left + read in
     let two_held_bytes = two_bytes life (length v.pending) two in
     let none : v.pending ≡ [] = no_bytes v.pending two_held_bytes.1 in
     let unread : held ≡ 0xEF ∷ 0xBB ∷ [] = rw (none, two_held_bytes.0) refl in
     let one_done : length (sequence_bytes done) ≡ 1 =
-    omega (arith, lengths, ap length accounted, ap length none, reads_held.most) in
+    omega (arith, lengths, ap length accounted, ap length none, two) in
     let whole : sequence_bytes done ++ (w.pending ++ drop total (held ++ src)) ≡ 0xEF
     ∷ (0xBB ∷ src) =
     sym (append_assoc (sequence_bytes done) w.pending (drop total (held ++ src)))
@@ -72,15 +70,14 @@ leaves_bb {v} {w} {src} {done} {left} {read} {life} reads_held accounted nothing
     }
 
 -- the codec then has BB, or hasn't read it
-pub holds_bb : {v w : CodecState} {src : List ℕ} {done : List Sequence} {left read : ℕ}
+pub holds_bb : {v w : CodecState} {src : List ℕ} {done : List Sequence} {total : ℕ}
     {life : LifeCycle}
-    → LeavesBb v w src done left read life → length w.pending + left ≡ 1
+    → LeavesBb v w src done total life → length w.pending ≤ 1
     → HeldBytesMatchCodec ConvertingWithPendingBb w
-holds_bb {v} {w} {src} {left = left} {read} {life} leaves one = record {
+holds_bb {v} {w} {src} {total = total} {life} leaves few = record {
   unread = λ awaits. absurd (false≢true awaits);
-  held =
-      by_pending w.pending (drop (length (unread_bytes life (length v.pending)) - left + read)
-      (unread_bytes life (length v.pending) ++ src)) leaves.bb_left (omega arith);
+  held = by_pending w.pending (drop total (unread_bytes life (length v.pending) ++ src))
+      leaves.bb_left few;
 }
   where
     by_pending : (pending rest : List ℕ) → pending ++ rest ≡ 0xBB ∷ src → length pending ≤ 1

@@ -16,7 +16,6 @@ use Rattle.enc_stream.specs.Bom.{Mark, find_mark, marks_begun, sequences_by_mark
 use Rattle.enc_stream.specs.LifeCycle.{marks_of, awaits_mark, held_mark_bytes, has_ended, held_or_pending_bytes}
 use Rattle.enc_stream.specs.LifeCycle.{decoder_state_of, unread_bytes, HeldBytesMatchCodec}
 use Rattle.enc_stream.specs.Sniffing.{HasNoMark}
-use Rattle.enc_decoder.specs.Converting.{ReadsHeldFirst}
 use Rattle.enc_stream.specs.Decoding.{DecoderState, remaining_sequences, decoder_remainder}
 use Rattle.enc_stream.proofs.MarkFirstLemmas.{undetermined_in}
 use Rattle.enc_stream.proofs.BegunMarkLemmas.{begun_are_longer}
@@ -176,18 +175,19 @@ module _ {e : Encoding} {life : LifeCycle} {v : CodecState} {src : List ℕ} {la
         awaited.0 (determines y are_bytes))));
   }
 
-  pub reads_on : {left read : ℕ} (c : Call) → ReadsHeldFirst held src left read
-      → c.read ≡ length held - left + read → MatchesRead (shifts c) read
-  reads_on {left} {read} c held_first total = record {
-    within = held_first.within;
-    there = omega (arith, total, held_first.most);
+  -- It reads the bytes held first.
+  pub reads_on : {total : ℕ} (c : Call) → total ≤ length held + length src → c.read ≡ total
+      → MatchesRead (shifts c) (total - length held)
+  reads_on {total} c within is_total = record {
+    within = omega (arith, within);
+    there = omega (arith, is_total);
     back = omega arith;
     soon = omega (arith, settled_soon life);
-    exact = elim held_first.first [
-      | inl none_left ↦ by_number read (omega (arith, total))
-      | inr none_read ↦ inl none_read
+    exact = elim (most_or_more (length held) total) [
+      | inl past ↦ by_number (total - length held) (omega (arith, is_total, past))
+      | inr within_held ↦ inl (omega (arith, within_held))
     ];
-    none = λ none_read. inl (omega (arith, total, none_read));
+    none = λ none_read. inl (omega (arith, is_total, none_read));
   }
     where
       by_number : (n : ℕ) → length held + n ≡ c.read

@@ -9,12 +9,13 @@ use Rattle.enc_output.specs.declared.decoder_result.DecoderResult.TheVariants as
 use Rattle.enc_utf8.specs.declared.coder_result.CoderResult.{CoderResult}
 use Rattle.enc_stream.specs.declared.encoding.Encoding.{Encoding}
 use Rattle.enc_stream.specs.declared.bom.BomHandling.{BomHandling}
-use Rattle.enc_output.specs.Output.{Output, with_appended}
+use Rattle.enc_output.specs.Output.{with_appended}
 use Rattle.enc_utf8.specs.Text.{units_of_text}
 use Rattle.enc_decoder.specs.Sequence.{Sequence, sequence_bytes, sequence_text, any_malformed, set_after}
 use Rattle.enc_decoder.specs.Remainder.{Remainder, AreFirstSequences}
-use Rattle.enc_decoder.specs.Call.{DecodeErrorMode, Replacement, Fatal, reaches_end}
-use Rattle.enc_decoder.specs.CallRecord.{Call, IsCall}
+use Rattle.enc_decoder.specs.declared.error_mode.ErrorMode.TheVariants.{Replacement, Fatal}
+use Rattle.enc_decoder.specs.Call.{IsCall, reaches_end}
+use Rattle.enc_decoder.specs.CallRecord.{Call, CallInto, call_writing}
 use Rattle.enc_decoder.specs.Need.{MeetsDecodeNeed}
 use Rattle.enc_decoder.specs.RuleLaws.{HasTexts, IsSmallText}
 use Rattle.enc_stream.specs.Encodings.{rule_of}
@@ -119,21 +120,11 @@ pub record DecodesChunk (units_of : ℕ → List ℕ) (old new : DecoderState) (
   pub finished : new.finished ≡ reaches_end c.last c.result
 
 -- the same, for a call that appends what it writes to an output
-pub record DecodesInto (units_of : ℕ → List ℕ) (mode : DecodeErrorMode) (old new : DecoderState)
-    (src : List ℕ) (last : Bool) (before after : Output) (result : DecoderResult) (read : ℕ)
-    (replaced : Bool) : Type 0 where
+pub record DecodesInto (units_of : ℕ → List ℕ) (old new : DecoderState)
+    (c : CallInto) : Type 0 where
   pub wrote : List ℕ
-  pub onto : after ≡ with_appended before wrote
-  pub decodes : DecodesChunk units_of old new (record {
-    src = src;
-    last = last;
-    mode = mode;
-    room = before.room;
-    result = result;
-    read = read;
-    wrote = wrote;
-    replaced = replaced;
-  })
+  pub onto : c.after ≡ with_appended c.before wrote
+  pub decodes : DecodesChunk units_of old new (call_writing c wrote)
 
 -- A call with replacement, by its values one by one.
 abbrev pub replacing_call : List ℕ → Bool → ℕ → CoderResult → ℕ → List ℕ → Bool → Call
@@ -153,7 +144,7 @@ abbrev pub reporting_call : List ℕ → Bool → ℕ → DecoderResult → ℕ 
 reporting_call src last room result read wrote = record {
   src = src;
   last = last;
-  mode = Fatal false;
+  mode = Fatal;
   room = room;
   result = result;
   read = read;
@@ -195,8 +186,7 @@ pub record AnswersDecode (units_of : ℕ → List ℕ) (least : ℕ) (old new : 
     : Type 0 where
   pub decodes : DecodesChunk units_of old new c
   -- The output is full exactly if the call needs more than its room.
-  pub need : MeetsDecodeNeed units_of c.mode (decoder_remainder old) (decoder_remainder new) c.src
-      c.last c.room c.result c.read (length c.wrote)
+  pub need : MeetsDecodeNeed units_of (decoder_remainder old) (decoder_remainder new) c
   -- If it is full, with nothing read and nothing written, the decoder is unchanged, except for
   -- pending escape sequences that are now skipped. In an encoding without these it is unchanged.
   pub unchanged : c.result ≡ raw.OutputFull → c.read ≡ 0 → c.wrote ≡ []
@@ -208,22 +198,12 @@ pub record AnswersDecode (units_of : ℕ → List ℕ) (least : ℕ) (old new : 
       → LeavesFewerBytes old new c.src c.read
 
 -- the same, for a call that appends what it writes to an output
-pub record AnswersDecodeInto (units_of : ℕ → List ℕ) (mode : DecodeErrorMode)
-    (old new : DecoderState) (src : List ℕ) (last : Bool) (before after : Output)
-    (result : DecoderResult) (read : ℕ) (replaced : Bool) : Type 0 where
+pub record AnswersDecodeInto (units_of : ℕ → List ℕ) (old new : DecoderState)
+    (c : CallInto) : Type 0 where
   pub wrote : List ℕ
-  pub onto : after ≡ with_appended before wrote
+  pub onto : c.after ≡ with_appended c.before wrote
   pub converts : (least : ℕ) → TakesSmallTexts units_of least
-      → AnswersDecode units_of least old new (record {
-        src = src;
-        last = last;
-        mode = mode;
-        room = before.room;
-        result = result;
-        read = read;
-        wrote = wrote;
-        replaced = replaced;
-      })
+      → AnswersDecode units_of least old new (call_writing c wrote)
 
 -- The result of some calls of an encoding's decoder: of the bytes given so far, `unread` remain. If
 -- `ended`, nothing follows them.

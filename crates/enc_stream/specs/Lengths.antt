@@ -2,7 +2,8 @@
 use Rattle.std.specs.Prelude.{◌≡◌, ℕ, Bool, true, false, Option, Some, None, List, [], ◌∷◌, length}
 use Rattle.std.specs.Char.{encode_utf8}
 use Rattle.std.specs.Char.Escape.{encode_utf16}
-use Rattle.enc_decoder.specs.Call.{DecodeErrorMode, Replacement, Fatal}
+use Rattle.enc_decoder.specs.declared.error_mode.ErrorMode.{ErrorMode}
+use Rattle.enc_decoder.specs.declared.error_mode.ErrorMode.TheVariants.{Replacement, Fatal}
 use Rattle.enc_decoder.specs.Remainder.{AreBytes}
 use Rattle.enc_decoder.specs.Need.{NeedExceeds}
 use Rattle.enc_utf8.specs.Checked.{checked_add, checked_max}
@@ -61,15 +62,15 @@ query_units Utf8Reporting = encode_utf8
 query_units Utf16 = encode_utf16
 
 -- the query is for calls of this error mode
-abbrev pub IsForMode : Query → DecodeErrorMode → Type 0
+abbrev pub IsForMode : Query → ErrorMode → Type 0
 IsForMode Utf8 Replacement = Unit {0}
-IsForMode Utf8 (Fatal keeps_room) = ⊥
+IsForMode Utf8 Fatal = ⊥
 IsForMode Utf8Reporting Replacement = ⊥
-IsForMode Utf8Reporting (Fatal keeps_room) = Unit {0}
+IsForMode Utf8Reporting Fatal = Unit {0}
 IsForMode Utf16 mode = Unit {0}
 
 -- The room is enough for any call with n bytes: its need does not exceed it.
-abbrev pub IsEnoughRoom : (ℕ → List ℕ) → DecodeErrorMode → DecoderState → ℕ → ℕ → Type 0
+abbrev pub IsEnoughRoom : (ℕ → List ℕ) → ErrorMode → DecoderState → ℕ → ℕ → Type 0
 IsEnoughRoom units_of mode d n room =
     (src : List ℕ) (last : Bool) → AreBytes src → length src ≡ n
     → NeedExceeds units_of mode (decoder_remainder d) src last room → ⊥

@@ -5,8 +5,9 @@ ghost use Rattle.std.specs.Char.{encode_utf8};
 ghost use Rattle.std.specs.Char.Escape.{encode_utf16};
 ghost use Rattle.std.specs.Str.{IsUtf8};
 ghost use Rattle.enc_output.specs.Results.{decoder_result_of};
-ghost use Rattle.enc_decoder.specs.Call.{Replacement, Fatal, reaches_end};
-ghost use Rattle.enc_decoder.specs.Replacing.{replaces, decode_error_mode};
+ghost use Rattle.enc_decoder.specs.declared.error_mode.ErrorMode.TheVariants.{Replacement, Fatal};
+ghost use Rattle.enc_decoder.specs.Call.{reaches_end};
+ghost use Rattle.enc_decoder.specs.CallRecord.{call_into};
 ghost use Rattle.enc_stream.specs.Decoding.{has_finished, LeavesFewerBytes, AnswersDecodeInto};
 ghost use Rattle.enc_stream.specs.Decoding.{AnswersDecode, ReportsBytesSoFar};
 
@@ -79,9 +80,11 @@ fn unreported(stop: DecoderResult) -> CoderResult
 }
 
 impl Decoder {
-    /// Decodes until all input is read, the next sequence does not fit, or, without replacement,
-    /// one is malformed.
-    fn convert<U: Units>(
+    /// Decodes a chunk, after a byte order mark that is looked for.
+    ///
+    /// It stops when all input is read, when the next sequence does not fit, and in error mode
+    /// "fatal" when one is malformed.
+    fn decode_chunk<U: Units>(
         &mut self,
         src: &[u8],
         out: &mut U,
@@ -89,9 +92,9 @@ impl Decoder {
         mode: ErrorMode,
     ) -> DecoderOutcome
         requires unfinished { has_finished self.old ≡ false }
-        ensures { AnswersDecodeInto U.units_of (decode_error_mode (replaces mode)) self.old self.new
-            src.now last (U.output out.old) (U.output out.new) result.result result.read
-            result.replaced }
+        ensures { AnswersDecodeInto U.units_of self.old self.new
+            (call_into src.now (record { last = last; mode = mode }) (U.output out.old)
+            (U.output out.new) result) }
     {
         U::laws();
         let (sniffed, len) = sniff(self.life, src, last);
@@ -170,7 +173,7 @@ impl Decoder {
             LeavesFewerBytes self.old self.new src.now result.1 }
     {
         let mut out = Utf8Slice::new(dst);
-        let outcome = self.convert(src, &mut out, last, ErrorMode::Replacement);
+        let outcome = self.decode_chunk(src, &mut out, last, ErrorMode::Replacement);
         (
             unreported(outcome.result),
             outcome.read,
@@ -215,7 +218,7 @@ impl Decoder {
         ensures call { AnswersDecode encode_utf8 4 self.old self.new (record {
           src = src.now;
           last = last;
-          mode = Fatal false;
+          mode = Fatal;
           room = length dst.old;
           result = result.0;
           read = result.1;
@@ -233,7 +236,7 @@ impl Decoder {
             LeavesFewerBytes self.old self.new src.now result.1 }
     {
         let mut out = Utf8Slice::new(dst);
-        let outcome = self.convert(src, &mut out, last, ErrorMode::Fatal);
+        let outcome = self.decode_chunk(src, &mut out, last, ErrorMode::Fatal);
         (outcome.result, outcome.read, out.len())
     }
 
@@ -279,7 +282,7 @@ impl Decoder {
             LeavesFewerBytes self.old self.new src.now result.1 }
     {
         let mut units = Utf16Slice::new(dst);
-        let outcome = self.convert(src, &mut units, last, ErrorMode::Replacement);
+        let outcome = self.decode_chunk(src, &mut units, last, ErrorMode::Replacement);
         (
             unreported(outcome.result),
             outcome.read,
@@ -306,7 +309,7 @@ impl Decoder {
         ensures call { AnswersDecode encode_utf16 2 self.old self.new (record {
           src = src.now;
           last = last;
-          mode = Fatal false;
+          mode = Fatal;
           room = length dst.old;
           result = result.0;
           read = result.1;
@@ -323,7 +326,7 @@ impl Decoder {
             LeavesFewerBytes self.old self.new src.now result.1 }
     {
         let mut units = Utf16Slice::new(dst);
-        let outcome = self.convert(src, &mut units, last, ErrorMode::Fatal);
+        let outcome = self.decode_chunk(src, &mut units, last, ErrorMode::Fatal);
         (outcome.result, outcome.read, units.len())
     }
 }

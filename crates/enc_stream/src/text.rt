@@ -3,7 +3,7 @@
 ghost use Rattle.std.specs.Prelude.{◌≡◌, ℕ, ◌+◌, ◌-◌, ◌≤◌, ◌++◌, false, length};
 ghost use Rattle.enc_stream.specs.declared.encoding.Encoding.{Encoding};
 ghost use Rattle.enc_stream.specs.Encodings.{rule_of};
-ghost use Rattle.enc_decoder.specs.Replacing.{replaces, decode_error_mode};
+ghost use Rattle.enc_decoder.specs.CallRecord.{call_into};
 ghost use Rattle.enc_stream.specs.Decoding.{DecodesInto};
 ghost use Rattle.enc_stream.specs.LifeCycle.{has_ended, unread_bytes, decoder_state_of};
 ghost use Rattle.enc_stream.specs.LifeCycle.{HeldBytesMatchCodec};
@@ -37,11 +37,9 @@ pub(crate) fn decode_text<D: RawDecoder, U: Units>(
     requires text { HasNoMark life.old src.now options.last }
     requires holds { HeldBytesMatchCodec life.old (D.state codec.old) }
     ensures call { (e : Encoding) → rule_of e ≡ (D.state codec.old).rule →
-        DecodesInto U.units_of (decode_error_mode (replaces options.mode))
-        (decoder_state_of e life.old (D.state codec.old))
+        DecodesInto U.units_of (decoder_state_of e life.old (D.state codec.old))
         (decoder_state_of e life.new (D.state codec.new))
-        src.now options.last (U.output out.old) (U.output out.new) result.result result.read
-        result.replaced }
+        (call_into src.now options (U.output out.old) (U.output out.new) result) }
     ensures rule { (D.state codec.new).rule ≡ (D.state codec.old).rule }
     ensures formulas { D.formulas codec.new ≡ D.formulas codec.old }
     ensures holds { HeldBytesMatchCodec life.new (D.state codec.new) }

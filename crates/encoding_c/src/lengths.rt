@@ -3,7 +3,8 @@
 ghost use Rattle.std.specs.Prelude.{◌≡◌, ◌≢◌, ◌-◌, ◌^◌, true, false};
 ghost use Rattle.std.specs.Char.{encode_utf8};
 ghost use Rattle.std.specs.Char.Escape.{encode_utf16};
-ghost use Rattle.enc_decoder.specs.Call.{DecodeErrorMode, Replacement, Fatal};
+ghost use Rattle.enc_decoder.specs.declared.error_mode.ErrorMode.{ErrorMode};
+ghost use Rattle.enc_decoder.specs.declared.error_mode.ErrorMode.TheVariants.{Replacement, Fatal};
 ghost use Rattle.enc_encoder.specs.Lengths.{from_utf_8_length, from_utf_16_length};
 ghost use Rattle.enc_utf8.specs.Checked.{checked_add};
 ghost use Rattle.enc_stream.specs.Decoding.{has_finished};
@@ -56,7 +57,7 @@ pub extern "C" fn encoding_c_max_utf8_buffer_length_without_replacement(
         result ≡ number_of_length (max_reporting_length decoder.old.value byte_length) }
     ensures finished { has_finished decoder.old.value ≡ true → result ≡ 2 ^ 64 - 1 }
     ensures enough { has_finished decoder.old.value ≡ false → result ≢ 2 ^ 64 - 1 →
-        IsEnoughRoom encode_utf8 (Fatal false) decoder.old.value byte_length result }
+        IsEnoughRoom encode_utf8 Fatal decoder.old.value byte_length result }
 {
     let inner = decoder.get();
     if inner.is_finished() {
@@ -81,7 +82,7 @@ pub extern "C" fn encoding_c_max_utf16_buffer_length(
         result ≡ number_of_length (max_utf_16_length decoder.old.value byte_length) }
     ensures finished { has_finished decoder.old.value ≡ true → result ≡ 2 ^ 64 - 1 }
     ensures enough { has_finished decoder.old.value ≡ false → result ≢ 2 ^ 64 - 1 →
-        (mode : DecodeErrorMode) →
+        (mode : ErrorMode) →
         IsEnoughRoom encode_utf16 mode decoder.old.value byte_length result }
 {
     let inner = decoder.get();

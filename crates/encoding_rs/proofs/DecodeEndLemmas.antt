@@ -11,7 +11,7 @@ use Rattle.encoding_rs.specs.declared.run.DecodeCall.{DecodeCall}
 use Rattle.enc_stream.specs.Decoding.{has_finished, TakesSmallTexts}
 use Rattle.encoding_rs.specs.Run.{units_of_call, DecodeRunState, DecodeRunAdvances, decode_run_start}
 use Rattle.encoding_rs.specs.DecodeEnd.{most_units, CanDecodeMore}
-use Rattle.enc_decoder.specs.Replacing.{decode_error_mode}
+use Rattle.enc_decoder.specs.Call.{decode_error_mode}
 use Rattle.enc_stream.proofs.DecoderProgressLemmas.{nearer}
 use Rattle.enc_stream.proofs.OutputFullLemmas.{four_bytes, two_units}
 use Rattle.encoding_rs.proofs.RunLemmas.{IsRun, ends_within}

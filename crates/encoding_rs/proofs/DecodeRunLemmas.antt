@@ -15,7 +15,7 @@ use Rattle.enc_utf8.specs.Text.{units_of_text}
 use Rattle.enc_decoder.specs.Sequence.{Sequence, sequence_bytes, sequence_text, any_malformed}
 use Rattle.enc_decoder.specs.Call.{is_replacement_mode, DecoderStops}
 use Rattle.enc_decoder.specs.CallRecord.{Call}
-use Rattle.enc_decoder.specs.Replacing.{decode_error_mode}
+use Rattle.enc_decoder.specs.Call.{decode_error_mode}
 use Rattle.enc_stream.specs.Decoding.{has_finished, remaining_sequences, decoder_remainder, DecodesChunk}
 use Rattle.enc_stream.specs.Decoding.{whole_sequences, whole_encoding, whole_utf_8, whole_malformed, marks_after}
 use Rattle.encoding_rs.specs.Run.{units_of_call, is_malformed_result, replacement_text, fault_of_result}

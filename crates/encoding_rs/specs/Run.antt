@@ -11,7 +11,7 @@ use Rattle.enc_output.specs.declared.decoder_result.DecoderResult.{DecoderResult
 use Rattle.enc_output.specs.declared.decoder_result.DecoderResult.TheVariants.{InputEmpty, OutputFull, Malformed}
 use Rattle.enc_utf8.specs.Text.{AreScalars, units_of_text}
 use Rattle.enc_decoder.specs.Sequence.{Sequence, sequence_bytes, sequence_text, any_malformed}
-use Rattle.enc_decoder.specs.Replacing.{decode_error_mode}
+use Rattle.enc_decoder.specs.Call.{decode_error_mode}
 use Rattle.enc_stream.specs.Decoding.{DecoderState, fresh_decoder, has_finished, whole_sequences, DecodesChunk}
 use Rattle.enc_stream.specs.Faults.{faults_from}
 

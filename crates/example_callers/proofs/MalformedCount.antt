@@ -6,7 +6,8 @@ use Rattle.std.specs.Char.{encode_utf8}
 use Rattle.enc_output.specs.declared.decoder_result.DecoderResult.{DecoderResult}
 use Rattle.enc_output.specs.declared.decoder_result.DecoderResult.TheVariants as raw
 use Rattle.enc_decoder.specs.Sequence.{Sequence, is_malformed, any_malformed}
-use Rattle.enc_decoder.specs.Call.{DecoderStops, Fatal}
+use Rattle.enc_decoder.specs.declared.error_mode.ErrorMode.TheVariants.{Fatal}
+use Rattle.enc_decoder.specs.Call.{DecoderStops}
 use Rattle.std.proofs.lemmas.Bool.{or_parts}
 use Rattle.encoding_rs.specs.Decoding.{DecoderState, decoder_remainder, remaining_sequences, DecodesChunk}
 use Rattle.encoding_rs.specs.Decoding.{reporting_call}
@@ -51,7 +52,7 @@ counts_now {old} {new} {src} {room} result {read} decodes =
   where
     by_result : (r : DecoderResult)
         → DecoderStops encode_utf8 (decoder_remainder old) (decoder_remainder new) src true
-        (Fatal false) room decodes.call.put decodes.call.done read r
+        Fatal room decodes.call.put decodes.call.done read r
         → malformed_count decodes.call.done ≡ reported r
     by_result raw.InputEmpty stops = ap malformed_count stops.only_put
         ∙ none_counted decodes.call.put (sym decodes.call.flag)

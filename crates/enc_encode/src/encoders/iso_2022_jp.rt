@@ -13,7 +13,7 @@ ghost use Rattle.enc_encoder.specs.CharLaw.{AreBytesOf};
 use super::japanese::{is_halfwidth_katakana, with_fullwidth_minus};
 use super::katakana::KATAKANA;
 use enc_encoder::{
-    BarredChars, ByteLengths, CharEncoder, CharList, CharacterSet, EncoderStop, NoChars,
+    BarredChars, ByteLengths, CharEncoder, CharList, CharacterSet, EncoderOutcome, NoChars,
     RawEncoder, one, run, two,
 };
 use enc_index_pointers::jis0208;
@@ -262,7 +262,7 @@ impl RawEncoder for Iso2022JpEncoder {
 
     ghost formulas = { λ _. lengths.Iso2022Jp };
 
-    fn encode<C: Chars>(&mut self, src: &mut C, dst: &mut [u8], last: bool) -> EncoderStop {
+    fn encode<C: Chars>(&mut self, src: &mut C, dst: &mut [u8], last: bool) -> EncoderOutcome {
         let set = self.set;
         if self.barred.is_empty() {
             let barred = NoChars;

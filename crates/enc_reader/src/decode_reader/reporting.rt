@@ -3,7 +3,7 @@
 ghost use Rattle.std.specs.Prelude.{◌≡◌, ◌-◌, ◌<◌, ◌≤◌, ◌↔◌, ◌++◌, length, take, drop, true};
 ghost use Rattle.std.specs.Prelude.{[], false, None, IsUtf8, IfOk, OnOk, OnErr, IsErrOf};
 ghost use Rattle.std.specs.Char.{encode_utf8};
-ghost use Rattle.enc_decoder.specs.Call.{Fatal};
+ghost use Rattle.enc_decoder.specs.declared.error_mode.ErrorMode.TheVariants.{Fatal};
 ghost use Rattle.enc_stream.specs.Decoding.{has_finished, AnswersDecode};
 ghost use Rattle.enc_reader.specs.Reporting.{lens_of_result, replacement_of_lens};
 ghost use Rattle.enc_reader.specs.Reporting.{reports_malformed};
@@ -73,7 +73,7 @@ fn report_unread(
     ensures call { AnswersDecode encode_utf8 4 decoder.old decoder.new (record {
       src = take (unread.filled - unread.at) (drop unread.at input.old);
       last = last;
-      mode = Fatal false;
+      mode = Fatal;
       room = length dst.old;
       result = result.result;
       read = result.read;

@@ -3,7 +3,8 @@
 ghost use Rattle.std.specs.Prelude.{◌≡◌, false, IfSome};
 ghost use Rattle.std.specs.Char.{encode_utf8};
 ghost use Rattle.std.specs.Char.Escape.{encode_utf16};
-ghost use Rattle.enc_decoder.specs.Call.{DecodeErrorMode, Replacement, Fatal};
+ghost use Rattle.enc_decoder.specs.declared.error_mode.ErrorMode.{ErrorMode};
+ghost use Rattle.enc_decoder.specs.declared.error_mode.ErrorMode.TheVariants.{Replacement, Fatal};
 ghost use Rattle.enc_stream.specs.declared.lengths.Query.TheVariants as query;
 ghost use Rattle.enc_stream.specs.Latin1.{AnswersDecoderLatin1};
 ghost use Rattle.enc_stream.specs.Lengths.{max_length, IsForMode, query_units, IsEnoughRoom};
@@ -38,7 +39,7 @@ impl Decoder {
     /// Returns the length to allocate for calls of the kind `query`.
     fn max_length(&self, query: Query, byte_length: usize) -> Option<usize>
         ensures length { result ≡ max_length query self.now byte_length }
-        ensures enough { IfSome result (λ room. (mode : DecodeErrorMode) → IsForMode query mode
+        ensures enough { IfSome result (λ room. (mode : ErrorMode) → IsForMode query mode
             → IsEnoughRoom (query_units query) mode self.now byte_length room) }
     {
         let formulas = self.codec.text_lengths();
@@ -73,7 +74,7 @@ impl Decoder {
         requires unfinished { has_finished self.now ≡ false }
         ensures length { result ≡ max_length query.Utf8Reporting self.now byte_length }
         ensures enough { IfSome result
-            (IsEnoughRoom encode_utf8 (Fatal false) self.now byte_length) }
+            (IsEnoughRoom encode_utf8 Fatal self.now byte_length) }
     {
         self.max_length(Query::Utf8Reporting, byte_length)
     }
@@ -85,7 +86,7 @@ impl Decoder {
     pub fn max_utf16_buffer_length(&self, byte_length: usize) -> Option<usize>
         requires unfinished { has_finished self.now ≡ false }
         ensures length { result ≡ max_length query.Utf16 self.now byte_length }
-        ensures enough { IfSome result (λ room. (mode : DecodeErrorMode) →
+        ensures enough { IfSome result (λ room. (mode : ErrorMode) →
             IsEnoughRoom encode_utf16 mode self.now byte_length room) }
     {
         self.max_length(Query::Utf16, byte_length)

@@ -7,7 +7,8 @@ ghost use Rattle.std.specs.Str.{IsUtf8};
 ghost use Rattle.enc_utf8.specs.Validity.{IsWellFormedUtf8};
 ghost use Rattle.enc_output.specs.Rest.{without_continuations};
 ghost use Rattle.enc_output.specs.Results.{decoder_result_of};
-ghost use Rattle.enc_decoder.specs.Call.{Replacement, Fatal, reaches_end};
+ghost use Rattle.enc_decoder.specs.declared.error_mode.ErrorMode.TheVariants.{Replacement, Fatal};
+ghost use Rattle.enc_decoder.specs.Call.{reaches_end};
 ghost use Rattle.enc_stream.specs.Decoding.{has_finished, LeavesFewerBytes};
 ghost use Rattle.enc_stream.specs.Decoding.{AnswersDecode, ReportsBytesSoFar};
 
@@ -76,7 +77,7 @@ impl Decoder {
         ensures call { AnswersDecode encode_utf8 4 self.old self.new (record {
           src = src.now;
           last = last;
-          mode = Fatal false;
+          mode = Fatal;
           room = length dst.old;
           result = result.0;
           read = result.1;
@@ -144,7 +145,7 @@ impl Decoder {
             LeavesFewerBytes self.old self.new src.now result.1 }
     {
         let mut tail = StringTail::new(dst);
-        let outcome = self.convert(src, &mut tail, last, ErrorMode::Replacement);
+        let outcome = self.decode_chunk(src, &mut tail, last, ErrorMode::Replacement);
         (unreported(outcome.result), outcome.read, outcome.replaced)
     }
 
@@ -167,7 +168,7 @@ impl Decoder {
         ensures call { AnswersDecode encode_utf8 4 self.old self.new (record {
           src = src.now;
           last = last;
-          mode = Fatal false;
+          mode = Fatal;
           room = string_capacity dst.old - string_len dst.old;
           result = result.0;
           read = result.1;
@@ -186,7 +187,7 @@ impl Decoder {
             LeavesFewerBytes self.old self.new src.now result.1 }
     {
         let mut tail = StringTail::new(dst);
-        let outcome = self.convert(src, &mut tail, last, ErrorMode::Fatal);
+        let outcome = self.decode_chunk(src, &mut tail, last, ErrorMode::Fatal);
         (outcome.result, outcome.read)
     }
 }

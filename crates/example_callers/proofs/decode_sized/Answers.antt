@@ -2,7 +2,7 @@
 use Rattle.std.proofs.Common.{◌≡◌, ap, refl, subst, length, true, arith, ℕ}
 use Rattle.std.specs.Char.{encode_utf8}
 use Rattle.enc_output.specs.Results.{decoder_result_of}
-use Rattle.enc_decoder.specs.Call.{Replacement}
+use Rattle.enc_decoder.specs.declared.error_mode.ErrorMode.TheVariants.{Replacement}
 use Rattle.enc_decoder.specs.Need.{NeedExceeds}
 use Rattle.encoding_rs.specs.Decoding.{decoder_remainder}
 use Rattle.example_callers.proofs.decode_sized.Goals as goal

@@ -8,7 +8,7 @@ use crate::surface::derives::{are_equal, debug_text};
 use crate::surface::encoders::types::{variant_name, variant_of};
 use crate::surface::samples::{SAMPLES, Sample};
 use enc_encode::{
-    Codec, EncoderResult, EncoderStop, Iso2022JpEncoder, RawEncoder, VariantEncoder, has_encoder,
+    Codec, EncoderResult, EncoderOutcome, Iso2022JpEncoder, RawEncoder, VariantEncoder, has_encoder,
     new_encoder,
 };
 use enc_input::{Utf8Chars, Utf16Chars};
@@ -28,7 +28,7 @@ fn results_of_encoders_are_compared_and_printed(rt: HostRuntime) -> Result<(), F
 }
 
 /// Returns why a call stopped, and the numbers of code units read and of bytes written.
-fn parts(outcome: EncoderStop) -> (EncoderResult, usize, usize) {
+fn parts(outcome: EncoderOutcome) -> (EncoderResult, usize, usize) {
     (outcome.result, outcome.read, outcome.written)
 }
 
@@ -37,7 +37,7 @@ fn parts(outcome: EncoderStop) -> (EncoderResult, usize, usize) {
 fn encode_in_parts<E: RawEncoder>(rt: &impl Abort, encoder: &mut E) {
     let mut dst: [u8; 5] = [0; 5];
     let mut src = Utf8Chars::new("あ");
-    let answer: EncoderStop = encoder.encode(&mut src, &mut dst, false);
+    let answer: EncoderOutcome = encoder.encode(&mut src, &mut dst, false);
     let is_pending: bool = encoder.has_pending_state();
     assert!(rt; (parts(answer), is_pending) == ((EncoderResult::InputEmpty, 3, 5), true));
     assert!(rt; &dst == b"\x1B$B$\"");

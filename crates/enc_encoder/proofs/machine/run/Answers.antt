@@ -10,13 +10,13 @@ use Rattle.enc_encoder.proofs.machine.run.Goals.{then-taken, else-taken}
 pub loop-taken-init : goal.loop-taken-init
 loop-taken-init g c = c.first_run-written.ensures c.args.last _ (omega arith)
 
-pub returns-in_default : goal.returns-in_default
-returns-in_default g c =
+pub returns-in_default-clause-call : goal.returns-in_default-clause-call
+returns-in_default-clause-call g c =
     stop_empty g.C.Chars.units_of c.loop-taken.invariant c.requires.lawful c.unread-unread.ensures
     c.unread.ensures c.in_default.ensures.0 c.in_default.ensures.1
 
-pub returns-in-Some-report : goal.returns-in-Some-report
-returns-in-Some-report g c =
+pub returns-in-Some-report-clause-call : goal.returns-in-Some-report-clause-call
+returns-in-Some-report-clause-call g c =
     let read = report_reads c.in-Some.ensures c.in-Some-report.is c.advance.ensures in
     stop_report g.C.Chars.units_of c.loop-taken.invariant c.requires.lawful
     (step_leaves c.in-Some.ensures read.0) c.unread-unread.ensures c.unread-in-Some-report.ensures
@@ -40,8 +40,8 @@ overflow_sub-result-then-not-put g c =
     (units_read g.C.Chars.units_of _ _ c.loop-taken.invariant.leaves.reads c.unread-unread.ensures
     c.unread-then-not-put.ensures).0
 
-pub returns-then-not-put : goal.returns-then-not-put
-returns-then-not-put g c =
+pub returns-then-not-put-clause-call : goal.returns-then-not-put-clause-call
+returns-then-not-put-clause-call g c =
     rw (c.put.ensures.unchanged c.if-not-put.true)
     (stop_full g.C.Chars.units_of c.loop-taken.invariant c.requires.lawful
     (step_leaves c.in-Some.ensures refl) c.unread-unread.ensures c.unread-then-not-put.ensures

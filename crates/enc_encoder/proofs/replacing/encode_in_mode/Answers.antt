@@ -9,8 +9,12 @@ use Rattle.enc_encoder.proofs.replacing.encode_in_mode.Goals as goal
 pub returns-in-Fatal : goal.returns-in-Fatal
 returns-in-Fatal g c =
     let call =
-    unreplaced_call c.encode-stop.ensures.call c.args.mode c.in-Fatal.is c.requires.mappable in
-    record { within = call.within; rest = call.rest_stays; call = call.call }
+    unreplaced_call c.encode.ensures.call c.args.mode c.in-Fatal.is c.requires.mappable in
+    record {
+      within = call.within;
+      rest = call.rest_stays;
+      call = rw c.encode.ensures.replaced call.call;
+    }
 
 pub returns-then-dst-lt-LONGEST_REFERENCE-clause-call :
     goal.returns-then-dst-lt-LONGEST_REFERENCE-clause-call

@@ -1,6 +1,6 @@
 use Rattle.std.proofs.Common.{IfSome, subst}
 use Rattle.std.specs.Char.{encode_utf8}
-use Rattle.enc_decoder.specs.Call.{Replacement}
+use Rattle.enc_decoder.specs.declared.error_mode.ErrorMode.TheVariants.{Replacement}
 use Rattle.enc_stream.specs.Lengths.{IsEnoughRoom}
 use Rattle.enc_handles.proofs.LengthLemmas.{of_known_length}
 use Rattle.encoding_c.proofs.lengths.encoding_c_max_utf8_buffer_length.Goals as goal

@@ -1,5 +1,5 @@
 use Rattle.std.proofs.Common.{◌≡◌, ◌∙◌, ap, sym, length, take, rules}
-use Rattle.enc_decoder.specs.Replacing.{decode_error_mode}
+use Rattle.enc_decoder.specs.Call.{decode_error_mode}
 use Rattle.enc_decoder.specs.Sequence.{sequence_text}
 use Rattle.encoding_rs.proofs.DecodeCallLemmas.{refilled, by_utf_16}
 use Rattle.encoding_rs.proofs.run.call_to_utf16.Goals as goal

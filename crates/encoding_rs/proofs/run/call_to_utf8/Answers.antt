@@ -2,7 +2,7 @@ use Rattle.std.proofs.Common.{◌≡◌, ◌-◌, ap, sym, rules}
 use Rattle.std.specs.Char.{encode_utf8}
 use Rattle.std.specs.String.{string_bytes, string_capacity, string_len}
 use Rattle.enc_utf8.specs.Text.{units_of_text}
-use Rattle.enc_decoder.specs.Replacing.{decode_error_mode}
+use Rattle.enc_decoder.specs.Call.{decode_error_mode}
 use Rattle.enc_decoder.specs.Sequence.{sequence_text}
 use Rattle.encoding_rs.proofs.run.call_to_utf8.Goals as goal
 

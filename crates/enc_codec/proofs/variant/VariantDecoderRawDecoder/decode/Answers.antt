@@ -10,20 +10,8 @@ returns-in-EucKr-clause-lawful g c = rw c.in-EucKr.is c.decode-in-EucKr.ensures.
 pub returns-in-ShiftJis-clause-lawful : goal.returns-in-ShiftJis-clause-lawful
 returns-in-ShiftJis-clause-lawful g c = rw c.in-ShiftJis.is c.decode-in-ShiftJis.ensures.lawful
 
-pub returns-in-Big5-clause-need : goal.returns-in-Big5-clause-need
-returns-in-Big5-clause-need g c = rw c.in-Big5.is c.decode-in-Big5.ensures.need
-
-pub returns-in-EucKr-clause-need : goal.returns-in-EucKr-clause-need
-returns-in-EucKr-clause-need g c = rw c.in-EucKr.is c.decode-in-EucKr.ensures.need
-
-pub returns-in-ShiftJis-clause-need : goal.returns-in-ShiftJis-clause-need
-returns-in-ShiftJis-clause-need g c = rw c.in-ShiftJis.is c.decode-in-ShiftJis.ensures.need
-
-pub returns-in-Utf16-clause-rule : goal.returns-in-Utf16-clause-rule
-returns-in-Utf16-clause-rule g c = rw c.in-Utf16.is c.decode-in-Utf16.ensures.rule
-
-pub returns-in-Utf16-clause-need : goal.returns-in-Utf16-clause-need
-returns-in-Utf16-clause-need g c = rw c.in-Utf16.is c.decode-in-Utf16.ensures.need
+pub returns-in-Utf16-clause-call : goal.returns-in-Utf16-clause-call
+returns-in-Utf16-clause-call g c = rw c.in-Utf16.is c.decode-in-Utf16.ensures.call
 
 pub returns-in-Utf16-clause-lawful : goal.returns-in-Utf16-clause-lawful
 returns-in-Utf16-clause-lawful g c = rw c.in-Utf16.is c.decode-in-Utf16.ensures.lawful

@@ -13,4 +13,4 @@ returns-then-is_empty-clause-call g c =
     run.result.result run.result.read)
     _ _ _ _ (none_barred _ c.if-is_empty.ensures)
     (ap g.R.Repertoire.bytes_for c.new-encoder.ensures)
-    run.ensures.call.rule run.ensures
+    run.ensures.call.call.rule run.ensures.call

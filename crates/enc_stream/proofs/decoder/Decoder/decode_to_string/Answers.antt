@@ -10,18 +10,18 @@ use Rattle.enc_stream.proofs.decoder.Decoder.decode_to_string.Goals as goal
 
 pub unreported-requires : goal.unreported-requires
 unreported-requires c =
-    record { none_malformed = reports_none four_bytes c.convert-outcome.ensures }
+    record { none_malformed = reports_none four_bytes c.decode_chunk-outcome.ensures refl }
 
 pub returns-clause-call : goal.returns-clause-call
 returns-clause-call c =
     rw c.unreported.ensures (over_text {text = string_bytes c.args.dst.now} four_bytes
-    c.convert-outcome.ensures
+    c.decode_chunk-outcome.ensures
     (rw c.new-tail.ensures.now refl) refl (rw c.new-tail.ensures.room refl) (search rules) refl)
 
 pub returns-clause-appended : goal.returns-clause-appended
 returns-clause-appended c =
-    in_front c.convert-outcome.ensures.wrote
-    (ap (λ (o : Output). o.written) c.convert-outcome.ensures.onto)
+    in_front c.decode_chunk-outcome.ensures.wrote
+    (ap (λ (o : Output). o.written) c.decode_chunk-outcome.ensures.onto)
     (rw c.new-tail.ensures.now refl) refl (search rules)
 
 pub returns-clause-read : goal.returns-clause-read
@@ -38,8 +38,8 @@ returns-clause-progress c = λ on. (returns-clause-call c).progress (still_goes_
 
 pub returns-clause-capacity : goal.returns-clause-capacity
 returns-clause-capacity c =
-    let tail = c.convert-outcome.new.out in
-    let into = c.convert-outcome.ensures in
+    let tail = c.decode_chunk-outcome.new.out in
+    let into = c.decode_chunk-outcome.ensures in
     let len_after : length (string_bytes tail.text.now) ≡ string_len tail.text.now =
     search rules in
     capacity_stays _ into.wrote {len = string_len c.args.dst.now}

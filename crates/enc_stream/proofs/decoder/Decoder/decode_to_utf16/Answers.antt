@@ -6,11 +6,11 @@ use Rattle.enc_stream.proofs.decoder.Decoder.decode_to_utf16.Goals as goal
 
 pub unreported-requires : goal.unreported-requires
 unreported-requires c =
-    record { none_malformed = reports_none two_units c.convert-outcome.ensures }
+    record { none_malformed = reports_none two_units c.decode_chunk-outcome.ensures refl }
 
 pub returns-clause-call : goal.returns-clause-call
 returns-clause-call c =
-    rw c.unreported.ensures (over_slice two_units c.convert-outcome.ensures
+    rw c.unreported.ensures (over_slice two_units c.decode_chunk-outcome.ensures
     (rw c.new-units.ensures.len refl)
     (rw (c.new-units.ensures.now, c.new-units.ensures.len) (omega arith)) (search rules) refl)
 

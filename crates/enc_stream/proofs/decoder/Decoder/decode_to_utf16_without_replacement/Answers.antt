@@ -6,9 +6,9 @@ use Rattle.enc_stream.proofs.decoder.Decoder.decode_to_utf16_without_replacement
 
 pub returns-clause-call : goal.returns-clause-call
 returns-clause-call c =
-    over_slice two_units c.convert-outcome.ensures (rw c.new-units.ensures.len refl)
+    over_slice two_units c.decode_chunk-outcome.ensures (rw c.new-units.ensures.len refl)
     (rw (c.new-units.ensures.now, c.new-units.ensures.len) (omega arith)) (search rules)
-    ((c.convert-outcome.ensures.converts _ two_units).decodes.call.none_replaced refl)
+    ((c.decode_chunk-outcome.ensures.converts _ two_units).decodes.call.none_replaced refl)
 
 pub returns-clause-read : goal.returns-clause-read
 returns-clause-read c = (returns-clause-call c).decodes.call.within

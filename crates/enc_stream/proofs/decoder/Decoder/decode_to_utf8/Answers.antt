@@ -7,11 +7,11 @@ use Rattle.enc_stream.proofs.decoder.Decoder.decode_to_utf8.Goals as goal
 
 pub unreported-requires : goal.unreported-requires
 unreported-requires c =
-    record { none_malformed = reports_none four_bytes c.convert-outcome.ensures }
+    record { none_malformed = reports_none four_bytes c.decode_chunk-outcome.ensures refl }
 
 pub returns-clause-call : goal.returns-clause-call
 returns-clause-call c =
-    rw c.unreported.ensures (over_slice four_bytes c.convert-outcome.ensures
+    rw c.unreported.ensures (over_slice four_bytes c.decode_chunk-outcome.ensures
     (rw c.new-out.ensures.len refl)
     (rw (c.new-out.ensures.now, c.new-out.ensures.len) (omega arith)) (search rules) refl)
 

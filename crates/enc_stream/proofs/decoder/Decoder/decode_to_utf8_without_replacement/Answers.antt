@@ -7,9 +7,9 @@ use Rattle.enc_stream.proofs.decoder.Decoder.decode_to_utf8_without_replacement.
 
 pub returns-clause-call : goal.returns-clause-call
 returns-clause-call c =
-    over_slice four_bytes c.convert-outcome.ensures (rw c.new-out.ensures.len refl)
+    over_slice four_bytes c.decode_chunk-outcome.ensures (rw c.new-out.ensures.len refl)
     (rw (c.new-out.ensures.now, c.new-out.ensures.len) (omega arith)) (search rules)
-    ((c.convert-outcome.ensures.converts _ four_bytes).decodes.call.none_replaced refl)
+    ((c.decode_chunk-outcome.ensures.converts _ four_bytes).decodes.call.none_replaced refl)
 
 pub returns-clause-read : goal.returns-clause-read
 returns-clause-read c = (returns-clause-call c).decodes.call.within

@@ -10,8 +10,8 @@ use Rattle.enc_stream.proofs.OutputFullLemmas.{converts_into}
 use Rattle.enc_stream.proofs.LifeCycleLemmas.{holds_marks}
 use Rattle.enc_stream.proofs.SniffingLemmas.{no_mark_within}
 use Rattle.enc_stream.proofs.AfterMarkLemmas.{all_held, after_prefix, goes_on_after_mark, after_text}
-use Rattle.enc_stream.proofs.decoder.Decoder.convert.Goals as goal
-use Rattle.enc_stream.proofs.decoder.Decoder.convert.Goals.{in-Mark, in-Text}
+use Rattle.enc_stream.proofs.decoder.Decoder.decode_chunk.Goals as goal
+use Rattle.enc_stream.proofs.decoder.Decoder.decode_chunk.Goals.{in-Mark, in-Text}
 
 pub returns-in-Open : goal.returns-in-Open
 returns-in-Open g c =
@@ -26,8 +26,8 @@ returns-in-Open g c =
     (all_held _ _ _ c.self.invariant.0.1 extends
     (sym extends.awaits ∙ sniffed.2) (bytes_of_slice _ c.type_inv.src) sniffed.0))
 
-pub convert_text-of_text-requires-clause-text : goal.convert_text-of_text-requires-clause-text
-convert_text-of_text-requires-clause-text g c = elim c.match-sniffed.branch [
+pub decode_text-of_text-requires-clause-text : goal.decode_text-of_text-requires-clause-text
+decode_text-of_text-requires-clause-text g c = elim c.match-sniffed.branch [
   | in-Mark w ↦
       let none_looked_for : marks_of w.self-in-Mark.inside.life ≡ [] =
       ap (λ (d : DecoderState). d.marks) (w.self-in-Mark.view_is ∙ w.start.ensures) in
@@ -50,8 +50,8 @@ invariant_of-self-2 g c =
       | in-Mark w ↦ rw w.self-inside-is w.self-in-Mark.invariant.1
       | in-Text w ↦ rw w.self-inside-is c.self.invariant.1
     ] in (
-      (rule ∙ sym c.convert_text-of_text.ensures.rule, c.convert_text-of_text.ensures.holds),
-      formulas ∙ sym c.convert_text-of_text.ensures.formulas,
+      (rule ∙ sym c.decode_text-of_text.ensures.rule, c.decode_text-of_text.ensures.holds),
+      formulas ∙ sym c.decode_text-of_text.ensures.formulas,
     )
 
 pub returns : goal.returns
@@ -61,14 +61,14 @@ returns g c =
     c.requires.unfinished (elim c.match-sniffed.branch [
       | in-Mark w ↦
           let completes = rw w.in-Mark.is at c.sniff-sniffed.ensures.sniffed in
-          let rest = rw w.self-inside-is at (c.convert_text-of_text.ensures.call
+          let rest = rw w.self-inside-is at (c.decode_text-of_text.ensures.call
           w.self-in-Mark.inside.encoding (rw w.self-inside-is w.self-in-Mark.invariant.0.0)) in
           rw (w.self-inside-is, ← c.self.view_is) (after_prefix (bytes_of_slice _ c.type_inv.src)
           (goes_on_after_mark _ _ _ c.self.invariant.0.1 c.sniff-sniffed.ensures.within completes)
           (rw (c.split_at.ensures.back, w.self-in-Mark.view_is, w.start.ensures) at rest))
       | in-Text w ↦
           let sniffed = rw w.in-Text.is at c.sniff-sniffed.ensures.sniffed in
-          let rest = rw w.self-inside-is at (c.convert_text-of_text.ensures.call
+          let rest = rw w.self-inside-is at (c.decode_text-of_text.ensures.call
           c.self.inside.encoding (rw w.self-inside-is c.self.invariant.0.0)) in
           rw (w.self-inside-is, ← c.self.view_is) (after_text _ _ _ _ c.self.invariant.0.1
           c.sniff-sniffed.ensures.within sniffed.0 refl

@@ -1,5 +1,5 @@
 use Rattle.enc_decoder_iso_2022_jp.proofs.Iso2022JpPieces.{takes_in_ascii}
-use Rattle.enc_decoder_iso_2022_jp.proofs.iso_2022_jp.Iso2022JpDecoderRawDecoder.replace_run.Goals as goal
+use Rattle.enc_decoder_iso_2022_jp.proofs.iso_2022_jp.Iso2022JpDecoderByteCodec.replace_run.Goals as goal
 
 pub returns : goal.returns
 returns g c =
