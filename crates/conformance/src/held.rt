@@ -2,7 +2,7 @@
 
 use crate::fault::RowFault;
 use crate::words::{Unreadable, Words, number_of};
-use enc_codec::{ErrorMode, RawDecoder, VariantDecoder};
+use enc_codec::{CallOptions, ErrorMode, RawDecoder, VariantDecoder};
 use enc_output::{DecoderResult, Units, Utf8Slice, Utf16Slice};
 use std::alloc::Global;
 use test_support::decoding::{Answer, Given, Output};
@@ -36,11 +36,13 @@ fn call<U: Units>(
     given: Given<'_>,
     out: &mut U,
 ) -> (DecoderResult, usize, bool) {
-    if given.reporting {
-        let stop = decoder.decode(given.src, out, given.last, ErrorMode::Fatal);
-        return (stop.result, stop.read, false);
-    }
-    let outcome = decoder.decode_replacing(given.src, out, given.last);
+    let mode = if given.reporting {
+        ErrorMode::Fatal
+    } else {
+        ErrorMode::Replacement
+    };
+    let last = given.last;
+    let outcome = decoder.decode(given.src, out, CallOptions { last, mode });
     (outcome.result, outcome.read, outcome.replaced)
 }
 

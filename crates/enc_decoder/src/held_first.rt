@@ -29,10 +29,14 @@ pub fn decode_held_first<D: RawDecoder, U: Units>(
     if src.is_empty() {
         return codec.decode(held, out, options);
     }
-    let first = codec.decode(held, out, CallOptions {
-        last: false,
-        mode: options.mode,
-    });
+    let first = codec.decode(
+        held,
+        out,
+        CallOptions {
+            last: false,
+            mode: options.mode,
+        },
+    );
     if first.result != DecoderResult::InputEmpty {
         return first;
     }

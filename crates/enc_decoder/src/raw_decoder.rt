@@ -30,12 +30,7 @@ pub trait RawDecoder: Copy {
     ///
     /// It stops when all of `src` is read, when the next sequence does not fit into `out`, and in
     /// error mode "fatal" when one is malformed.
-    fn decode<U: Units>(
-        &mut self,
-        src: &[u8],
-        out: &mut U,
-        options: CallOptions,
-    ) -> DecoderOutcome
+    fn decode<U: Units>(&mut self, src: &[u8], out: &mut U, options: CallOptions) -> DecoderOutcome
         ensures call { IsCodecCall U.units_of (state self.old) (state self.new)
             (call_into src.now options (U.output out.old) (U.output out.new) result) }
         ensures formulas { formulas self.new ≡ formulas self.old }

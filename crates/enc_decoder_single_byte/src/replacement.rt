@@ -2,7 +2,10 @@
 
 ghost use Rattle.std.specs.Prelude.{◌≡◌, true, false};
 
-use enc_decoder::{ByteCodec, CallOptions, DecoderOutcome, Emission, HandlerResult, Kind, RawDecoder, Text, TextLengths, run};
+use enc_decoder::{
+    ByteCodec, CallOptions, DecoderOutcome, Emission, HandlerResult, Kind, RawDecoder, Text,
+    TextLengths, run,
+};
 use enc_output::Units;
 use std::marker::Model;
 

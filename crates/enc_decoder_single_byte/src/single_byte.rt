@@ -7,7 +7,10 @@ ghost use Rattle.enc_index.specs.Grid.{HasWord};
 ghost use Rattle.enc_index.specs.Runs.{single_byte_runs};
 
 use crate::one_byte::show_byte;
-use enc_decoder::{ByteCodec, CallOptions, DecoderOutcome, Emission, HandlerResult, RawDecoder, TextLengths, latin1_up_to, run};
+use enc_decoder::{
+    ByteCodec, CallOptions, DecoderOutcome, Emission, HandlerResult, RawDecoder, TextLengths,
+    latin1_up_to, run,
+};
 use enc_index::SingleByteIndex;
 use enc_output::{Pieces, Units, put_run};
 

@@ -7,7 +7,10 @@ ghost use Rattle.enc_index.specs.Grid.{HasWord};
 
 use crate::one_byte::show_byte;
 use crate::user_defined_words::{USER_DEFINED_UNITS, USER_DEFINED_WORDS};
-use enc_decoder::{ByteCodec, CallOptions, DecoderOutcome, Emission, HandlerResult, RawDecoder, TextLengths, latin1_up_to, run};
+use enc_decoder::{
+    ByteCodec, CallOptions, DecoderOutcome, Emission, HandlerResult, RawDecoder, TextLengths,
+    latin1_up_to, run,
+};
 use enc_output::{Pieces, Units, put_run};
 
 /// The x-user-defined decoder (Encoding Standard 14.5).

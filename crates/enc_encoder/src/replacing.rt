@@ -48,15 +48,15 @@ pub fn encode_in_mode<E: RawEncoder, C: Chars>(
     ensures rest { drop result.written dst.new ≡ drop result.written dst.old }
     ensures call { IsCallInMode C.units_of (E.state encoder.old) (E.state encoder.new)
         (C.rest src.new) (record {
-      src = C.rest src.old;
-      last = last;
-      mode = mode_of mode;
-      room = length dst.old;
-      result = result.result;
-      read = result.read;
-      wrote = take result.written dst.new;
-      replaced = result.replaced;
-    }) }
+          src = C.rest src.old;
+          last = last;
+          mode = mode_of mode;
+          room = length dst.old;
+          result = result.result;
+          read = result.read;
+          wrote = take result.written dst.new;
+          replaced = result.replaced;
+        }) }
 {
     match mode {
         ErrorMode::Html => (),

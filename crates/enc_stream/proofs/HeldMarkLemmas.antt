@@ -1,6 +1,6 @@
 -- A codec's call over the bytes held and the chunk, as a call of the decoder over the chunk.
 use Rattle.std.proofs.Common.{◌≡◌, ℕ, ◌+◌, ◌-◌, ◌<◌, ◌≤◌, Bool, true, false, List, [], ◌∷◌}
-use Rattle.std.proofs.Common.{◌++◌, length, take, drop, refl, ap, ◌∙◌, sym, arith, append_assoc, inl, inr, ◌⊎◌}
+use Rattle.std.proofs.Common.{◌++◌, length, take, drop, refl, ap, ◌∙◌, sym, arith, append_assoc, inl, inr, ◌⊎◌, subst}
 use Rattle.std.proofs.Common.{None}
 use Rattle.std.proofs.lemmas.List.{append-nil, length-append}
 use Rattle.std.proofs.Math.ListN.{drop_of_length-le}
@@ -23,7 +23,7 @@ use Rattle.enc_stream.proofs.AfterMarkLemmas.{made_call}
 use Rattle.enc_decoder.proofs.ByteLemmas.{bytes-append}
 use Rattle.enc_decoder.proofs.FirstSequenceLemmas.{true_or_false}
 use Rattle.enc_decoder.proofs.StageLemmas.{start_stage, nothing_written}
-use Rattle.enc_decoder.proofs.InnerInputLemmas.{most_or_more}
+use Rattle.enc_decoder.proofs.InnerInputLemmas.{MatchesRead, most_or_more}
 use Rattle.enc_decoder.proofs.JoinedCallLemmas.{no_bytes}
 use Rattle.enc_decoder.proofs.InnerCallLemmas.{MatchesState, AreAllRead, reports_escape, call_outside}
 use Rattle.enc_stream.specs.Encodings.{rule_of}
@@ -45,33 +45,31 @@ use Rattle.enc_utf8.proofs.LengthLemmas.{lengths}
 use Rattle.enc_stream.proofs.RemainingRuleLemmas.{none_without_bytes}
 
 module _ {e : Encoding} {life : LifeCycle} {v : CodecState} {src : List ℕ} {last : Bool}
-    (text : ReadsText e life v src last) {total : ℕ}
-    (all_within : total ≤ length (unread_bytes life (length v.pending)) + length src) where
+    (text : ReadsText e life v src last) {total left read : ℕ}
+    (all_within : total ≤ length (unread_bytes life (length v.pending)) + length src)
+    (left_is : left ≡ length (unread_bytes life (length v.pending)) - total)
+    (read_is : read ≡ total - length (unread_bytes life (length v.pending))) where
   abbrev held : List ℕ
   held = unread_bytes life (length v.pending)
 
   abbrev pending : List ℕ
   pending = held_or_pending_bytes (held_mark_bytes life) v.pending
 
-  -- how many held bytes are unread, and how many others are read
-  abbrev left : ℕ
-  left = length held - total
-
-  abbrev read : ℕ
-  read = total - length held
-
+  -- `left` held bytes are unread, and `read` of the others are read
   within : read ≤ length src
-  within = omega (arith, all_within)
+  within = omega (arith, all_within, read_is)
 
   -- all bytes held are read
   all_and_read : left ≡ 0 → total ≡ length held + read
   all_and_read none_left = omega arith
 
   taken_all : left ≡ 0 → take total (held ++ src) ≡ held ++ take read src
-  taken_all none_left = rw (all_and_read none_left) (take-append-add held src read)
+  taken_all none_left = ap (λ k. take k (held ++ src)) (all_and_read none_left)
+      ∙ take-append-add held src read
 
   dropped_all : left ≡ 0 → drop total (held ++ src) ≡ drop read src
-  dropped_all none_left = rw (all_and_read none_left) (drop-append-add held src read)
+  dropped_all none_left = ap (λ k. drop k (held ++ src)) (all_and_read none_left)
+      ∙ drop-append-add held src read
 
   module _ {units_of : ℕ → List ℕ} {w : CodecState} {mode : ErrorMode} {before after : Output}
       {stop : DecoderResult} {replaced : Bool} (kept : w.rule ≡ v.rule)
@@ -168,7 +166,7 @@ module _ {e : Encoding} {life : LifeCycle} {v : CodecState} {src : List ℕ} {la
         call_outside
         (bytes-append held src (bytes_unread life (length v.pending)) text.bytes)
         (shifts text call) nothing_written
-        (record { room = omega arith; mode = refl }) (reads_on text call all_within refl) does
+        (record { room = omega arith; mode = refl }) (subst (MatchesRead (shifts text call)) (sym read_is) (reads_on text call all_within refl)) does
         matches in
         let placed = end_placed last stop left in
         record {
@@ -358,7 +356,8 @@ module _ {e : Encoding} {life : LifeCycle} {v : CodecState} {src : List ℕ} {la
         → Leaves (decoder_state_of e ConvertingWithPendingBb w)
     stays_bb not_ended nothing_read two one =
         let leaves : LeavesBb v w src done total life =
-        leaves_bb made.call.accounted nothing_read two one in
+        leaves_bb made.call.accounted two 
+        (omega (arith, nothing_read, two, read_is), omega (arith, nothing_read, two, one, left_is, read_is)) in
         let all_read : bytes_read ≡ 0xEF ∷ 0xBB ∷ [] =
         ap (λ k. pending ++ take k src) nothing_read ∙ append-nil pending
         ∙ text.holds.held ∙ ap (λ x. x ++ held) leaves.none ∙ leaves.unread in

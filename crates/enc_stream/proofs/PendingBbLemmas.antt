@@ -42,17 +42,15 @@ pub leaves_bb : {v w : CodecState} {src : List ℕ} {done : List Sequence} {tota
     {life : LifeCycle}
     → v.pending ++ take total (unread_bytes life (length v.pending) ++ src)
     ≡ sequence_bytes done ++ w.pending
-    → total - length (unread_bytes life (length v.pending)) ≡ 0
     → length (unread_bytes life (length v.pending)) ≡ 2
-    → length w.pending + (length (unread_bytes life (length v.pending)) - total) ≡ 1
-    → LeavesBb v w src done total life
-leaves_bb {v} {w} {src} {done} {total} {life} accounted nothing_read two one =
+    → (total ≤ 2) × (total ≡ length w.pending + 1) → LeavesBb v w src done total life
+leaves_bb {v} {w} {src} {done} {total} {life} accounted two most =
     let held : List ℕ = unread_bytes life (length v.pending) in
     let two_held_bytes = two_bytes life (length v.pending) two in
     let none : v.pending ≡ [] = no_bytes v.pending two_held_bytes.1 in
     let unread : held ≡ 0xEF ∷ 0xBB ∷ [] = rw (none, two_held_bytes.0) refl in
     let one_done : length (sequence_bytes done) ≡ 1 =
-    omega (arith, lengths, ap length accounted, ap length none, two) in
+    omega (arith, lengths, ap length accounted, ap length none, two, most.0, most.1) in
     let whole : sequence_bytes done ++ (w.pending ++ drop total (held ++ src)) ≡ 0xEF
     ∷ (0xBB ∷ src) =
     sym (append_assoc (sequence_bytes done) w.pending (drop total (held ++ src)))

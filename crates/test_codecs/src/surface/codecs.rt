@@ -25,14 +25,23 @@ fn results_of_decoders_are_compared_and_printed(rt: HostRuntime) -> Result<(), F
     Ok(())
 }
 
+/// What a call is asked for, in an error mode.
+fn options(last: bool, mode: ErrorMode) -> CallOptions {
+    CallOptions { last, mode }
+}
+
 /// Each item of the trait `RawDecoder`, on a decoder of UTF-8: a character in two parts, and a
 /// malformed byte.
 fn decode_in_parts<D: RawDecoder>(rt: &impl Abort, start: D) {
     let mut decoder: D = start;
     let mut dst: [u8; 8] = [0; 8];
     let mut out = Utf8Slice::new(&mut dst);
-    let stop: DecoderStop = decoder.decode(b"\xE2", &mut out, false, ErrorMode::Fatal);
-    assert!(rt; (stop.result, stop.read) == (DecoderResult::InputEmpty, 1));
+    let outcome: DecoderOutcome = decoder.decode(
+        b"\xE2",
+        &mut out,
+        options(false, ErrorMode::Fatal),
+    );
+    assert!(rt; (outcome.result, outcome.read) == (DecoderResult::InputEmpty, 1));
     let held: usize = decoder.held();
     let utf_8: Option<usize> = decoder.max_utf8_buffer_length(2);
     let reporting: Option<usize> = decoder.max_utf8_buffer_length_without_replacement(2);
@@ -44,7 +53,8 @@ fn decode_in_parts<D: RawDecoder>(rt: &impl Abort, start: D) {
         decoder.latin1_byte_compatible_up_to(b"ab"),
     );
     assert!(rt; latin1 == (Some(2), None));
-    let outcome: DecoderOutcome = decoder.decode_replacing(b"\x82\xAC\xFF", &mut out, true);
+    let rest = b"\x82\xAC\xFF";
+    let outcome = decoder.decode(rest, &mut out, options(true, ErrorMode::Replacement));
     let (result, read, replaced) = (outcome.result, outcome.read, outcome.replaced);
     assert!(rt; (result, read, replaced) == (DecoderResult::InputEmpty, 3, true));
     assert!(rt; &dst[..6] == "€\u{FFFD}".as_bytes());
@@ -57,21 +67,21 @@ fn a_decoder_holds_the_bytes_of_an_open_sequence(rt: HostRuntime) {
 }
 
 #[test]
-fn a_malformed_byte_is_reported_with_room_for_its_character(rt: HostRuntime) {
+fn a_malformed_byte_is_replaced_with_room_for_its_character(rt: HostRuntime) {
     let mut decoder = Utf8Decoder::new();
     let mut dst: [u8; 2] = [0; 2];
     let mut out = Utf8Slice::new(&mut dst);
-    let with_room = decoder.decode(b"\xFF", &mut out, true, ErrorMode::Replacement);
-    assert!(rt; (with_room.result, with_room.read) == (DecoderResult::OutputFull, 0));
-    let without = decoder.decode(b"\xFF", &mut out, true, ErrorMode::Fatal);
-    assert!(rt; (without.result, without.read) == (DecoderResult::Malformed(1, 0), 1));
+    let replacing = decoder.decode(b"\xFF", &mut out, options(true, ErrorMode::Replacement));
+    assert!(rt; (replacing.result, replacing.read) == (DecoderResult::OutputFull, 0));
+    let reporting = decoder.decode(b"\xFF", &mut out, options(true, ErrorMode::Fatal));
+    assert!(rt; (reporting.result, reporting.read) == (DecoderResult::Malformed(1, 0), 1));
 }
 
 /// Decodes some bytes by a new decoder: this is their text.
 fn decode_text<D: RawDecoder>(rt: &impl Abort, mut decoder: D, bytes: &[u8], text: &str) {
     let mut dst: [u8; 8] = [0; 8];
     let mut out = Utf8Slice::new(&mut dst);
-    let stop = decoder.decode(bytes, &mut out, true, ErrorMode::Fatal);
+    let stop = decoder.decode(bytes, &mut out, options(true, ErrorMode::Fatal));
     assert!(rt; (stop.result, stop.read) == (DecoderResult::InputEmpty, bytes.len()));
     assert!(rt; out.len() == text.len());
     assert!(rt; dst.as_slice().starts_with(text.as_bytes()));

@@ -4,7 +4,7 @@
 use crate::cases::{Case, expect};
 use crate::decoding::outputs::written_part;
 use crate::decoding::rows::{Cut, Input, MOST_ROOM, REPLACEMENT_CHARACTER, chunks_of, split};
-use enc_decoder::{DecoderStop, ErrorMode, RawDecoder};
+use enc_decoder::{CallOptions, ErrorMode, RawDecoder};
 use enc_output::{DecoderResult, Units, Utf8Slice};
 use std::alloc::Global;
 use std::test::Fail;
@@ -33,7 +33,7 @@ const MOST_CALLS: usize = 128;
 /// The answer of a call: why it stopped, bytes read, bytes written, and the room that it left.
 type RawAnswer = (DecoderResult, usize, usize, usize);
 
-/// Makes a call up to a malformed sequence.
+/// Makes a call in an error mode.
 fn call(
     decoder: &mut impl RawDecoder,
     (src, last): (&[u8], bool),
@@ -41,8 +41,8 @@ fn call(
     mode: ErrorMode,
 ) -> RawAnswer {
     let mut out = Utf8Slice::new(dst);
-    let DecoderStop { result, read } = decoder.decode(src, &mut out, last, mode);
-    (result, read, out.len(), out.room())
+    let outcome = decoder.decode(src, &mut out, CallOptions { last, mode });
+    (outcome.result, outcome.read, out.len(), out.room())
 }
 
 /// The result of a call.
@@ -64,14 +64,13 @@ struct Progress<'a> {
     case: Case<'a>,
     /// The room in which the input reaches its end.
     enough: usize,
-    /// In "replacement" a malformed sequence is reported only if U+FFFD fits.
     mode: ErrorMode,
     read: usize,
     /// The number of bytes read whose sequences were put out or reported. The others are pending.
     done: usize,
     /// The text that is still to come.
     text: &'a [u8],
-    /// The malformed sequences that are still to be reported.
+    /// The malformed sequences that are still to be reported: none in "replacement".
     malformed: &'a [(usize, usize)],
 }
 
@@ -116,17 +115,13 @@ fn take_report(progress: &mut Progress<'_>, len: usize, after: usize) -> Result<
     take_text(progress, REPLACEMENT_CHARACTER.as_bytes())
 }
 
-/// The output is full: the next output does not fit. That is a malformed sequence only if room is
-/// kept for U+FFFD.
+/// The output is full: the next output does not fit. That is no malformed sequence that is to be
+/// reported.
 fn compare_full(progress: &Progress<'_>, left: usize) -> Result<(), Fail> {
     let to_come = progress.text;
     let is_malformed = !progress.malformed.is_empty()
         && to_come.starts_with(REPLACEMENT_CHARACTER.as_bytes());
-    let may_stop = if is_malformed {
-        progress.mode == ErrorMode::Replacement && left < REPLACEMENT_CHARACTER.len()
-    } else {
-        left < progress.enough && left < to_come.len()
-    };
+    let may_stop = !is_malformed && left < progress.enough && left < to_come.len();
     expect(may_stop, "full too soon", &progress.case)
 }
 
@@ -155,9 +150,6 @@ fn compare_stop(
         DecoderResult::InputEmpty => compare_empty(&case, offer, outcome),
         DecoderResult::OutputFull => compare_full(progress, outcome.left),
         DecoderResult::Malformed(len, after) => {
-            let fits = REPLACEMENT_CHARACTER.len() <= outcome.left;
-            let may_report = fits || progress.mode == ErrorMode::Fatal;
-            expect(may_report, "a report without room", &case)?;
             take_report(progress, len as usize, after as usize)
         }
     }
@@ -298,7 +290,10 @@ pub(crate) fn compare_raw_cuts(
             room,
         };
         expect(decoder.held() == 0, "a new decoder holds bytes", &case)?;
-        for mode in [ErrorMode::Fatal, ErrorMode::Replacement] {
+        for (mode, malformed) in [
+            (ErrorMode::Fatal, input.malformed),
+            (ErrorMode::Replacement, [].as_slice()),
+        ] {
             let progress = Progress {
                 case,
                 enough: input.room,
@@ -306,7 +301,7 @@ pub(crate) fn compare_raw_cuts(
                 read: 0,
                 done: 0,
                 text: input.text,
-                malformed: input.malformed,
+                malformed,
             };
             compare_each_cut(alloc, (decoder, wide), progress)?;
         }
