@@ -9,7 +9,7 @@ ghost use Rattle.enc_decoder_utf.specs.Utf16State.{with_pending};
 ghost use Rattle.enc_decoder.specs.declared.prefix.Prefix.TheVariants.{Incomplete};
 
 use enc_decoder::{Pending, Prefix, PrefixCodec, Text, TextLengths};
-use enc_output::{Pieces, Units, put_run};
+use enc_output::{CodeUnits, Pieces, UnitPieces, Units, put_run};
 use std::marker::Model;
 
 /// The shared UTF-16 decoder (Encoding Standard 14.2), big-endian or little-endian.
@@ -134,8 +134,6 @@ impl Pieces for Utf16Decoder {
 
     ghost means = { λ d. IsWholeChar (utf_16_rule d.big_endian) 0 };
 
-    ghost stands_for = { λ _ _ _. Unit {0} };
-
     #[inline(always)]
     fn piece(self, src: &[u8], at: usize) -> Option<(char, usize)> {
         let left = src.len() - at;
@@ -158,14 +156,11 @@ impl Pieces for Utf16Decoder {
         }
         Some((pair_char(unit, trail), 4))
     }
+}
 
-    fn has_ascii(self) -> bool {
-        let _pending = self.pending;
-        false
-    }
-
-    fn code_units(self) -> Option<bool> {
-        Some(self.big_endian)
+impl UnitPieces for Utf16Decoder {
+    fn is_big_endian(self) -> bool {
+        self.big_endian
     }
 }
 
@@ -219,7 +214,7 @@ impl PrefixCodec for Utf16Decoder {
 
     #[inline(always)]
     fn put_front<U: Units>(self, src: &[u8], out: &mut U) -> usize {
-        put_run(out, self, src)
+        put_run(out, CodeUnits { pieces: self }, src)
     }
 
     #[inline(always)]

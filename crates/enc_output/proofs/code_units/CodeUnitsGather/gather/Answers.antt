@@ -8,7 +8,7 @@ pub loop-written-preserved-then-count-eq8 : goal.loop-written-preserved-then-cou
 loop-written-preserved-then-count-eq8 g c =
     let stored = c.store_scalars-count.ensures in
     gathered_then c.loop-written.invariant stored.len (omega (arith, stored.bound))
-    (gathers_units c.args.self.now.big_endian c.requires.ready _ stored.few
+    (gathers_units c.is_big_endian-big_endian.result c.is_big_endian-big_endian.ensures _ stored.few
     (omega (arith, lengths)) c.units_in-units.ensures stored.scalars stored.stored)
 
 pub loop-written-preserved : goal.loop-written-preserved
@@ -21,7 +21,7 @@ loop-written-preserved g c =
     c.utf8_of.ensures.bytes in
     gathered_then
     (gathered_then c.loop-written.invariant stored.len (omega (arith, stored.bound))
-    (gathers_units c.args.self.now.big_endian c.requires.ready _ stored.few
+    (gathers_units c.is_big_endian-big_endian.result c.is_big_endian-big_endian.ensures _ stored.few
     (omega (arith, lengths)) c.units_in-units.ensures stored.scalars stored.stored))
     stored_text.len (omega (arith, stored_text.end, stored.bound, c.utf8_of.ensures.bound))
     (gathers_one _ found.some found.within c.utf8_of.ensures.scalar found.means text)
@@ -30,5 +30,5 @@ pub returns-in_default-clause-gathers : goal.returns-in_default-clause-gathers
 returns-in_default-clause-gathers g c =
     let stored = c.store_scalars-count.ensures in
     gathers_then c.loop-written.invariant.gathers
-    (gathers_units c.args.self.now.big_endian c.requires.ready _ stored.few
+    (gathers_units c.is_big_endian-big_endian.result c.is_big_endian-big_endian.ensures _ stored.few
     (omega (arith, lengths)) c.units_in-units.ensures stored.scalars stored.stored)

@@ -18,12 +18,12 @@ loop-written-preserved-then-are_scalars g c =
     let next = put_chunk written buffer c.units_in-units.result in
     let long = length-put_chunk written buffer c.units_in-units.result in
     let one = gathered_then c.loop-written.invariant long (omega arith)
-    (gathers_lanes c.args.self.now.big_endian c.requires.ready 8 written buffer (omega arith)
+    (gathers_lanes c.is_big_endian-big_endian.result c.is_big_endian-big_endian.ensures 8 written buffer (omega arith)
     (omega (arith, lengths)) (omega arith) c.units_in-units.ensures
     (first_scalars.scalars both_scalars.0) (first_scalars.alone 8)) in
     let both = gathered_then one
     (length-put_chunk (written + 8) next c.units_in-more.result) (omega arith)
-    (gathers_lanes c.args.self.now.big_endian c.requires.ready 8 (written + 8) next (omega arith)
+    (gathers_lanes c.is_big_endian-big_endian.result c.is_big_endian-big_endian.ensures 8 (written + 8) next (omega arith)
     (omega (arith, lengths)) (omega (arith, long)) c.units_in-more.ensures
     (more_scalars.scalars both_scalars.1) (more_scalars.alone 8)) in
     let read_all : read + 16 + 16 ≡ read + 32 = omega arith in
@@ -36,7 +36,7 @@ loop-written-preserved-then-count-eq8 g c =
     gathered_then c.loop-written.invariant
     (length-put_chunk c.loop-written.written c.loop-written.buffer _)
     (omega (arith, before_surrogate.bound))
-    (gathers_lanes c.args.self.now.big_endian c.requires.ready _ c.loop-written.written
+    (gathers_lanes c.is_big_endian-big_endian.result c.is_big_endian-big_endian.ensures _ c.loop-written.written
     c.loop-written.buffer before_surrogate.bound (omega (arith, lengths)) (omega arith)
     c.units_in-units.ensures before_surrogate.scalars (before_surrogate.alone _))
 
@@ -48,7 +48,7 @@ loop-written-preserved g c =
     gathered_then (gathered_then c.loop-written.invariant
     (length-put_chunk c.loop-written.written c.loop-written.buffer _)
     (omega (arith, before_surrogate.bound))
-    (gathers_lanes c.args.self.now.big_endian c.requires.ready _ c.loop-written.written
+    (gathers_lanes c.is_big_endian-big_endian.result c.is_big_endian-big_endian.ensures _ c.loop-written.written
     c.loop-written.buffer before_surrogate.bound (omega (arith, lengths)) (omega arith)
     c.units_in-units.ensures before_surrogate.scalars (before_surrogate.alone _)))
     stored.len (omega (arith, stored.bound, before_surrogate.bound))
@@ -58,6 +58,6 @@ pub returns-in_default-clause-gathers : goal.returns-in_default-clause-gathers
 returns-in_default-clause-gathers g c =
     let before_surrogate = c.units_before_surrogate-count.ensures in
     gathers_then c.loop-written.invariant.gathers
-    (gathers_lanes c.args.self.now.big_endian c.requires.ready _ c.loop-written.written
+    (gathers_lanes c.is_big_endian-big_endian.result c.is_big_endian-big_endian.ensures _ c.loop-written.written
     c.loop-written.buffer before_surrogate.bound (omega (arith, lengths)) (omega arith)
     c.units_in-units.ensures before_surrogate.scalars (before_surrogate.alone _))
