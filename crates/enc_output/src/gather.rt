@@ -1,10 +1,8 @@
 //! Characters collected in a buffer: the ways to do so, and one by one.
 
-ghost use Rattle.std.specs.Prelude.{◌≡◌, ℕ, ◌+◌, ◌<◌, ◌≤◌, List, [], ◌∷◌, ◌++◌, length, take, drop, slice_index};
-ghost use Rattle.std.specs.Prelude.{IsTrue};
+ghost use Rattle.std.specs.Prelude.{◌≡◌, ℕ, ◌+◌, ◌<◌, ◌≤◌, List, [], ◌∷◌, ◌++◌, length, take, drop, IsTrue};
 ghost use Rattle.std.specs.Char.{IsScalar, encode_utf8};
 ghost use Rattle.std.specs.Char.Escape.{encode_utf16};
-ghost use Rattle.enc_utf8.specs.Validity.{AreAscii};
 ghost use Rattle.enc_output.specs.Gathering.{GathersChars};
 ghost use Rattle.enc_output.specs.PieceRuns.{PutsPieces};
 ghost use Rattle.enc_utf8.specs.Pieces.{AreWrittenAsThemselves};
@@ -12,7 +10,7 @@ ghost use Rattle.enc_utf8.specs.Pieces.{AreWrittenAsThemselves};
 use crate::pieces::Pieces;
 use crate::run::Run;
 use crate::unit_slice::{UnitSlice, append_each};
-use enc_utf8::{ascii_in, store_text, utf8_of};
+use enc_utf8::{store_text, utf8_of};
 use std::simd::prelude::*;
 
 /// The least number of bytes, and the least room, for which characters are collected.
@@ -26,24 +24,6 @@ pub(crate) const UNITS_BUFFER: usize = 164;
 
 /// A turn writes at most this number of bytes, if characters are collected one by one.
 const STEP: usize = 16;
-
-/// Stores the sixteen bytes of `src` from `from` on after the first `at` bytes of a buffer. Returns
-/// how many of them come before the first that is not ASCII.
-#[inline(always)]
-pub(crate) fn store_ascii(buffer: &mut [u8], at: usize, src: &[u8], from: usize) -> usize
-    requires from { from + 16 ≤ length src.now }
-    requires room { at + 16 ≤ length buffer.old }
-    ensures bound { result ≤ 16 }
-    ensures ascii { AreAscii (take result (drop from src.now)) }
-    ensures some { slice_index src.now from < 0x80 → 0 < result }
-    ensures len { length buffer.new ≡ length buffer.old }
-    ensures stored { take (at + result) buffer.new ≡ take at buffer.old
-        ++ take result (drop from src.now) }
-{
-    let lanes = u8x16::from_slice(&src[from..]);
-    lanes.copy_to_slice(&mut buffer[at..]);
-    ascii_in(lanes)
-}
 
 /// Stores the code units of a character after the first `at` of a buffer. Returns their end.
 #[inline(always)]
@@ -79,12 +59,6 @@ fn store_own<P: Pieces>(pieces: P, buffer: &mut [u8], at: usize, src: &[u8], fro
     ensures stored { take (at + result) buffer.new ≡ take at buffer.old
         ++ take result (drop from src.now) }
 {
-    if pieces.has_ascii() {
-        if src[from] >= 0x80 {
-            return 0;
-        }
-        return store_ascii(buffer, at, src, from);
-    }
     let lanes = u8x16::from_slice(&src[from..]);
     lanes.copy_to_slice(&mut buffer[at..]);
     pieces.own_len(lanes)
@@ -131,7 +105,7 @@ pub trait Gather: Copy {
     }
 }
 
-/// Characters one by one, and ASCII in steps of sixteen.
+/// Characters one by one, and ASCII in steps of sixteen, by [`Pieces::own_len`].
 #[derive(Clone, Copy)]
 pub struct OneByOne<P> {
     pub pieces: P,
