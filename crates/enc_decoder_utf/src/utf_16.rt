@@ -128,11 +128,17 @@ fn read_fourth(big_endian: bool, first: u8, second: u8, third: u8, byte: u8) -> 
     }
 }
 
-impl Pieces for Utf16Decoder {
+/// The characters of UTF-16 in a byte order.
+#[derive(Clone, Copy)]
+struct InOrder {
+    big_endian: bool,
+}
+
+impl Pieces for InOrder {
     ghost use Rattle.enc_decoder_utf.specs.Utf16.{utf_16_rule};
     ghost use Rattle.enc_decoder.specs.Taking.{IsWholeChar};
 
-    ghost means = { λ d. IsWholeChar (utf_16_rule d.big_endian) 0 };
+    ghost means = { λ o. IsWholeChar (utf_16_rule o.big_endian) 0 };
 
     #[inline(always)]
     fn piece(self, src: &[u8], at: usize) -> Option<(char, usize)> {
@@ -158,7 +164,7 @@ impl Pieces for Utf16Decoder {
     }
 }
 
-impl UnitPieces for Utf16Decoder {
+impl UnitPieces for InOrder {
     fn is_big_endian(self) -> bool {
         self.big_endian
     }
@@ -214,7 +220,10 @@ impl PrefixCodec for Utf16Decoder {
 
     #[inline(always)]
     fn put_front<U: Units>(self, src: &[u8], out: &mut U) -> usize {
-        put_run(out, CodeUnits { pieces: self }, src)
+        let pieces = InOrder {
+            big_endian: self.big_endian,
+        };
+        put_run(out, CodeUnits { pieces }, src)
     }
 
     #[inline(always)]
