@@ -21,7 +21,7 @@ use Rattle.enc_decoder_iso_2022_jp.specs.declared.escape.Escape.{Escape}
 use Rattle.enc_decoder.specs.Sequence.{Sequence}
 use Rattle.enc_decoder.specs.Segmentation.{sequences_of}
 use Rattle.enc_decoder_iso_2022_jp.specs.Iso2022Jp.{set_number, designated_set, is_lead_byte, one_byte_char}
-use Rattle.enc_decoder_iso_2022_jp.specs.Iso2022Jp.{two_byte_char, iso_2022_jp_rule as jp_rule}
+use Rattle.enc_decoder_iso_2022_jp.specs.Iso2022Jp.{two_byte_char, is_jis0208_byte, iso_2022_jp_rule as jp_rule}
 use Rattle.enc_decoder_iso_2022_jp.specs.Iso2022JpState.{Iso2022JpState, state_with_held, intermediate_byte}
 use Rattle.enc_decoder_iso_2022_jp.specs.Iso2022JpState.{escape_bytes, escape_set, StandsAlone}
 use Rattle.enc_decoder_iso_2022_jp.specs.Iso2022JpState.{iso_2022_jp_state as jp_state}
@@ -48,20 +48,29 @@ none_after lead = refl
 
 -- a byte that is a character, and two
 
+no_lead : (s : CharacterSet) (b c : ℕ) → one_byte_char s b ≡ Some c → is_lead_byte s b ≡ false
+unfolding one_byte_char is_lead_byte
+no_lead Ascii b c is_char = refl
+no_lead Roman b c is_char = refl
+no_lead Katakana b c is_char = refl
+no_lead Jis0208 b c is_char = cc
+
 pub alone_piece : (s : CharacterSet) (b c : ℕ) → one_byte_char s b ≡ Some c
-    → is_lead_byte s b ≡ false
     → IsWholeChar jp_rule (set_number s) (b ∷ []) c
-alone_piece s b c is_char no_lead y =
+alone_piece s b c is_char y =
     sequences_of-head jp_rule (set_number s) b y _
-    (alone s b (Some c) (sym is_char) no_lead
+    (alone s b (Some c) (sym is_char) (no_lead s b c is_char)
     (found_for_other (one_byte_char s) b c (none_alone s) is_char) y)
 
-pub pair_piece : (s : CharacterSet) (lead b c : ℕ) → two_byte_char lead b ≡ Some c
-    → is_lead_byte s lead ≡ true
-    → IsWholeChar jp_rule (set_number s) (lead ∷ b ∷ []) c
-pair_piece s lead b c is_char leads y =
-    sequences_of-head jp_rule (set_number s) lead (b ∷ y) _
-    (pair s lead b (Some c) (sym is_char) leads
+leads : (b : ℕ) → is_jis0208_byte b ≡ true → is_lead_byte Jis0208 b ≡ true
+unfolding is_lead_byte
+leads b in_range = in_range
+
+pub pair_piece : (lead b c : ℕ) → two_byte_char lead b ≡ Some c → is_jis0208_byte lead ≡ true
+    → IsWholeChar jp_rule (set_number Jis0208) (lead ∷ b ∷ []) c
+pair_piece lead b c is_char in_range y =
+    sequences_of-head jp_rule (set_number Jis0208) lead (b ∷ y) _
+    (pair Jis0208 lead b (Some c) (sym is_char) (leads lead in_range)
     (found_for_other (two_byte_char lead) b c (none_after lead) is_char) y)
 
 -- bytes that stand for themselves in ASCII
@@ -71,15 +80,11 @@ unfolding one_byte_char
 own_char b low out in_ escape =
     rw (lt-ltb b 0x80 low, ne_eqb b 0x0E out, ne_eqb b 0x0F in_, ne_eqb b 0x1B escape) refl
 
-not_lead : (b : ℕ) → is_lead_byte Ascii b ≡ false
-unfolding is_lead_byte
-not_lead b = refl
-
 pub own_pieces : (bs : List ℕ) → AreIso2022JpAscii bs
     → AreWrittenAsThemselves (IsWholeChar jp_rule (set_number Ascii)) bs
 own_pieces bs own k within is_own =
     let byte = own k within is_own in
-    (byte.0, alone_piece Ascii _ _ (own_char _ byte.0 byte.1 byte.2 byte.3) (not_lead _))
+    (byte.0, alone_piece Ascii _ _ (own_char _ byte.0 byte.1 byte.2 byte.3))
 
 -- an escape sequence, and the bytes after it
 

@@ -11,9 +11,8 @@ use Rattle.enc_index.proofs.Tables.Jis0208.{has_no_more}
 use Rattle.enc_index.proofs.PlaceLemmas.{pair_place, places_of}
 use Rattle.enc_output.specs.Pairs.{byte_or_pair}
 use Rattle.enc_output.specs.Places.{has_bit, number_in}
-use Rattle.enc_decoder_iso_2022_jp.specs.declared.character_set.CharacterSet.{CharacterSet}
-use Rattle.enc_decoder_iso_2022_jp.specs.declared.character_set.CharacterSet.TheVariants.{Jis0208 as InPairs}
-use Rattle.enc_decoder_iso_2022_jp.specs.Iso2022Jp.{is_jis0208_byte, two_byte_char, is_lead_byte, set_number}
+use Rattle.enc_decoder_iso_2022_jp.specs.declared.character_set.CharacterSet.TheVariants.{Jis0208}
+use Rattle.enc_decoder_iso_2022_jp.specs.Iso2022Jp.{is_jis0208_byte, two_byte_char, set_number}
 use Rattle.enc_decoder_iso_2022_jp.specs.Iso2022Jp.{iso_2022_jp_rule, IsJis0208Pair}
 use Rattle.enc_decoder_iso_2022_jp.proofs.Iso2022JpPieces.{pair_piece}
 use Rattle.enc_decoder.specs.Taking.{IsWholeChar}
@@ -40,23 +39,18 @@ bytes_place a b r k p =
       cond-true (is_jis0208_byte b) (jis0208_at ((a - 0x21) * 94 + (b - 0x21))) None trail ∙ has,
     ))
 
-leads : (set : CharacterSet) (a : ℕ) → set ≡ InPairs → is_jis0208_byte a ≡ true
-    → is_lead_byte set a ≡ true
-unfolding is_lead_byte
-leads set a e h = subst (λ s. is_lead_byte s a ≡ true) (sym e) h
-
 -- each of sixteen bits is set
 all_lead : (i : ℕ) → i < 16 → has_bit 0xFFFF i ≡ true
 all_lead i l =
     ap (λ bit. bit == 1)
     (bit_mask_l (replicate 16 true) i ∙ ap (λ t. cond t 1 0) (get_or-replicate 16 i true false l))
 
--- the bytes of a place, where the set has pairs
-pub place_means : (set : CharacterSet) (a b i place : ℕ) → set ≡ InPairs → i < 16
-    → IsPlaceOf jis0208_shape (IsJis0208Pair a b) place
-    → IsPlaceOf jis0208_shape
-    (IsWholeChar iso_2022_jp_rule (set_number set) (byte_or_pair (has_bit 0xFFFF i) a b)) place
-place_means set a b i place e l at =
+-- the bytes of a place
+pub place_means : (a b i place : ℕ) → i < 16 → IsPlaceOf jis0208_shape (IsJis0208Pair a b) place
+    → IsPlaceOf jis0208_shape (IsWholeChar iso_2022_jp_rule (set_number Jis0208)
+    (byte_or_pair (has_bit 0xFFFF i) a b)) place
+place_means a b i place l at =
     subst (λ t. IsPlaceOf jis0208_shape
-    (IsWholeChar iso_2022_jp_rule (set_number set) (byte_or_pair t a b)) place) (sym (all_lead i l))
-    (places_of at (λ c p. pair_piece set a b c p.1 (leads set a e p.0)))
+    (IsWholeChar iso_2022_jp_rule (set_number Jis0208) (byte_or_pair t a b)) place)
+    (sym (all_lead i l))
+    (places_of at (λ c p. pair_piece a b c p.1 p.0))

@@ -1,6 +1,6 @@
 //! The character sets of ISO-2022-JP (Encoding Standard 12.2.1).
 
-ghost use Rattle.std.specs.Prelude.{◌≡◌, ◌+◌, ◌-◌, ◌≤◌, IsTrue};
+ghost use Rattle.std.specs.Prelude.{◌≡◌, ◌+◌, ◌-◌, ◌≤◌};
 ghost use Rattle.enc_decoder_iso_2022_jp.specs.Iso2022Jp.{ascii_char as char_in_ascii};
 ghost use Rattle.enc_decoder_iso_2022_jp.specs.Iso2022Jp.{roman_char as char_in_roman};
 ghost use Rattle.enc_decoder_iso_2022_jp.specs.Iso2022Jp.{katakana_char as char_in_katakana};
@@ -89,15 +89,4 @@ fn halfwidth_katakana(byte: u8) -> char
     ensures { result ≡ 0xFF61 + (byte - 0x21) }
 {
     char::from_u32(0xFF61 + (byte as u32 - 0x21)).unwrap()
-}
-
-/// Returns whether characters have two bytes.
-#[inline(always)]
-pub(crate) fn has_pairs(set: CharacterSet) -> bool
-    ensures { IsTrue result → set ≡ CharacterSet.Jis0208 }
-{
-    match set {
-        CharacterSet::Jis0208 => true,
-        _ => false,
-    }
 }

@@ -8,13 +8,13 @@ use crate::character_set::CharacterSet;
 use crate::escape::{Escape, Intermediate};
 use crate::handler::{step_first, step_start, step_started, step_trail, step_whole};
 use crate::replaced_ascii::{ReplacedAscii, has_many_malformed};
-use crate::runs::{is_seven_bit, take_escape};
+use crate::runs::{is_seven_bit, put_in_set, take_escape};
 use crate::sequences::{cut_off, show_given_back};
 use enc_decoder::{
     ByteCodec, CallOptions, DecoderOutcome, Emission, HandlerResult, RawDecoder, TextLengths,
     latin1_up_to, run,
 };
-use enc_output::{Pieces, Units, put_run};
+use enc_output::{SingleBytes, Units, put_run};
 use std::marker::Model;
 
 /// The number of bytes that are read in a run with malformed ones, before the decoder looks again
@@ -107,7 +107,7 @@ impl ByteCodec for Iso2022JpDecoder {
             return (self, 0);
         }
         let mut state = self;
-        let mut read = out.put_pieces(self, src);
+        let mut read = put_in_set(self, src, out);
         loop {
             let (_, rest) = src.split_at(read);
             let (next, taken) = take_escape(state, rest, out);
@@ -135,7 +135,10 @@ impl ByteCodec for Iso2022JpDecoder {
             return 0;
         }
         let (front, _) = src.split_at(src.len().min(REPLACED));
-        put_run(out, ReplacedAscii, front)
+        let run = SingleBytes {
+            pieces: ReplacedAscii,
+        };
+        put_run(out, run, front)
     }
 
     fn next_step(self, byte: u8) -> HandlerResult<Iso2022JpDecoder> {

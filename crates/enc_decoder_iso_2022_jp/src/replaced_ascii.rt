@@ -6,7 +6,7 @@ ghost use Rattle.enc_index.specs.Grid.{HasWord};
 ghost use Rattle.enc_decoder_iso_2022_jp.specs.Iso2022JpReplaced.{replaced_ascii_char};
 
 use crate::replaced_bytes::{REPLACED_UNITS, REPLACED_WORDS};
-use enc_output::Pieces;
+use enc_output::{BytePieces, Pieces};
 use std::simd::prelude::*;
 
 /// Finds the bytes in ASCII that are a character or malformed by themselves: all but 1B.
@@ -65,31 +65,21 @@ impl Pieces for ReplacedAscii {
 
     ghost means = { λ _. IsReplacedChar iso_2022_jp_rule 0 };
 
-    ghost stands_for = { λ _ _ _. Unit {0} };
-
     #[inline(always)]
     fn piece(self, src: &[u8], at: usize) -> Option<(char, usize)> {
         let character = replaced_char(src[at])?;
         Some((character, 1))
     }
+}
 
-    fn has_ascii(self) -> bool {
-        false
-    }
-
-    fn are_bytes(self) -> bool {
-        true
+impl BytePieces for ReplacedAscii {
+    #[inline(always)]
+    fn word(self, byte: u8) -> u32 {
+        word_of(byte)
     }
 
     #[inline(always)]
-    fn word(self, is_pair: bool, first: u8, second: u8) -> u32 {
-        let _second = second;
-        if is_pair { 0 } else { word_of(first) }
-    }
-
-    #[inline(always)]
-    fn unit(self, is_pair: bool, first: u8, second: u8) -> u16 {
-        let _second = second;
-        if is_pair { 0 } else { unit_of(first) }
+    fn unit(self, byte: u8) -> u16 {
+        unit_of(byte)
     }
 }

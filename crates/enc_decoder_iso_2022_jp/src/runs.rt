@@ -2,15 +2,17 @@
 
 ghost use Rattle.std.specs.Prelude.{◌≡◌, Option};
 ghost use Rattle.enc_decoder_iso_2022_jp.specs.Iso2022JpState.{iso_2022_jp_state};
-ghost use Rattle.enc_decoder.specs.Taking.{TakesRun};
+ghost use Rattle.enc_decoder_iso_2022_jp.specs.Iso2022Jp.{set_number, iso_2022_jp_rule};
+ghost use Rattle.enc_output.specs.PieceRuns.{PutsPieces};
+ghost use Rattle.enc_decoder.specs.Taking.{TakesRun, IsWholeChar};
 
-use crate::character_set::{CharacterSet, has_pairs, is_lead_byte, one_byte_char};
+use crate::character_set::{CharacterSet, is_jis0208_byte, one_byte_char};
 use crate::escape::escape_in_front;
 use crate::iso_2022_jp::{Iso2022JpDecoder, with_held};
 use crate::pairs::{char_of_pair, pair_places};
 use enc_index::DoubleByteIndex;
 use enc_index::indexes::Jis0208Index;
-use enc_output::{Pieces, Places, Units};
+use enc_output::{OneByOne, PairPieces, Pairs, Pieces, Places, Units};
 use enc_utf8::unshifted_len;
 use std::simd::prelude::*;
 
@@ -21,70 +23,89 @@ pub(crate) fn is_seven_bit(src: &[u8]) -> bool {
     src.len() >= 2 && (src[0] | src[1]) < 0x80
 }
 
-impl Pieces for Iso2022JpDecoder {
-    ghost use Rattle.enc_index.specs.DoubleByteIndexes.{jis0208_shape};
-    ghost use Rattle.enc_index.specs.Grid.{IsPlaceOf};
+/// Characters of one byte in a character set.
+impl Pieces for CharacterSet {
     ghost use Rattle.enc_decoder_iso_2022_jp.specs.Iso2022Jp.{set_number, iso_2022_jp_rule};
     ghost use Rattle.enc_decoder.specs.Taking.{IsWholeChar};
 
-    ghost means = { λ d. IsWholeChar iso_2022_jp_rule (set_number d.set) };
-
-    ghost stands_for = { λ d place bytes. IsPlaceOf jis0208_shape
-        (IsWholeChar iso_2022_jp_rule (set_number d.set) bytes) place };
+    ghost means = { λ set. IsWholeChar iso_2022_jp_rule (set_number set) };
 
     #[inline(always)]
     fn piece(self, src: &[u8], at: usize) -> Option<(char, usize)> {
-        let byte = src[at];
-        if !is_lead_byte(self.set, byte) {
-            let character = one_byte_char(self.set, byte)?;
-            return Some((character, 1));
-        }
-        if at + 1 >= src.len() {
-            return None;
-        }
-        let character = char_of_pair(byte, src[at + 1])?;
-        Some((character, 2))
-    }
-
-    fn has_ascii(self) -> bool {
-        let _set = self.set;
-        false
+        let character = one_byte_char(self, src[at])?;
+        Some((character, 1))
     }
 
     #[inline(always)]
     fn own_len(self, bytes: u8x16) -> usize {
-        match self.set {
+        match self {
             CharacterSet::Ascii => unshifted_len(bytes),
             _ => 0,
         }
     }
+}
 
-    fn are_pairs(self) -> bool {
-        has_pairs(self.set)
+/// Characters of two bytes, in jis0208.
+#[derive(Clone, Copy)]
+struct InJis0208;
+
+impl Pieces for InJis0208 {
+    ghost use Rattle.enc_decoder_iso_2022_jp.specs.declared.character_set.CharacterSet.TheVariants.{Jis0208};
+    ghost use Rattle.enc_decoder_iso_2022_jp.specs.Iso2022Jp.{set_number, iso_2022_jp_rule};
+    ghost use Rattle.enc_decoder.specs.Taking.{IsWholeChar};
+
+    ghost means = { λ _. IsWholeChar iso_2022_jp_rule (set_number Jis0208) };
+
+    #[inline(always)]
+    fn piece(self, src: &[u8], at: usize) -> Option<(char, usize)> {
+        let lead = src[at];
+        if !is_jis0208_byte(lead) || at + 1 >= src.len() {
+            return None;
+        }
+        let character = char_of_pair(lead, src[at + 1])?;
+        Some((character, 2))
     }
+}
+
+impl PairPieces for InJis0208 {
+    ghost use Rattle.enc_index.specs.DoubleByteIndexes.{jis0208_shape};
+    ghost use Rattle.enc_index.specs.Grid.{IsPlaceOf};
+    ghost use Rattle.enc_decoder_iso_2022_jp.specs.declared.character_set.CharacterSet.TheVariants.{Jis0208};
+    ghost use Rattle.enc_decoder_iso_2022_jp.specs.Iso2022Jp.{set_number, iso_2022_jp_rule};
+    ghost use Rattle.enc_decoder.specs.Taking.{IsWholeChar};
+
+    ghost stands_for = { λ _ place bytes. IsPlaceOf jis0208_shape
+        (IsWholeChar iso_2022_jp_rule (set_number Jis0208) bytes) place };
 
     /// All bytes lead a pair.
     #[inline(always)]
-    fn places(self, first: u8x16, second: u8x16) -> Option<Places> {
-        if !has_pairs(self.set) {
-            return None;
-        }
-        Some(Places {
+    fn places(self, first: u8x16, second: u8x16) -> Places {
+        Places {
             places: pair_places(first, second),
             leads: 0xFFFF,
-        })
+        }
     }
 
     #[inline(always)]
     fn word_at(self, place: u16) -> u32 {
-        let _set = self.set;
         Jis0208Index::word(place as usize)
     }
 
     #[inline(always)]
     fn unit_at(self, place: u16) -> u16 {
-        let _set = self.set;
         Jis0208Index::unit(place as usize)
+    }
+}
+
+/// Writes characters of the designated set from the front. Returns their length in bytes.
+#[inline(always)]
+pub(crate) fn put_in_set<U: Units>(decoder: Iso2022JpDecoder, src: &[u8], out: &mut U) -> usize
+    ensures { PutsPieces U.units_of (IsWholeChar iso_2022_jp_rule (set_number decoder.set))
+        (U.output out.old) (U.output out.new) src.now result }
+{
+    match decoder.set {
+        CharacterSet::Jis0208 => out.put_pieces(Pairs { pieces: InJis0208 }, src),
+        set => out.put_pieces(OneByOne { pieces: set }, src),
     }
 }
 
@@ -106,7 +127,7 @@ pub(crate) fn take_escape<U: Units>(
     };
     let next = with_held(escape.set(), None);
     let (_, unread) = src.split_at(3);
-    let taken = out.put_pieces(next, unread);
+    let taken = put_in_set(next, unread, out);
     if taken == 0 {
         return (decoder, 0);
     }

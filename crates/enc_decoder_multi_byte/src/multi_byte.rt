@@ -9,7 +9,7 @@ ghost use Rattle.enc_decoder_multi_byte.specs.MultiByte.{IsCharPair, IsMalformed
 use crate::encoding_laws::PrefixLaws;
 use enc_decoder::{Pending, Prefix, PrefixCodec, Text, TextLengths};
 use enc_index::DoubleByteIndex;
-use enc_output::{Pieces, Places, Units, put_run};
+use enc_output::{PairPieces, Pairs, Pieces, Places, Units, put_run};
 use std::marker::PhantomData;
 use std::simd::prelude::*;
 
@@ -97,12 +97,8 @@ fn malformed_len<E: MultiByte>(lead: u8, byte: u8) -> Option<u8>
 impl<E: PrefixLaws> Pieces for MultiByteDecoder<E> {
     ghost use Rattle.enc_decoder.specs.Prefixes.{prefix_rule};
     ghost use Rattle.enc_decoder.specs.Taking.{IsWholeChar};
-    ghost use Rattle.enc_index.specs.Grid.{IsPlaceOf};
 
     ghost means = { λ _. IsWholeChar (prefix_rule E.prefix) 0 };
-
-    ghost stands_for = { λ _ place bytes. IsPlaceOf E.Index.shape
-        (IsWholeChar (prefix_rule E.prefix) 0 bytes) place };
 
     #[inline(always)]
     fn piece(self, src: &[u8], at: usize) -> Option<(char, usize)> {
@@ -126,10 +122,15 @@ impl<E: PrefixLaws> Pieces for MultiByteDecoder<E> {
         E::laws();
         true
     }
+}
 
-    fn are_pairs(self) -> bool {
-        true
-    }
+impl<E: PrefixLaws> PairPieces for MultiByteDecoder<E> {
+    ghost use Rattle.enc_decoder.specs.Prefixes.{prefix_rule};
+    ghost use Rattle.enc_decoder.specs.Taking.{IsWholeChar};
+    ghost use Rattle.enc_index.specs.Grid.{IsPlaceOf};
+
+    ghost stands_for = { λ _ place bytes. IsPlaceOf E.Index.shape
+        (IsWholeChar (prefix_rule E.prefix) 0 bytes) place };
 
     fn few(self) -> usize {
         E::few()
@@ -137,9 +138,9 @@ impl<E: PrefixLaws> Pieces for MultiByteDecoder<E> {
 
     /// Bytes from 0x80 on lead a pair, and those below are ASCII.
     #[inline(always)]
-    fn places(self, first: u8x16, second: u8x16) -> Option<Places> {
+    fn places(self, first: u8x16, second: u8x16) -> Places {
         E::laws();
-        Some(Places::with_ascii(E::pair_places(first, second), first))
+        Places::with_ascii(E::pair_places(first, second), first)
     }
 
     #[inline(always)]
@@ -196,7 +197,7 @@ impl<E: PrefixLaws> PrefixCodec for MultiByteDecoder<E> {
 
     #[inline(always)]
     fn put_front<U: Units>(self, src: &[u8], out: &mut U) -> usize {
-        put_run(out, self, src)
+        put_run(out, Pairs { pieces: self }, src)
     }
 
     #[inline(always)]

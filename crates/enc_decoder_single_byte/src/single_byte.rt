@@ -12,7 +12,7 @@ use enc_decoder::{
     latin1_up_to, run,
 };
 use enc_index::SingleByteIndex;
-use enc_output::{Pieces, Units, put_run};
+use enc_output::{BytePieces, Pieces, SingleBytes, Units, put_run};
 
 /// The decoder of a legacy single-byte encoding, by its index (Encoding Standard 9.1).
 ///
@@ -66,8 +66,6 @@ impl Pieces for SingleByteDecoder {
 
     ghost means = { λ d. IsWholeChar (single_byte_state (single_byte_runs d.index)).rule 0 };
 
-    ghost stands_for = { λ _ _ _. Unit {0} };
-
     #[inline(always)]
     fn piece(self, src: &[u8], at: usize) -> Option<(char, usize)> {
         match character_of(self.index, src[at]) {
@@ -80,30 +78,17 @@ impl Pieces for SingleByteDecoder {
         let _index = self.index;
         true
     }
+}
 
-    fn are_bytes(self) -> bool {
-        let _index = self.index;
-        true
+impl BytePieces for SingleByteDecoder {
+    #[inline(always)]
+    fn word(self, byte: u8) -> u32 {
+        word_of(self.index, byte)
     }
 
     #[inline(always)]
-    fn word(self, is_pair: bool, first: u8, second: u8) -> u32 {
-        let _second = second;
-        if is_pair {
-            0
-        } else {
-            word_of(self.index, first)
-        }
-    }
-
-    #[inline(always)]
-    fn unit(self, is_pair: bool, first: u8, second: u8) -> u16 {
-        let _second = second;
-        if is_pair {
-            0
-        } else {
-            unit_of(self.index, first)
-        }
+    fn unit(self, byte: u8) -> u16 {
+        unit_of(self.index, byte)
     }
 }
 
@@ -114,7 +99,7 @@ impl ByteCodec for SingleByteDecoder {
 
     #[inline(always)]
     fn take_run<U: Units>(self, src: &[u8], out: &mut U) -> (SingleByteDecoder, usize) {
-        (self, put_run(out, self, src))
+        (self, put_run(out, SingleBytes { pieces: self }, src))
     }
 
     fn next_step(self, byte: u8) -> HandlerResult<SingleByteDecoder> {

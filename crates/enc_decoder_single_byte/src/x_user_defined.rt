@@ -11,7 +11,7 @@ use enc_decoder::{
     ByteCodec, CallOptions, DecoderOutcome, Emission, HandlerResult, RawDecoder, TextLengths,
     latin1_up_to, run,
 };
-use enc_output::{Pieces, Units, put_run};
+use enc_output::{BytePieces, Pieces, SingleBytes, Units, put_run};
 
 /// The x-user-defined decoder (Encoding Standard 14.5).
 ///
@@ -60,8 +60,6 @@ impl Pieces for XUserDefinedDecoder {
 
     ghost means = { λ _. IsWholeChar x_user_defined_state.rule 0 };
 
-    ghost stands_for = { λ _ _ _. Unit {0} };
-
     #[inline(always)]
     fn piece(self, src: &[u8], at: usize) -> Option<(char, usize)> {
         Some((character_of(src[at]), 1))
@@ -70,21 +68,17 @@ impl Pieces for XUserDefinedDecoder {
     fn has_ascii(self) -> bool {
         true
     }
+}
 
-    fn are_bytes(self) -> bool {
-        true
+impl BytePieces for XUserDefinedDecoder {
+    #[inline(always)]
+    fn word(self, byte: u8) -> u32 {
+        word_of(byte)
     }
 
     #[inline(always)]
-    fn word(self, is_pair: bool, first: u8, second: u8) -> u32 {
-        let _second = second;
-        if is_pair { 0 } else { word_of(first) }
-    }
-
-    #[inline(always)]
-    fn unit(self, is_pair: bool, first: u8, second: u8) -> u16 {
-        let _second = second;
-        if is_pair { 0 } else { unit_of(first) }
+    fn unit(self, byte: u8) -> u16 {
+        unit_of(byte)
     }
 }
 
@@ -95,7 +89,7 @@ impl ByteCodec for XUserDefinedDecoder {
 
     #[inline(always)]
     fn take_run<U: Units>(self, src: &[u8], out: &mut U) -> (XUserDefinedDecoder, usize) {
-        (self, put_run(out, self, src))
+        (self, put_run(out, SingleBytes { pieces: self }, src))
     }
 
     fn next_step(self, byte: u8) -> HandlerResult<XUserDefinedDecoder> {

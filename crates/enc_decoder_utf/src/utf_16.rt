@@ -9,7 +9,7 @@ ghost use Rattle.enc_decoder_utf.specs.Utf16State.{with_pending};
 ghost use Rattle.enc_decoder.specs.declared.prefix.Prefix.TheVariants.{Incomplete};
 
 use enc_decoder::{Pending, Prefix, PrefixCodec, Text, TextLengths};
-use enc_output::{Pieces, Units, put_run};
+use enc_output::{CodeUnits, Pieces, UnitPieces, Units, put_run};
 use std::marker::Model;
 
 /// The shared UTF-16 decoder (Encoding Standard 14.2), big-endian or little-endian.
@@ -128,13 +128,17 @@ fn read_fourth(big_endian: bool, first: u8, second: u8, third: u8, byte: u8) -> 
     }
 }
 
-impl Pieces for Utf16Decoder {
+/// The characters of UTF-16 in a byte order.
+#[derive(Clone, Copy)]
+struct InOrder {
+    big_endian: bool,
+}
+
+impl Pieces for InOrder {
     ghost use Rattle.enc_decoder_utf.specs.Utf16.{utf_16_rule};
     ghost use Rattle.enc_decoder.specs.Taking.{IsWholeChar};
 
-    ghost means = { λ d. IsWholeChar (utf_16_rule d.big_endian) 0 };
-
-    ghost stands_for = { λ _ _ _. Unit {0} };
+    ghost means = { λ o. IsWholeChar (utf_16_rule o.big_endian) 0 };
 
     #[inline(always)]
     fn piece(self, src: &[u8], at: usize) -> Option<(char, usize)> {
@@ -158,14 +162,11 @@ impl Pieces for Utf16Decoder {
         }
         Some((pair_char(unit, trail), 4))
     }
+}
 
-    fn has_ascii(self) -> bool {
-        let _pending = self.pending;
-        false
-    }
-
-    fn code_units(self) -> Option<bool> {
-        Some(self.big_endian)
+impl UnitPieces for InOrder {
+    fn is_big_endian(self) -> bool {
+        self.big_endian
     }
 }
 
@@ -219,7 +220,10 @@ impl PrefixCodec for Utf16Decoder {
 
     #[inline(always)]
     fn put_front<U: Units>(self, src: &[u8], out: &mut U) -> usize {
-        put_run(out, self, src)
+        let pieces = InOrder {
+            big_endian: self.big_endian,
+        };
+        put_run(out, CodeUnits { pieces }, src)
     }
 
     #[inline(always)]

@@ -9,7 +9,7 @@ ghost use Rattle.enc_output.specs.Places.{IsPlace};
 ghost use Rattle.enc_utf8.specs.Validity.{AreAscii};
 
 use crate::gather::store_units;
-use crate::pieces::Pieces;
+use crate::pieces::PairPieces;
 use enc_utf8::{store_text, store_word, utf8_of};
 use std::simd::prelude::*;
 
@@ -45,7 +45,7 @@ pub(crate) trait BufferUnit: Copy {
     /// Stores the character at a place after the first `at` units of a buffer. Returns its end.
     ///
     /// `None` if there is no character, or none that is known.
-    fn store_place<P: Pieces>(
+    fn store_place<P: PairPieces>(
         buffer: &mut [Self],
         at: usize,
         pieces: P,
@@ -83,7 +83,7 @@ impl BufferUnit for u8 {
     }
 
     #[inline(always)]
-    fn store_place<P: Pieces>(
+    fn store_place<P: PairPieces>(
         buffer: &mut [u8],
         at: usize,
         pieces: P,
@@ -118,7 +118,7 @@ impl BufferUnit for u16 {
     }
 
     #[inline(always)]
-    fn store_place<P: Pieces>(
+    fn store_place<P: PairPieces>(
         buffer: &mut [u16],
         at: usize,
         pieces: P,

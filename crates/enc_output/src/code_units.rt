@@ -2,11 +2,13 @@
 
 ghost use Rattle.std.specs.Prelude.{◌≡◌, ℕ, ◌+◌, ◌*◌, ◌<◌, IsTrue, take};
 ghost use Rattle.std.specs.Char.Escape.{encode_utf16};
-ghost use Rattle.enc_output.specs.CodeUnits.{AreCodeUnits, units_of_bytes};
+ghost use Rattle.enc_output.specs.CodeUnits.{units_of_bytes};
 ghost use Rattle.enc_utf8.specs.Text.{AreScalars, units_of_text};
 
 use crate::gather::{Gather, store_units};
-use crate::pieces::Pieces;
+use crate::pieces::{Pieces, UnitPieces};
+use crate::run::Run;
+use crate::unit_slice::{UnitSlice, append_each};
 use enc_utf8::{SCALARS_STEP, store_scalars, store_text, units_before_surrogate, utf8_of};
 use std::simd::prelude::*;
 
@@ -39,24 +41,29 @@ fn are_scalars(units: u16x8) -> bool
 
 /// Characters of one code unit, and others one by one.
 #[derive(Clone, Copy)]
-pub(crate) struct CodeUnits<P> {
-    pub(crate) pieces: P,
-    pub(crate) big_endian: bool,
+pub struct CodeUnits<P> {
+    pub pieces: P,
 }
 
-impl<P: Pieces> Gather for CodeUnits<P> {
-    ghost means = { λ g. P.means g.pieces };
+impl<P: UnitPieces> Gather for CodeUnits<P> {
+    ghost means = { λ r. P.means r.pieces };
 
-    ghost ready = { λ g. AreCodeUnits (P.means g.pieces) g.big_endian };
-
-    fn has_ascii(&self) -> bool {
+    fn has_ascii(self) -> bool {
+        let _pieces = self.pieces;
         false
+    }
+
+    #[inline(always)]
+    fn write_each<U: UnitSlice>(self, out: &mut U, src: &[u8]) -> usize {
+        append_each(out, self.pieces, src)
     }
 
     /// Stops where no character is known to begin, and 36 bytes before the end of the room or 32
     /// before that of `src`.
     #[inline(always)]
-    fn gather(&self, buffer: &mut [u8], room: usize, src: &[u8]) -> (usize, usize) {
+    fn gather(self, buffer: &mut [u8], room: usize, src: &[u8]) -> (usize, usize) {
+        let pieces = self.pieces;
+        let big_endian = pieces.is_big_endian();
         let limit = buffer.len().min(room);
         if limit < SCALARS_STEP {
             return (0, 0);
@@ -65,14 +72,14 @@ impl<P: Pieces> Gather for CodeUnits<P> {
         let mut read = 0;
         let mut written = 0;
         while written <= most && 32 <= src.len() - read {
-            let units = units_in(u8x16::from_slice(&src[read..]), self.big_endian);
+            let units = units_in(u8x16::from_slice(&src[read..]), big_endian);
             let (count, end) = store_scalars(buffer, written, units);
             read += 2 * count;
             written = end;
             if count == 8 {
                 continue;
             }
-            let Some((character, len)) = self.pieces.piece(src, read) else {
+            let Some((character, len)) = pieces.piece(src, read) else {
                 break;
             };
             written = store_text(buffer, written, utf8_of(character));
@@ -83,7 +90,9 @@ impl<P: Pieces> Gather for CodeUnits<P> {
 
     /// Stops as `gather` does, but 16 code units before the end of the room.
     #[inline(always)]
-    fn gather_units(&self, buffer: &mut [u16], room: usize, src: &[u8]) -> (usize, usize) {
+    fn gather_units(self, buffer: &mut [u16], room: usize, src: &[u8]) -> (usize, usize) {
+        let pieces = self.pieces;
+        let big_endian = pieces.is_big_endian();
         let limit = buffer.len().min(room);
         if limit < UNITS_STEP {
             return (0, 0);
@@ -92,8 +101,8 @@ impl<P: Pieces> Gather for CodeUnits<P> {
         let mut read = 0;
         let mut written = 0;
         while written <= most && 32 <= src.len() - read {
-            let units = units_in(u8x16::from_slice(&src[read..]), self.big_endian);
-            let more = units_in(u8x16::from_slice(&src[read + 16..]), self.big_endian);
+            let units = units_in(u8x16::from_slice(&src[read..]), big_endian);
+            let more = units_in(u8x16::from_slice(&src[read + 16..]), big_endian);
             units.copy_to_slice(&mut buffer[written..]);
             if are_scalars(units) & are_scalars(more) {
                 more.copy_to_slice(&mut buffer[written + 8..]);
@@ -107,7 +116,7 @@ impl<P: Pieces> Gather for CodeUnits<P> {
             if count == 8 {
                 continue;
             }
-            let Some((character, len)) = self.pieces.piece(src, read) else {
+            let Some((character, len)) = pieces.piece(src, read) else {
                 break;
             };
             written = store_units(buffer, written, character);
@@ -116,3 +125,5 @@ impl<P: Pieces> Gather for CodeUnits<P> {
         (read, written)
     }
 }
+
+impl<P: UnitPieces> Run for CodeUnits<P> {}

@@ -1,12 +1,18 @@
 //! Characters of one byte or two, eight at a time, with no branch on their lengths.
 
 ghost use Rattle.std.specs.Prelude.{◌≡◌, ℕ, ◌+◌, ◌<◌, ◌≤◌, List, [], length, take, drop};
+ghost use Rattle.std.specs.Char.{encode_utf8};
 ghost use Rattle.enc_output.specs.Gathering.{GathersChars};
+ghost use Rattle.enc_output.specs.Output.{borrowed_output};
+ghost use Rattle.enc_output.specs.PieceRuns.{PutsPieces};
 ghost use Rattle.enc_output.specs.Places.{ArePlaces, EachIsPlace};
 
 use crate::buffer_unit::BufferUnit;
-use crate::gather::Gather;
-use crate::pieces::Pieces;
+use crate::gather::{BUFFER, Gather};
+use crate::pieces::{PairPieces, Pieces};
+use crate::run::Run;
+use crate::unit_slice::{UnitSlice, append_each, append_few};
+use crate::utf8_slice::Utf8Slice;
 use enc_utf8::{are_ascii, ends_of};
 use std::simd::prelude::*;
 
@@ -28,7 +34,7 @@ struct Start {
 /// Returns how many bytes the characters have, the end of their code units, and whether they are
 /// four.
 #[inline(always)]
-fn store_four<B: BufferUnit, P: Pieces>(
+fn store_four<B: BufferUnit, P: PairPieces>(
     pieces: P,
     buffer: &mut [B],
     at: usize,
@@ -65,7 +71,7 @@ fn store_four<B: BufferUnit, P: Pieces>(
 
 /// Does the same for eight characters.
 #[inline(always)]
-fn store_eight<B: BufferUnit, P: Pieces>(
+fn store_eight<B: BufferUnit, P: PairPieces>(
     pieces: P,
     buffer: &mut [B],
     at: usize,
@@ -97,7 +103,7 @@ fn store_eight<B: BufferUnit, P: Pieces>(
 
 /// Writes characters from the front of `src` to the start of a buffer, as `Gather::gather` does.
 #[inline(always)]
-fn gather_pairs<B: BufferUnit, P: Pieces>(
+fn gather_pairs<B: BufferUnit, P: PairPieces>(
     pieces: P,
     buffer: &mut [B],
     room: usize,
@@ -125,9 +131,7 @@ fn gather_pairs<B: BufferUnit, P: Pieces>(
             continue;
         }
         let next = u8x16::from_slice(&src[read + 1..]);
-        let Some(found) = pieces.places(lanes, next) else {
-            break;
-        };
+        let found = pieces.places(lanes, next);
         let places = found.places.to_array();
         let (more, end) = store_eight(pieces, buffer, written, &places, found.leads);
         read += more;
@@ -144,31 +148,67 @@ fn gather_pairs<B: BufferUnit, P: Pieces>(
     (read, written)
 }
 
+/// Writes the characters at the front as UTF-8, eight a turn. Returns their length in bytes.
+///
+/// It is a function of its own, since a function clears its arrays at each call, even if it does
+/// not use them.
+#[inline(never)]
+fn write_by_eight<P: PairPieces>(run: Pairs<P>, out: &mut Utf8Slice<'_>, src: &[u8]) -> usize
+    ensures { PutsPieces encode_utf8 (P.means run.pieces)
+        (borrowed_output out.old.len out.old.dst) (borrowed_output out.new.len out.new.dst) src.now
+        result }
+{
+    out.append_gathered(run, &mut [0; BUFFER], src)
+}
+
 /// Characters of one byte or two, and others one by one.
 ///
 /// It stops where no character is known to begin, and 36 code units before the end of the room or
 /// 32 bytes before that of `src`.
 #[derive(Clone, Copy)]
-pub(crate) struct Pairs<P> {
-    pub(crate) pieces: P,
+pub struct Pairs<P> {
+    pub pieces: P,
 }
 
-impl<P: Pieces> Gather for Pairs<P> {
-    ghost means = { λ g. P.means g.pieces };
+impl<P: PairPieces> Gather for Pairs<P> {
+    ghost means = { λ r. P.means r.pieces };
 
-    ghost ready = { λ _. Unit {0} };
-
-    fn has_ascii(&self) -> bool {
+    fn has_ascii(self) -> bool {
         self.pieces.has_ascii()
     }
 
     #[inline(always)]
-    fn gather(&self, buffer: &mut [u8], room: usize, src: &[u8]) -> (usize, usize) {
+    fn write_each<U: UnitSlice>(self, out: &mut U, src: &[u8]) -> usize {
+        append_each(out, self.pieces, src)
+    }
+
+    #[inline(always)]
+    fn gather(self, buffer: &mut [u8], room: usize, src: &[u8]) -> (usize, usize) {
         gather_pairs(self.pieces, buffer, room, src)
     }
 
     #[inline(always)]
-    fn gather_units(&self, buffer: &mut [u16], room: usize, src: &[u8]) -> (usize, usize) {
+    fn gather_units(self, buffer: &mut [u16], room: usize, src: &[u8]) -> (usize, usize) {
         gather_pairs(self.pieces, buffer, room, src)
+    }
+}
+
+impl<P: PairPieces> Run for Pairs<P> {
+    /// Writes a few characters one by one, and then eight a turn.
+    ///
+    /// If none are to be one by one, ASCII is not looked for first: in malformed input the ASCII
+    /// after a sequence is a byte or two.
+    #[inline(always)]
+    fn write_utf8(self, out: &mut Utf8Slice<'_>, src: &[u8]) -> usize {
+        let few = self.pieces.few();
+        if few == 0 {
+            return out.append_turns(self, &mut [0; BUFFER], src);
+        }
+        let (at, goes_on) = append_few(out, self.pieces, few, src);
+        if !goes_on {
+            return at;
+        }
+        let (_, rest) = src.split_at(at);
+        at + write_by_eight(self, out, rest)
     }
 }

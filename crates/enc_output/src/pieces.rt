@@ -4,10 +4,11 @@ ghost use Rattle.std.specs.Prelude.{ℕ, ◌<◌, ◌≤◌, List, [], ◌∷◌
 ghost use Rattle.enc_output.specs.PieceRuns.{PutsPieces};
 ghost use Rattle.enc_utf8.specs.Pieces.{AreWrittenAsThemselves};
 ghost use Rattle.enc_output.specs.CodeUnits.{AreCodeUnits};
-ghost use Rattle.enc_output.specs.Pairs.{byte_or_pair, MeansWord, MeansUnit};
+ghost use Rattle.enc_output.specs.Pairs.{MeansWord, MeansUnit};
 ghost use Rattle.enc_output.specs.Places.{ArePlaces, IsPlace};
 
 use crate::places::Places;
+use crate::run::Run;
 use crate::units::Units;
 use std::simd::prelude::*;
 
@@ -15,9 +16,6 @@ use std::simd::prelude::*;
 pub trait Pieces: Copy {
     // the bytes mean the character
     ghost means: { Self → List ℕ → ℕ → Type 0 };
-
-    // at the place these bytes are looked up
-    ghost stands_for: { Self → ℕ → List ℕ → Type 0 };
 
     /// Returns the character whose bytes begin at `at`, and their number, at least one.
     ///
@@ -30,7 +28,11 @@ pub trait Pieces: Copy {
 
     /// Returns whether each byte below 0x80 is the ASCII character with that number.
     fn has_ascii(self) -> bool
-        ensures { IsTrue result → (b : ℕ) → b < 0x80 → means self (b ∷ []) b };
+        ensures { IsTrue result → (b : ℕ) → b < 0x80 → means self (b ∷ []) b }
+    {
+        let _pieces = self;
+        false
+    }
 
     /// Returns how many of sixteen bytes at the front are the ASCII characters with their numbers.
     ///
@@ -44,22 +46,12 @@ pub trait Pieces: Copy {
         let _bytes = bytes;
         0
     }
+}
 
-    /// Returns the byte order if the input is UTF-16: true for big-endian.
-    fn code_units(self) -> Option<bool>
-        ensures { IfSome result (AreCodeUnits (means self)) }
-    {
-        let _pieces = self;
-        None
-    }
-
-    /// Returns whether looking characters up by their places pays: most have one byte or two.
-    ///
-    /// The output is the same either way.
-    fn are_pairs(self) -> bool {
-        let _pieces = self;
-        false
-    }
+/// Pieces of one byte or two, most of which are looked up by their places.
+pub trait PairPieces: Pieces {
+    // at the place these bytes are looked up
+    ghost stands_for: { Self → ℕ → List ℕ → Type 0 };
 
     /// Returns how many characters of a run are written one by one, before lookups by places.
     ///
@@ -74,74 +66,45 @@ pub trait Pieces: Copy {
     /// leads a pair.
     ///
     /// Which bytes lead a pair is a guess, for bytes at which a character begins: a wrong one costs
-    /// time, and changes no output. `None` if there are no pairs. No branch and no load.
-    #[inline(always)]
-    fn places(self, first: u8x16, second: u8x16) -> Option<Places>
-        ensures { IfSome result
-            (λ p. ArePlaces (stands_for self) 16 p.places p.leads first second) }
-    {
-        let _pieces = self;
-        let _bytes = (first, second);
-        None
-    }
+    /// time, and changes no output. No branch and no load.
+    fn places(self, first: u8x16, second: u8x16) -> Places
+        ensures { ArePlaces (stands_for self) 16 result.places result.leads first second };
 
     /// Returns the UTF-8 of the character at a place, as a word.
     ///
-    /// The word is that of `word`. 0 if there is no character, or none that is known. One load.
-    #[inline(always)]
+    /// The word has the bytes, the first lowest, and their number in the highest byte. 0 if there
+    /// is no character, or none that is known. One load.
     fn word_at(self, place: u16) -> u32
         requires place { IsPlace (stands_for self) place }
         ensures { 0 < result → (bytes : List ℕ) → stands_for self place bytes
-            → MeansWord (means self) bytes result }
-    {
-        let _pieces = self;
-        let _place = place;
-        0
-    }
+            → MeansWord (Self.means self) bytes result };
 
     /// Returns the same character as a code unit of UTF-16, or 0.
-    #[inline(always)]
     fn unit_at(self, place: u16) -> u16
         requires place { IsPlace (stands_for self) place }
         ensures { 0 < result → (bytes : List ℕ) → stands_for self place bytes
-            → MeansUnit (means self) bytes result }
-    {
-        let _pieces = self;
-        let _place = place;
-        0
-    }
+            → MeansUnit (Self.means self) bytes result };
+}
 
-    /// Returns the UTF-8 of the character that the first byte is, or the pair, as a word.
+/// Pieces of one byte.
+pub trait BytePieces: Pieces {
+    /// Returns the UTF-8 of the character that a byte is, as a word.
     ///
-    /// The word has the bytes, the first lowest, and their number in the highest byte. 0 if they
-    /// are no character, or none that is known. No branch and at most one load from a table.
-    #[inline(always)]
-    fn word(self, is_pair: bool, first: u8, second: u8) -> u32
-        ensures { 0 < result → MeansWord (means self) (byte_or_pair is_pair first second) result }
-    {
-        let _pieces = self;
-        let _bytes = (is_pair, first, second);
-        0
-    }
+    /// The word has the bytes, the first lowest, and their number in the highest byte. 0 if the
+    /// byte is no character, or none that is known. No branch and one load.
+    fn word(self, byte: u8) -> u32
+        ensures { 0 < result → MeansWord (Self.means self) (byte ∷ []) result };
 
     /// Returns the same character as a code unit of UTF-16, or 0.
-    #[inline(always)]
-    fn unit(self, is_pair: bool, first: u8, second: u8) -> u16
-        ensures { 0 < result → MeansUnit (means self) (byte_or_pair is_pair first second) result }
-    {
-        let _pieces = self;
-        let _bytes = (is_pair, first, second);
-        0
-    }
+    fn unit(self, byte: u8) -> u16
+        ensures { 0 < result → MeansUnit (Self.means self) (byte ∷ []) result };
+}
 
-    /// Returns whether looking each byte up by `word` and `unit` pays: most bytes are a character
-    /// by themselves.
-    ///
-    /// The output is the same either way.
-    fn are_bytes(self) -> bool {
-        let _pieces = self;
-        false
-    }
+/// Pieces of UTF-16: code units, and surrogate pairs.
+pub trait UnitPieces: Pieces {
+    /// Returns the byte order: true for big-endian.
+    fn is_big_endian(self) -> bool
+        ensures { AreCodeUnits (Self.means self) result };
 }
 
 /// Writes characters from the front of `src`, as `put_pieces` of the output does.
@@ -149,9 +112,9 @@ pub trait Pieces: Copy {
 /// Returns their length in bytes. It is a function of its own, so that the loop over bytes that
 /// calls it stays small enough to be inlined into the loop that replaces malformed sequences.
 #[inline(never)]
-pub fn put_run<U: Units, P: Pieces>(out: &mut U, pieces: P, src: &[u8]) -> usize
-    ensures { PutsPieces U.units_of (P.means pieces) (U.output out.old) (U.output out.new) src.now
+pub fn put_run<U: Units, R: Run>(out: &mut U, run: R, src: &[u8]) -> usize
+    ensures { PutsPieces U.units_of (R.means run) (U.output out.old) (U.output out.new) src.now
         result }
 {
-    out.put_pieces(pieces, src)
+    out.put_pieces(run, src)
 }

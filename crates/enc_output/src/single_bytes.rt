@@ -4,18 +4,26 @@ ghost use Rattle.std.specs.Prelude.{◌≡◌, ℕ, ◌+◌, ◌<◌, ◌≤◌,
 ghost use Rattle.std.specs.Char.{encode_utf8};
 ghost use Rattle.std.specs.Char.Escape.{encode_utf16};
 ghost use Rattle.enc_output.specs.Gathering.{GathersChars};
+ghost use Rattle.enc_output.specs.Output.{borrowed_output};
+ghost use Rattle.enc_output.specs.PieceRuns.{PutsPieces};
 ghost use Rattle.enc_utf8.specs.Validity.{AreAscii};
 
 use crate::gather::Gather;
-use crate::pieces::Pieces;
+use crate::pieces::{BytePieces, Pieces};
+use crate::run::Run;
+use crate::unit_slice::{UnitSlice, append_each};
+use crate::utf8_slice::Utf8Slice;
 use enc_utf8::{ascii_from, store_word};
 use std::simd::prelude::*;
 
+/// The least number of bytes of a run for which a long buffer is cleared.
+const LONG: usize = 512;
+
 /// The length of a buffer for a long run.
-pub(crate) const LONG_BUFFER: usize = 2128;
+const LONG_BUFFER: usize = 2128;
 
 /// The length of a buffer for a shorter run, which takes less time to clear.
-pub(crate) const SHORT_BUFFER: usize = 400;
+const SHORT_BUFFER: usize = 400;
 
 /// The number of bytes looked up one after another.
 const STEP: usize = 16;
@@ -30,7 +38,7 @@ const TURN: usize = 80;
 /// buffer. It stops at a byte that is no character. Returns the number of bytes read and the end of
 /// their UTF-8.
 #[inline(always)]
-fn store_bytes<P: Pieces>(
+fn store_bytes<P: BytePieces>(
     pieces: P,
     buffer: &mut [u8],
     at: usize,
@@ -48,7 +56,7 @@ fn store_bytes<P: Pieces>(
     let mut read = 0;
     let mut end = at;
     while read < STEP {
-        let word = pieces.word(false, src[from + read], 0);
+        let word = pieces.word(src[from + read]);
         if word == 0 {
             break;
         }
@@ -70,7 +78,7 @@ fn are_dense(lanes: u8x64) -> bool {
 /// Returns the number of bytes read, the end of their UTF-8, and whether the byte after the ASCII
 /// is a character.
 #[inline(always)]
-fn store_hop<P: Pieces>(
+fn store_hop<P: BytePieces>(
     pieces: P,
     buffer: &mut [u8],
     at: usize,
@@ -90,7 +98,7 @@ fn store_hop<P: Pieces>(
         (take at buffer.old) (take result.1 buffer.new) }
 {
     u8x64::from_slice(src).copy_to_slice(&mut buffer[at..]);
-    let word = pieces.word(false, src[ascii], 0);
+    let word = pieces.word(src[ascii]);
     if word == 0 {
         return (ascii, at + ascii, false);
     }
@@ -100,7 +108,7 @@ fn store_hop<P: Pieces>(
 /// Stores the UTF-8 of the first 64 bytes of `src`, which `lanes` holds. It stops after the second
 /// byte that is not ASCII, or at one that is no character. Returns the same as `store_hop`.
 #[inline(always)]
-fn store_hops<P: Pieces>(
+fn store_hops<P: BytePieces>(
     pieces: P,
     buffer: &mut [u8],
     at: usize,
@@ -135,7 +143,7 @@ fn store_hops<P: Pieces>(
 /// It hops from one byte that is not ASCII to the next, or goes byte by byte if many are not.
 /// Returns the same as `store_hop`.
 #[inline(always)]
-fn store_turn<P: Pieces>(
+fn store_turn<P: BytePieces>(
     pieces: P,
     buffer: &mut [u8],
     at: usize,
@@ -163,7 +171,7 @@ fn store_turn<P: Pieces>(
 /// Stores the code units of sixteen bytes of `src` from `from` on, after the first `at` code units
 /// of a buffer. It stops at a byte that has none. Returns their number.
 #[inline(always)]
-fn store_units_step<P: Pieces>(
+fn store_units_step<P: BytePieces>(
     pieces: P,
     buffer: &mut [u16],
     at: usize,
@@ -179,7 +187,7 @@ fn store_units_step<P: Pieces>(
 {
     let mut read = 0;
     while read < STEP {
-        let unit = pieces.unit(false, src[from + read], 0);
+        let unit = pieces.unit(src[from + read]);
         if unit == 0 {
             break;
         }
@@ -189,25 +197,41 @@ fn store_units_step<P: Pieces>(
     read
 }
 
-/// Characters of single bytes. Each byte is looked up by `word` or `unit`.
-#[derive(Clone, Copy)]
-pub(crate) struct SingleBytes<P> {
-    pub(crate) pieces: P,
+/// Writes the characters at the front of a long run as UTF-8. Returns their length in bytes.
+///
+/// It is a function of its own, since a function clears its arrays at each call, even if it does
+/// not use them.
+#[inline(never)]
+fn write_long<P: BytePieces>(run: SingleBytes<P>, out: &mut Utf8Slice<'_>, src: &[u8]) -> usize
+    ensures { PutsPieces encode_utf8 (P.means run.pieces)
+        (borrowed_output out.old.len out.old.dst) (borrowed_output out.new.len out.new.dst) src.now
+        result }
+{
+    out.append_gathered(run, &mut [0; LONG_BUFFER], src)
 }
 
-impl<P: Pieces> Gather for SingleBytes<P> {
-    ghost means = { λ g. P.means g.pieces };
+/// Characters of single bytes. Each byte is looked up by `word` or `unit`.
+#[derive(Clone, Copy)]
+pub struct SingleBytes<P> {
+    pub pieces: P,
+}
 
-    ghost ready = { λ _. Unit {0} };
+impl<P: BytePieces> Gather for SingleBytes<P> {
+    ghost means = { λ r. P.means r.pieces };
 
-    fn has_ascii(&self) -> bool {
+    fn has_ascii(self) -> bool {
         self.pieces.has_ascii()
+    }
+
+    #[inline(always)]
+    fn write_each<U: UnitSlice>(self, out: &mut U, src: &[u8]) -> usize {
+        append_each(out, self.pieces, src)
     }
 
     /// Stops at a byte that is no character, and 80 bytes before the end of the room or 16 before
     /// that of `src`. In the last 128 bytes it takes sixteen at a time.
     #[inline(always)]
-    fn gather(&self, buffer: &mut [u8], room: usize, src: &[u8]) -> (usize, usize) {
+    fn gather(self, buffer: &mut [u8], room: usize, src: &[u8]) -> (usize, usize) {
         let pieces = self.pieces;
         let limit = buffer.len().saturating_sub(LANES).min(room);
         if limit < TURN {
@@ -237,7 +261,7 @@ impl<P: Pieces> Gather for SingleBytes<P> {
 
     /// Stops at a byte that has no code unit, and 16 before the end of the room or that of `src`.
     #[inline(always)]
-    fn gather_units(&self, buffer: &mut [u16], room: usize, src: &[u8]) -> (usize, usize) {
+    fn gather_units(self, buffer: &mut [u16], room: usize, src: &[u8]) -> (usize, usize) {
         let pieces = self.pieces;
         let limit = buffer.len().min(room);
         if limit < STEP {
@@ -253,5 +277,15 @@ impl<P: Pieces> Gather for SingleBytes<P> {
             }
         }
         (count, count)
+    }
+}
+
+impl<P: BytePieces> Run for SingleBytes<P> {
+    #[inline(always)]
+    fn write_utf8(self, out: &mut Utf8Slice<'_>, src: &[u8]) -> usize {
+        if src.len() < LONG {
+            return out.append_gathered(self, &mut [0; SHORT_BUFFER], src);
+        }
+        write_long(self, out, src)
     }
 }

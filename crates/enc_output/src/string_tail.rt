@@ -9,7 +9,7 @@ ghost use Rattle.enc_output.specs.Output.{with_appended, string_output};
 ghost use Rattle.enc_output.specs.PieceRuns.{PutsPieces};
 
 use crate::laws::utf_8_units_determine_a_text;
-use crate::pieces::Pieces;
+use crate::run::Run;
 use crate::units::Units;
 use crate::utf8_slice::Utf8Slice;
 use enc_utf8::{ascii_len, utf8_front};
@@ -60,8 +60,8 @@ impl<'a> StringTail<'a> {
     /// Appends characters through a buffer, until none are found or the next does not fit. Returns
     /// their length in bytes.
     #[inline(always)]
-    fn put_through<P: Pieces>(&mut self, buffer: &mut [u8], pieces: P, src: &[u8]) -> usize
-        ensures { PutsPieces encode_utf8 (P.means pieces)
+    fn put_through<R: Run>(&mut self, buffer: &mut [u8], run: R, src: &[u8]) -> usize
+        ensures { PutsPieces encode_utf8 (R.means run)
             (string_output (string_bytes self.old.text.now) self.old.room self.old.text.ghost_name)
             (string_output (string_bytes self.new.text.now) self.new.room self.new.text.ghost_name)
             src.now result }
@@ -72,7 +72,7 @@ impl<'a> StringTail<'a> {
             let most = buffer.len().min(self.room);
             let front = &mut buffer[..most];
             let mut out = Utf8Slice::new(front);
-            let read = out.put_pieces(pieces, rest);
+            let read = out.put_pieces(run, rest);
             let written = out.len();
             if read == 0 {
                 return at;
@@ -87,13 +87,13 @@ impl<'a> StringTail<'a> {
     /// It is a function of its own, since a function clears its arrays at each call, even if it
     /// does not use them.
     #[inline(never)]
-    fn put_long<P: Pieces>(&mut self, pieces: P, src: &[u8]) -> usize
-        ensures { PutsPieces encode_utf8 (P.means pieces)
+    fn put_long<R: Run>(&mut self, run: R, src: &[u8]) -> usize
+        ensures { PutsPieces encode_utf8 (R.means run)
             (string_output (string_bytes self.old.text.now) self.old.room self.old.text.ghost_name)
             (string_output (string_bytes self.new.text.now) self.new.room self.new.text.ghost_name)
             src.now result }
     {
-        self.put_through(&mut [0; LONG], pieces, src)
+        self.put_through(&mut [0; LONG], run, src)
     }
 }
 
@@ -146,10 +146,10 @@ impl<'a> Units for StringTail<'a> {
         len
     }
 
-    fn put_pieces<P: Pieces>(&mut self, pieces: P, src: &[u8]) -> usize {
+    fn put_pieces<R: Run>(&mut self, run: R, src: &[u8]) -> usize {
         if src.len() < GATHERED {
-            return self.put_through(&mut [0; GATHERED], pieces, src);
+            return self.put_through(&mut [0; GATHERED], run, src);
         }
-        self.put_long(pieces, src)
+        self.put_long(run, src)
     }
 }

@@ -11,7 +11,7 @@ use crate::pieces::Pieces;
 use std::simd::prelude::*;
 
 /// A slice that takes characters from its start on.
-pub(crate) trait UnitSlice {
+pub trait UnitSlice {
     // the code units of a character
     ghost units_of: { ℕ → List ℕ };
 
@@ -34,8 +34,8 @@ pub(crate) trait UnitSlice {
 /// Writes the ASCII at the front, as much as fits, if ASCII bytes are characters. Returns its
 /// length.
 #[inline(always)]
-pub(crate) fn append_ascii_of<U: UnitSlice, G: Gather>(out: &mut U, by: &G, src: &[u8]) -> usize
-    ensures { PutsPieces U.units_of (G.means by.now) (U.output out.old) (U.output out.new) src.now
+pub(crate) fn append_ascii_of<U: UnitSlice, G: Gather>(out: &mut U, by: G, src: &[u8]) -> usize
+    ensures { PutsPieces U.units_of (G.means by) (U.output out.old) (U.output out.new) src.now
         result }
 {
     if !by.has_ascii() {
@@ -90,4 +90,33 @@ pub(crate) fn append_each<U: UnitSlice, P: Pieces>(out: &mut U, pieces: P, src: 
         at += len;
     }
     at
+}
+
+/// Writes at most this number of characters at the front, each where the one before ends. Returns
+/// their length in bytes, and whether more may follow.
+///
+/// In malformed input, runs are too short for a buffer to pay.
+#[inline(always)]
+pub(crate) fn append_few<U: UnitSlice, P: Pieces>(
+    out: &mut U,
+    pieces: P,
+    few: usize,
+    src: &[u8],
+) -> (usize, bool)
+    ensures { PutsPieces U.units_of (P.means pieces) (U.output out.old) (U.output out.new) src.now
+        result.0 }
+{
+    let mut at = 0;
+    let mut count = 0;
+    while count < few && at < src.len() {
+        let Some((character, len)) = pieces.piece(src, at) else {
+            return (at, false);
+        };
+        if !out.append_char(character) {
+            return (at, false);
+        }
+        at += len;
+        count += 1;
+    }
+    (at, true)
 }

@@ -7,7 +7,7 @@ ghost use Rattle.enc_output.specs.AsciiRun.{PutsAscii};
 ghost use Rattle.enc_output.specs.PieceRuns.{PutsPieces};
 ghost use Rattle.enc_utf8.specs.Pieces.{IsUtf8Char};
 
-use crate::pieces::Pieces;
+use crate::run::Run;
 
 /// An output that takes whole characters while their code units fit.
 pub trait Units {
@@ -61,15 +61,15 @@ pub trait Units {
         0
     }
 
-    /// Writes characters that `pieces` finds at the front of `src`, each as `put` does.
+    /// Writes characters that `run` finds at the front of `src`, each as `put` does.
     ///
     /// Returns their length in bytes. The run need not be maximal, and ends before a character that
     /// does not fit. The output after it is unchanged.
-    fn put_pieces<P: Pieces>(&mut self, pieces: P, src: &[u8]) -> usize
-        ensures { PutsPieces units_of (P.means pieces) (output self.old) (output self.new) src.now
+    fn put_pieces<R: Run>(&mut self, run: R, src: &[u8]) -> usize
+        ensures { PutsPieces units_of (R.means run) (output self.old) (output self.new) src.now
             result }
     {
-        let _pieces = pieces;
+        let _run = run;
         let _bytes = src;
         0
     }

@@ -9,12 +9,10 @@ ghost use Rattle.enc_output.specs.Output.{with_appended, borrowed_output};
 ghost use Rattle.enc_output.specs.PieceRuns.{PutsPieces};
 ghost use Rattle.enc_utf8.specs.Pieces.{IsUtf8Char};
 
-use crate::code_units::CodeUnits;
 use crate::gather::{Gather, SHORT, UNITS_BUFFER};
 use crate::laws::utf_16_units_determine_a_text;
-use crate::pairs::Pairs;
 use crate::pieces::Pieces;
-use crate::single_bytes::SingleBytes;
+use crate::run::Run;
 use crate::unit_slice::{UnitSlice, append_ascii_of, append_each};
 use crate::units::Units;
 use crate::utf8_pieces::Utf8Pieces;
@@ -78,9 +76,8 @@ impl<'a> Utf16Slice<'a> {
     /// Writes ASCII, and characters collected in a buffer, until none are found. Returns their
     /// length in bytes.
     #[inline(always)]
-    fn append_gathered<G: Gather>(&mut self, by: &G, buffer: &mut [u16], src: &[u8]) -> usize
-        requires ready { G.ready by.now }
-        ensures { PutsPieces encode_utf16 (G.means by.now)
+    fn append_gathered<G: Gather>(&mut self, by: G, buffer: &mut [u16], src: &[u8]) -> usize
+        ensures { PutsPieces encode_utf16 (G.means by)
             (borrowed_output self.old.len self.old.dst)
             (borrowed_output self.new.len self.new.dst) src.now result }
     {
@@ -103,25 +100,15 @@ impl<'a> Utf16Slice<'a> {
     /// Writes the characters at the front that can be collected in a buffer, if there are bytes
     /// enough. Returns their length in bytes.
     #[inline(always)]
-    fn append_run<P: Pieces>(&mut self, pieces: P, src: &[u8]) -> usize
-        ensures { PutsPieces encode_utf16 (P.means pieces)
+    fn append_run<R: Run>(&mut self, run: R, src: &[u8]) -> usize
+        ensures { PutsPieces encode_utf16 (R.means run)
             (borrowed_output self.old.len self.old.dst)
             (borrowed_output self.new.len self.new.dst) src.now result }
     {
         if src.len() < SHORT || self.dst.len() - self.len < SHORT {
             return 0;
         }
-        let mut buffer = [0; UNITS_BUFFER];
-        if let Some(big_endian) = pieces.code_units() {
-            return self.append_gathered(&CodeUnits { pieces, big_endian }, &mut buffer, src);
-        }
-        if pieces.are_pairs() {
-            return self.append_gathered(&Pairs { pieces }, &mut buffer, src);
-        }
-        if pieces.are_bytes() {
-            return self.append_gathered(&SingleBytes { pieces }, &mut buffer, src);
-        }
-        0
+        self.append_gathered(run, &mut [0; UNITS_BUFFER], src)
     }
 
     /// Writes well-formed UTF-8 from the front, as much as is checked in a part, and nothing if
@@ -269,9 +256,9 @@ impl<'a> Units for Utf16Slice<'a> {
     }
 
     #[inline(always)]
-    fn put_pieces<P: Pieces>(&mut self, pieces: P, src: &[u8]) -> usize {
-        let at = self.append_run(pieces, src);
+    fn put_pieces<R: Run>(&mut self, run: R, src: &[u8]) -> usize {
+        let at = self.append_run(run, src);
         let (_, rest) = src.split_at(at);
-        at + append_each(self, pieces, rest)
+        at + run.write_each(self, rest)
     }
 }

@@ -14,8 +14,6 @@ impl Pieces for Utf8Pieces {
 
     ghost means = { λ _. IsUtf8Char };
 
-    ghost stands_for = { λ _ _ _. Unit {0} };
-
     #[inline(always)]
     fn piece(self, src: &[u8], at: usize) -> Option<(char, usize)> {
         let (_, rest) = src.split_at(at);

@@ -8,21 +8,15 @@ ghost use Rattle.enc_output.specs.Output.{with_appended, borrowed_output};
 ghost use Rattle.enc_output.specs.PieceRuns.{PutsPieces};
 ghost use Rattle.enc_utf8.specs.Pieces.{IsUtf8Char};
 
-use crate::code_units::CodeUnits;
-use crate::gather::{BUFFER, Gather, OneByOne, SHORT};
+use crate::gather::{Gather, SHORT};
 use crate::laws::utf_8_units_determine_a_text;
-use crate::pairs::Pairs;
-use crate::pieces::Pieces;
-use crate::single_bytes::{LONG_BUFFER, SHORT_BUFFER, SingleBytes};
-use crate::unit_slice::{UnitSlice, append_ascii_of, append_each};
+use crate::run::Run;
+use crate::unit_slice::{UnitSlice, append_ascii_of};
 use crate::units::Units;
 use enc_utf8::{
     are_all_ascii, char_len, copy_ascii, four_bytes, three_bytes, two_bytes, utf8_front,
 };
 use std::simd::prelude::*;
-
-/// The least number of bytes of a run for which a long buffer is cleared.
-const LONG: usize = 512;
 
 /// The number of bytes of UTF-8 that are checked before they are copied: few enough to be in the
 /// nearest cache then.
@@ -38,8 +32,8 @@ fn begins_as_ascii(src: &[u8]) -> bool {
 /// A slice that takes UTF-8 from its start on.
 #[derive(Drop)]
 pub struct Utf8Slice<'a> {
-    dst: &'a mut [u8],
-    len: usize,
+    pub(crate) dst: &'a mut [u8],
+    pub(crate) len: usize,
     ghost fits: { len ≤ length dst.now },
 }
 
@@ -120,9 +114,8 @@ impl<'a> Utf8Slice<'a> {
     /// After each buffer it looks for a run of ASCII. If a quarter of the buffer is left, it ends:
     /// no character was known to begin there.
     #[inline(always)]
-    fn append_turns<G: Gather>(&mut self, by: &G, buffer: &mut [u8], src: &[u8]) -> usize
-        requires ready { G.ready by.now }
-        ensures { PutsPieces encode_utf8 (G.means by.now)
+    pub(crate) fn append_turns<G: Gather>(&mut self, by: G, buffer: &mut [u8], src: &[u8]) -> usize
+        ensures { PutsPieces encode_utf8 (G.means by)
             (borrowed_output self.old.len self.old.dst)
             (borrowed_output self.new.len self.new.dst) src.now result }
     {
@@ -149,9 +142,13 @@ impl<'a> Utf8Slice<'a> {
     /// Writes ASCII, and then characters collected in a buffer until none are found. Returns their
     /// length in bytes.
     #[inline(always)]
-    fn append_gathered<G: Gather>(&mut self, by: &G, buffer: &mut [u8], src: &[u8]) -> usize
-        requires ready { G.ready by.now }
-        ensures { PutsPieces encode_utf8 (G.means by.now)
+    pub(crate) fn append_gathered<G: Gather>(
+        &mut self,
+        by: G,
+        buffer: &mut [u8],
+        src: &[u8],
+    ) -> usize
+        ensures { PutsPieces encode_utf8 (G.means by)
             (borrowed_output self.old.len self.old.dst)
             (borrowed_output self.new.len self.new.dst) src.now result }
     {
@@ -160,129 +157,22 @@ impl<'a> Utf8Slice<'a> {
         at + self.append_turns(by, buffer, rest)
     }
 
-    /// Writes the characters at the front one by one. Returns their length in bytes.
-    #[inline(always)]
-    fn append_one_by_one<P: Pieces>(&mut self, pieces: P, src: &[u8]) -> usize
-        ensures { PutsPieces encode_utf8 (P.means pieces)
-            (borrowed_output self.old.len self.old.dst)
-            (borrowed_output self.new.len self.new.dst) src.now result }
-    {
-        self.append_gathered(&OneByOne { pieces }, &mut [0; BUFFER], src)
-    }
-
-    /// Writes a few characters at the front, each where the one before ends. Returns their length
-    /// in bytes, and whether more may follow.
-    ///
-    /// In malformed input, runs are too short for a buffer to pay.
-    #[inline(always)]
-    fn append_few<P: Pieces>(&mut self, pieces: P, src: &[u8]) -> (usize, bool)
-        ensures { PutsPieces encode_utf8 (P.means pieces)
-            (borrowed_output self.old.len self.old.dst)
-            (borrowed_output self.new.len self.new.dst) src.now result.0 }
-    {
-        let few = pieces.few();
-        let mut at = 0;
-        let mut count = 0;
-        while count < few && at < src.len() {
-            let Some((character, len)) = pieces.piece(src, at) else {
-                return (at, false);
-            };
-            if !self.append_char(character) {
-                return (at, false);
-            }
-            at += len;
-            count += 1;
-        }
-        (at, true)
-    }
-
-    /// Writes the characters at the front, eight a turn. Returns their length in bytes.
-    ///
-    /// It is a function of its own, since a function clears its arrays at each call, even if it
-    /// does not use them.
-    #[inline(never)]
-    fn append_by_eight<P: Pieces>(&mut self, pieces: P, src: &[u8]) -> usize
-        ensures { PutsPieces encode_utf8 (P.means pieces)
-            (borrowed_output self.old.len self.old.dst)
-            (borrowed_output self.new.len self.new.dst) src.now result }
-    {
-        self.append_gathered(&Pairs { pieces }, &mut [0; BUFFER], src)
-    }
-
-    /// Writes the characters of one byte or two at the front: a few of them one by one, and then
-    /// eight a turn. Returns their length in bytes.
-    ///
-    /// If none are to be one by one, ASCII is not looked for first: in malformed input the ASCII
-    /// after a sequence is a byte or two.
-    #[inline(always)]
-    fn append_pairs<P: Pieces>(&mut self, pieces: P, src: &[u8]) -> usize
-        ensures { PutsPieces encode_utf8 (P.means pieces)
-            (borrowed_output self.old.len self.old.dst)
-            (borrowed_output self.new.len self.new.dst) src.now result }
-    {
-        if pieces.few() == 0 {
-            return self.append_turns(&Pairs { pieces }, &mut [0; BUFFER], src);
-        }
-        let (at, goes_on) = self.append_few(pieces, src);
-        if !goes_on {
-            return at;
-        }
-        let (_, rest) = src.split_at(at);
-        at + self.append_by_eight(pieces, rest)
-    }
-
-    /// Writes the characters of single bytes at the front of a long run. Returns their length in
-    /// bytes.
-    ///
-    /// It is a function of its own, since a function clears its arrays at each call, even if it
-    /// does not use them.
-    #[inline(never)]
-    fn append_long_bytes<P: Pieces>(&mut self, pieces: P, src: &[u8]) -> usize
-        ensures { PutsPieces encode_utf8 (P.means pieces)
-            (borrowed_output self.old.len self.old.dst)
-            (borrowed_output self.new.len self.new.dst) src.now result }
-    {
-        self.append_gathered(&SingleBytes { pieces }, &mut [0; LONG_BUFFER], src)
-    }
-
-    /// Writes the characters of single bytes at the front. Returns their length in bytes.
-    #[inline(always)]
-    fn append_bytes<P: Pieces>(&mut self, pieces: P, src: &[u8]) -> usize
-        ensures { PutsPieces encode_utf8 (P.means pieces)
-            (borrowed_output self.old.len self.old.dst)
-            (borrowed_output self.new.len self.new.dst) src.now result }
-    {
-        if src.len() < LONG {
-            return self.append_gathered(&SingleBytes { pieces }, &mut [0; SHORT_BUFFER], src);
-        }
-        self.append_long_bytes(pieces, src)
-    }
-
     /// Writes the characters at the front. Returns their length in bytes.
     ///
     /// If there are 64 bytes of ASCII in front, it writes the ASCII alone.
     #[inline(always)]
-    fn append_run<P: Pieces>(&mut self, pieces: P, src: &[u8]) -> usize
-        ensures { PutsPieces encode_utf8 (P.means pieces)
+    fn append_run<R: Run>(&mut self, run: R, src: &[u8]) -> usize
+        ensures { PutsPieces encode_utf8 (R.means run)
             (borrowed_output self.old.len self.old.dst)
             (borrowed_output self.new.len self.new.dst) src.now result }
     {
         if src.len() < SHORT || self.dst.len() - self.len < SHORT {
-            return append_each(self, pieces, src);
+            return run.write_each(self, src);
         }
-        if pieces.has_ascii() && begins_as_ascii(src) {
+        if run.has_ascii() && begins_as_ascii(src) {
             return self.append_ascii(src);
         }
-        if let Some(big_endian) = pieces.code_units() {
-            return self.append_gathered(&CodeUnits { pieces, big_endian }, &mut [0; BUFFER], src);
-        }
-        if pieces.are_pairs() {
-            return self.append_pairs(pieces, src);
-        }
-        if pieces.are_bytes() {
-            return self.append_bytes(pieces, src);
-        }
-        self.append_one_by_one(pieces, src)
+        run.write_utf8(self, src)
     }
 }
 
@@ -362,7 +252,7 @@ impl<'a> Units for Utf8Slice<'a> {
     }
 
     #[inline(always)]
-    fn put_pieces<P: Pieces>(&mut self, pieces: P, src: &[u8]) -> usize {
-        self.append_run(pieces, src)
+    fn put_pieces<R: Run>(&mut self, run: R, src: &[u8]) -> usize {
+        self.append_run(run, src)
     }
 }

@@ -11,7 +11,7 @@ returns-clause-run g c =
     (c.with_held-next.ensures ∙ ap (λ s. state_with_held s None) c.set.ensures)
     c.split_at.ensures.back
     c.in-Some.ensures
-    (omega (arith, c.if-taken-eq0.false)) c.put_pieces-taken.ensures
+    (omega (arith, c.if-taken-eq0.false)) c.put_in_set-taken.ensures
 
 pub returns-in_default-clause-run : goal.returns-in_default-clause-run
 returns-in_default-clause-run g c =
@@ -20,4 +20,4 @@ returns-in_default-clause-run g c =
 
 pub returns-then-taken-eq0-clause-run : goal.returns-then-taken-eq0-clause-run
 returns-then-taken-eq0-clause-run g c =
-    takes_no_pieces c.args.decoder c.args.src.now c.put_pieces-taken.ensures c.if-taken-eq0.true
+    takes_no_pieces c.args.decoder c.args.src.now c.put_in_set-taken.ensures c.if-taken-eq0.true

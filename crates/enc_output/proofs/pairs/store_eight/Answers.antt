@@ -11,5 +11,5 @@ returns-clause-gathers g c src long are =
     gathers_then
     (c.store_four-first.ensures.gathers src (omega (arith, long)) (λ i l. are i (omega arith)))
     (c.store_four-second.ensures.gathers (drop first src) (omega (arith, long, few, lengths))
-    (places_after (g.P.Pieces.stands_for c.args.pieces) c.args.places.now c.args.leads src first few
-    are))
+    (places_after (g.P.PairPieces.stands_for c.args.pieces) c.args.places.now c.args.leads src
+    first few are))

@@ -10,8 +10,8 @@ invariant-loop-count g l =
     × (l.end ≤ l.at + 4 * l.count)
     × (length (g.B.BufferUnit.units l.buffer) ≡ length (g.B.BufferUnit.units l.initial.buffer))
     × ((src : List ℕ) → 8 ≤ length src
-    → ArePlaces (g.P.Pieces.stands_for l.pieces) 8 (drop l.start.from l.places) l.start.leads src
-    (drop 1 src)
+    → ArePlaces (g.P.PairPieces.stands_for l.pieces) 8 (drop l.start.from l.places) l.start.leads
+    src (drop 1 src)
     → GathersChars g.B.BufferUnit.units_of (g.P.Pieces.means l.pieces) src l.read
     (take l.at (g.B.BufferUnit.units l.initial.buffer))
     (take l.end (g.B.BufferUnit.units l.buffer)))

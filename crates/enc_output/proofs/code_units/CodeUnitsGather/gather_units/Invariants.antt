@@ -5,7 +5,7 @@ use Rattle.enc_output.proofs.code_units.CodeUnitsGather.gather_units.Given as go
 
 abbrev pub invariant-loop-written : goal.invariant-loop-written
 invariant-loop-written g l =
-    Gathered encode_utf16 (g.P.Pieces.means l.self.pieces) l.src l.initial.buffer l.buffer
+    Gathered encode_utf16 (g.P.Pieces.means l.pieces) l.src l.initial.buffer l.buffer
     l.limit l.limit l.read l.written
 
 abbrev pub decreases-loop-written : goal.decreases-loop-written

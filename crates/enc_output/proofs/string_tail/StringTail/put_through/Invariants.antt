@@ -7,7 +7,7 @@ use Rattle.enc_output.proofs.string_tail.StringTail.put_through.Given as goal
 
 abbrev pub invariant-loop-front : goal.invariant-loop-front
 invariant-loop-front g l =
-    PutsPieces encode_utf8 (g.P.Pieces.means l.pieces)
+    PutsPieces encode_utf8 (g.R.Gather.means l.run)
     (string_output (string_bytes l.initial.self.text.now) l.initial.self.room
     l.initial.self.text.ghost_name)
     (string_output (string_bytes l.self.text.now) l.self.room l.self.text.ghost_name) l.src l.at

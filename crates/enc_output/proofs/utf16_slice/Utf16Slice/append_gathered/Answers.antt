@@ -5,18 +5,18 @@ use Rattle.enc_output.proofs.utf16_slice.Utf16Slice.append_gathered.Goals as goa
 
 pub returns-then-read-eq0 : goal.returns-then-read-eq0
 returns-then-read-eq0 g c =
-    then_rest c.split_at.ensures.back c.loop-at.invariant c.append_ascii_of-at.ensures
+    then_rest c.split_at.ensures.back c.loop-by.invariant c.append_ascii_of-at.ensures
 
 pub returns-then-not-append_units : goal.returns-then-not-append_units
 returns-then-not-append_units g c =
     same_then (c.append_units.ensures.unchanged c.if-not-append_units.true)
-    (then_rest c.split_at.ensures.back c.loop-at.invariant c.append_ascii_of-at.ensures)
+    (then_rest c.split_at.ensures.back c.loop-by.invariant c.append_ascii_of-at.ensures)
 
-pub loop-at-preserved : goal.loop-at-preserved
-loop-at-preserved g c =
+pub loop-by-preserved : goal.loop-by-preserved
+loop-by-preserved g c =
     let appended = c.append_units.ensures in
-    then_rest c.split_at-in-loop-at.ensures.back
-    (then_rest c.split_at.ensures.back c.loop-at.invariant c.append_ascii_of-at.ensures)
+    then_rest c.split_at-in-loop-by.ensures.back
+    (then_rest c.split_at.ensures.back c.loop-by.invariant c.append_ascii_of-at.ensures)
     (puts_gathered c.gather_units-read.ensures.gathers
     (omega (arith, appended.fits c.if-not-append_units.false))
     (appended.written c.if-not-append_units.false))
