@@ -11,8 +11,10 @@ use Rattle.enc_decoder.specs.Segmentation.{Head, sequences_of, character_head, m
 use Rattle.enc_decoder.specs.Taking.{IsSequenceBefore}
 use Rattle.enc_decoder.proofs.FirstSequenceLemmas.{true_or_false}
 use Rattle.enc_decoder.proofs.SegmentationLemmas.{sequences_of-head, sequences_of-nil}
-use Rattle.enc_decoder_utf.specs.Utf8.{sequence_len, is_second_byte, is_continuation, continuations, continuing_len}
-use Rattle.enc_decoder_utf.specs.Utf8.{well_formed_tail_len, scalar_of, utf_8_rule}
+use Rattle.enc_utf8.proofs.Utf8SequenceLemmas.{two_range, three_range, four_range, second_range, continuation_range}
+use Rattle.enc_utf8.specs.Utf8Sequences.{sequence_len, is_second_byte, is_continuation, continuations, continuing_len}
+use Rattle.enc_utf8.specs.Utf8Sequences.{well_formed_tail_len, scalar_of}
+use Rattle.enc_decoder_utf.specs.Utf8.{utf_8_rule}
 
 abbrev pub valid_sequence : List ℕ → Sequence
 valid_sequence bytes = record { bytes = bytes; text = scalar_of bytes ∷ []; kind = Valid; set = 0 }
@@ -62,66 +64,6 @@ module _ (b : ℕ) (z : List ℕ) (m : ℕ) (reach : well_formed_tail_len b z �
       → sequences_of utf_8_rule 0 (b ∷ z) ≡ malformed_sequence (b ∷ take m z)
       ∷ sequences_of utf_8_rule 0 (drop m z)
   malformed_first short = sequences_of-head utf_8_rule 0 b z _ (short_head 0 b z reach short)
-
--- what the tests say
-
--- the length of a sequence, by its first byte
-pub record HasLenByRange (b : ℕ) : Type 0 where
-  pub one : b < 0x80 → sequence_len b ≡ 1
-  pub none : 0x80 ≤ b → b < 0xC2 → sequence_len b ≡ 0
-  pub two : 0xC2 ≤ b → b < 0xE0 → sequence_len b ≡ 2
-  pub three : 0xE0 ≤ b → b < 0xF0 → sequence_len b ≡ 3
-  pub four : 0xF0 ≤ b → b < 0xF5 → sequence_len b ≡ 4
-  pub beyond : 0xF5 ≤ b → sequence_len b ≡ 0
-
-pub len_by_range : (b : ℕ) → HasLenByRange b
-unfolding sequence_len
-len_by_range b = record {
-  one = λ below. grind (arith, nat_tests);
-  none = λ from below. grind (arith, nat_tests);
-  two = λ from below. grind (arith, nat_tests);
-  three = λ from below. grind (arith, nat_tests);
-  four = λ from below. grind (arith, nat_tests);
-  beyond = λ from. grind (arith, nat_tests);
-}
-
--- and the first byte, by the length
-
-pub one_range : (b : ℕ) → sequence_len b ≡ 1 → b < 0x80
-unfolding sequence_len
-one_range b one_byte = grind (arith, nat_tests)
-
-pub two_range : (b : ℕ) → sequence_len b ≡ 2 → (0xC2 ≤ b) × (b < 0xE0)
-unfolding sequence_len
-two_range b two_bytes = (grind (arith, nat_tests), grind (arith, nat_tests))
-
-pub three_range : (b : ℕ) → sequence_len b ≡ 3 → (0xE0 ≤ b) × (b < 0xF0)
-unfolding sequence_len
-three_range b three_bytes = (grind (arith, nat_tests), grind (arith, nat_tests))
-
-pub four_range : (b : ℕ) → sequence_len b ≡ 4 → (0xF0 ≤ b) × (b < 0xF5)
-unfolding sequence_len
-four_range b four_bytes = (grind (arith, nat_tests), grind (arith, nat_tests))
-
-pub at_most_four : (b : ℕ) → sequence_len b ≤ 4
-unfolding sequence_len
-at_most_four b = grind (arith, nat_tests)
-
-pub continuation_range : (c : ℕ) → is_continuation c ≡ true → (0x80 ≤ c) × (c ≤ 0xBF)
-unfolding is_continuation
-continuation_range c continues = (grind (arith, nat_tests), grind (arith, nat_tests))
-
-pub second_range : (a b : ℕ) → is_second_byte a b ≡ true → (0x80 ≤ b) × (b ≤ 0xBF)
-    × (a ≡ 0xE0 → 0xA0 ≤ b) × (a ≡ 0xED → b ≤ 0x9F) × (a ≡ 0xF0 → 0x90 ≤ b) × (a ≡ 0xF4 → b ≤ 0x8F)
-unfolding is_second_byte
-second_range a b follows = (
-  grind (arith, nat_tests),
-  grind (arith, nat_tests),
-  grind (arith, nat_tests),
-  grind (arith, nat_tests),
-  grind (arith, nat_tests),
-  grind (arith, nat_tests),
-)
 
 -- A third or a fourth byte continues a sequence as a second one does after 0.
 

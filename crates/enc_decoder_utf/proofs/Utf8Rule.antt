@@ -11,9 +11,11 @@ use Rattle.enc_decoder.specs.Prefixes.{prefix_head, prefix_rule}
 use Rattle.enc_decoder.proofs.FirstSequenceLemmas.{true_or_false, within_by}
 use Rattle.enc_decoder.proofs.PrefixRule.{prefixes_are_lawful, prefixes_have_texts, prefixes_have_bytes}
 use Rattle.enc_decoder.proofs.PrefixDivision.{prefixes_are_divided}
-use Rattle.enc_decoder_utf.specs.Utf8.{sequence_len, is_second_byte, is_continuation, utf_8_prefix, utf_8_rule}
+use Rattle.enc_utf8.specs.Utf8Sequences.{sequence_len, is_second_byte, is_continuation}
+use Rattle.enc_utf8.proofs.Utf8SequenceLemmas.{at_most_four}
+use Rattle.enc_decoder_utf.specs.Utf8.{utf_8_prefix, utf_8_rule}
 use Rattle.enc_decoder_utf.specs.Utf8.{begun_prefix, first_byte_prefix}
-use Rattle.enc_decoder_utf.proofs.Utf8Lemmas.{whole_head, short_head, at_most_four, one_begun, two_begun, three_begun}
+use Rattle.enc_decoder_utf.proofs.Utf8Lemmas.{holds_of_first, whole_head, short_head, one_begun, two_begun, three_begun}
 use Rattle.enc_decoder_utf.proofs.Utf8Lemmas.{well_formed_tail_len-alone, well_formed_tail_len-no_second}
 use Rattle.enc_decoder_utf.proofs.Utf8Lemmas.{well_formed_tail_len-second, well_formed_tail_len-no_third, three_reached}
 use Rattle.enc_decoder_utf.proofs.Utf8Prefixes.{utf_8_prefixes, utf_8_ascii, utf_8_settled}
@@ -145,6 +147,16 @@ utf_8_prefixes_have_bytes =
 pub utf_8_has_bytes : ¬ (HasNoByteSequences utf_8_rule)
 utf_8_has_bytes =
     subst (λ rule. ¬ (HasNoByteSequences rule)) utf_8_by_prefixes utf_8_prefixes_have_bytes
+
+-- two bytes of a character, and BB, which goes on with EF
+
+pub two_bytes : (utf_8_rule 0 0xC2 (0x80 ∷ [])).more ≡ 1
+unfolding utf_8_rule sequence_len is_second_byte is_continuation
+two_bytes = refl
+
+pub bb_goes_on : (z : List ℕ) → (utf_8_rule 0 0xEF (0xBB ∷ z)).more ≡ 0 → ⊥
+unfolding sequence_len is_second_byte
+bb_goes_on z = holds_of_first (λ h. h.more ≡ 0 → ⊥) 0 0xEF (0xBB ∷ z) (λ _ none. cc) (λ none. cc)
 
 -- no sequence is longer than the bytes that are there
 pub within : (set b : ℕ) (z : List ℕ) → (utf_8_rule set b z).more ≤ length z
