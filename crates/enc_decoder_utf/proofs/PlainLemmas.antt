@@ -1,16 +1,14 @@
 -- The decoder of whole inputs, by the first sequence and the bytes after it.
-use Rattle.std.proofs.Common.{◌≡◌, ℕ, ◌+◌, ◌-◌, ◌<◌, ◌≤◌, suc, Bool, ◌&&◌, List, [], ◌∷◌, ◌++◌, length}
+use Rattle.std.proofs.Common.{◌≡◌, ℕ, ◌+◌, ◌-◌, ◌<◌, ◌≤◌, suc, Bool, true, ◌&&◌, List, [], ◌∷◌, ◌++◌, length}
 use Rattle.std.proofs.Common.{get_or, drop, refl, ap, ◌∙◌, sym, arith, append_assoc, append-nil, ◌||◌}
 use Rattle.std.proofs.Common.{drop-cons, drop-drop}
 use Rattle.std.proofs.Math.ListN.{drop_of_length-le}
 use Rattle.std.proofs.lemmas.List.{length-append}
 use Rattle.std.specs.Char.{encode_utf8}
 use Rattle.enc_utf8.specs.Text.{units_of_text}
-use Rattle.enc_decoder.specs.declared.byte_codec.Text.{Text}
 use Rattle.enc_decoder.specs.declared.byte_codec.Text.TheVariants.{One}
 use Rattle.enc_decoder.specs.declared.prefix.Prefix.{Prefix}
 use Rattle.enc_decoder.specs.declared.prefix.Prefix.TheVariants.{Complete, Malformed, Incomplete}
-use Rattle.enc_decoder.specs.CodecLaw.{text_chars}
 use Rattle.enc_decoder.specs.Sequence.{sequence_text, is_malformed, any_malformed}
 use Rattle.enc_decoder.specs.Segmentation.{Head, character_head, malformed_head, head_sequence, sequences_of}
 use Rattle.enc_decoder.specs.Prefixes.{prefix_head, prefix_rule, AreIncomplete, is_incomplete, are_incomplete}
@@ -33,29 +31,19 @@ unfolding prefix_rule
 head_by_prefixes [] some = absurd (omega arith)
 head_by_prefixes (b ∷ z) some = rw (← utf_8_by_prefixes) refl
 
--- it has one character
-one_char : (set b : ℕ) (z : List ℕ) → (c : ℕ) × ((utf_8_rule set b z).text ≡ c ∷ [])
-one_char set b z =
-    holds_of_first (λ h. (c : ℕ) × (h.text ≡ c ∷ [])) set b z (λ _. (_, refl)) (_, refl)
+-- that sequence and whether all bytes are incomplete, by the prefix in front and its kind
+abbrev first : List ℕ → Prefix → List ℕ → Head × Bool
+first front r z = (
+  prefix_head utf_8_prefix 0 front r z,
+  is_incomplete r && are_incomplete utf_8_prefix front z,
+)
 
 -- The first bytes, `front`, are an incomplete prefix, so those after them decide.
 pub record Walks (bytes front : List ℕ) (at : ℕ) : Type 0 where
   pub len : length front ≡ at
   pub within : at ≤ length bytes
   pub incomplete : AreIncomplete utf_8_prefix [] front
-  pub head : prefix_head utf_8_prefix 0 [] Incomplete bytes
-      ≡ prefix_head utf_8_prefix 0 front Incomplete (drop at bytes)
-  pub test : are_incomplete utf_8_prefix [] bytes
-      ≡ are_incomplete utf_8_prefix front (drop at bytes)
-
-pub none_walked : (bytes : List ℕ) → Walks bytes [] 0
-none_walked bytes = record {
-  len = refl;
-  within = omega arith;
-  incomplete = tt;
-  head = refl;
-  test = refl;
-}
+  pub decide : first [] Incomplete bytes ≡ first front Incomplete (drop at bytes)
 
 -- the byte after them, by the kind of the prefix that it ends
 module _ {bytes front : List ℕ} {at : ℕ} (walks : Walks bytes front at)
@@ -67,73 +55,56 @@ module _ {bytes front : List ℕ} {at : ℕ} (walks : Walks bytes front at)
   longer_len : length longer ≡ at + 1
   longer_len = length-append front (get_or bytes at 0 ∷ []) ∙ ap (λ n. n + 1) walks.len
 
-  next_head : {r : Prefix} → kind ≡ r → prefix_head utf_8_prefix 0 [] Incomplete bytes
-      ≡ prefix_head utf_8_prefix 0 longer r (drop (suc at) bytes)
+  next : {r : Prefix} → kind ≡ r
+      → first [] Incomplete bytes ≡ first longer r (drop (suc at) bytes)
+  next is_r =
+      walks.decide ∙ ap (first front Incomplete) (drop-cons bytes at 0 there)
+      ∙ ap (λ r. first longer r (drop (suc at) bytes)) (sym is_kind ∙ is_r)
+
+  next_head : {r : Prefix} → kind ≡ r
+      → head_of bytes ≡ prefix_head utf_8_prefix 0 longer r (drop (suc at) bytes)
   next_head is_r =
-      walks.head
-      ∙ ap (prefix_head utf_8_prefix 0 front Incomplete) (drop-cons bytes at 0 there)
-      ∙ ap (λ r. prefix_head utf_8_prefix 0 longer r (drop (suc at) bytes)) (sym is_kind ∙ is_r)
+      head_by_prefixes bytes (omega arith) ∙ ap (λ (p : Head × Bool). p.0) (next is_r)
 
   pub next_test : {r : Prefix} → kind ≡ r → are_incomplete utf_8_prefix [] bytes
       ≡ (is_incomplete r && are_incomplete utf_8_prefix longer (drop (suc at) bytes))
-  next_test is_r =
-      walks.test
-      ∙ ap (are_incomplete utf_8_prefix front) (drop-cons bytes at 0 there)
-      ∙ ap (λ r. is_incomplete r && are_incomplete utf_8_prefix longer (drop (suc at) bytes))
-      (sym is_kind ∙ is_r)
+  next_test is_r = ap (λ (p : Head × Bool). p.1) (next is_r)
 
   pub goes_on : kind ≡ Incomplete → Walks bytes longer (at + 1)
   goes_on is_incomplete =
-      let next : suc at ≡ at + 1 = omega arith in
+      let place : suc at ≡ at + 1 = omega arith in
       record {
         len = longer_len;
         within = omega arith;
         incomplete = one_more utf_8_prefix [] front (get_or bytes at 0) walks.incomplete
             (sym is_kind ∙ is_incomplete);
-        head = rw next at (next_head is_incomplete);
-        test = rw next at (next_test is_incomplete);
+        decide = rw place at (next is_incomplete);
       }
 
   pub complete_found : {c : ℕ} → kind ≡ Complete (One c) → head_of bytes ≡ character_head 0 at c
   complete_found {c} is_complete =
       let same_len : length longer - 1 ≡ at = omega (arith, longer_len) in
-      head_by_prefixes bytes (omega arith) ∙ next_head is_complete
-      ∙ ap (λ n. character_head 0 n c) same_len
-
-  pub one_found : {text : Text} → kind ≡ Complete text → (c : ℕ) × (text_chars text ≡ c ∷ [])
-  one_found is_complete =
-      let found = one_char 0 (get_or bytes 0 0) (drop 1 bytes) in (
-        found.0,
-        ap (λ (h : Head). h.text) (sym (head_by_prefixes bytes (omega arith)
-            ∙ next_head is_complete)) ∙ found.1,
-      )
+      next_head is_complete ∙ ap (λ n. character_head 0 n c) same_len
 
   pub malformed_found : {n : ℕ} → kind ≡ Malformed n
       → (0 < n) × (n ≤ length bytes) × (head_of bytes ≡ malformed_head 0 (n - 1))
-  malformed_found {n} is_malformed = (
-    (utf_8_prefixes.malformed longer n (sym is_kind ∙ is_malformed)).0,
-    omega (
-      arith,
-      longer_len,
-      (utf_8_prefixes.malformed longer n (sym is_kind ∙ is_malformed)).1,
-    ),
-    head_by_prefixes bytes (omega arith) ∙ next_head is_malformed,
-  )
+  malformed_found {n} is_malformed =
+      let own = utf_8_prefixes.malformed longer n (sym is_kind ∙ is_malformed) in
+      (own.0, omega (arith, longer_len, own.1), next_head is_malformed)
 
 -- at the end all of them are malformed
 module _ {bytes front : List ℕ} {at : ℕ} (walks : Walks bytes front at) (all : length bytes ≤ at)
   where
-    none_left : drop at bytes ≡ []
-    none_left = drop_of_length-le bytes all
+    last : first [] Incomplete bytes ≡ first front Incomplete []
+    last = walks.decide ∙ ap (first front Incomplete) (drop_of_length-le bytes all)
 
     pub end_found : 0 < length bytes → head_of bytes ≡ malformed_head 0 (at - 1)
     end_found some =
-        head_by_prefixes bytes some ∙ walks.head
-        ∙ ap (prefix_head utf_8_prefix 0 front Incomplete) none_left
+        head_by_prefixes bytes some ∙ ap (λ (p : Head × Bool). p.0) last
         ∙ ap (λ n. malformed_head 0 (n - 1)) walks.len
 
-    pub end_test : are_incomplete utf_8_prefix [] bytes ≡ are_incomplete utf_8_prefix front []
-    end_test = walks.test ∙ ap (are_incomplete utf_8_prefix front) none_left
+    pub end_test : are_incomplete utf_8_prefix [] bytes ≡ true
+    end_test = ap (λ (p : Head × Bool). p.1) last
 
 -- no sequence changes the designated character set
 rule_set : (b : ℕ) (z : List ℕ) → (utf_8_rule 0 b z).set ≡ 0

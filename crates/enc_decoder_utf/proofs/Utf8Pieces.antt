@@ -13,7 +13,7 @@ use Rattle.enc_decoder.specs.Taking.{IsWholeChar}
 use Rattle.enc_decoder.specs.Prefixes.{prefix_rule}
 use Rattle.enc_decoder_utf.specs.Utf8.{utf_8_prefix}
 use Rattle.enc_decoder_utf.proofs.Utf8Rule.{utf_8_by_prefixes}
-use Rattle.enc_decoder_utf.proofs.Utf8Lemmas.{one_valid, two_valid, three_valid, four_valid}
+use Rattle.enc_decoder_utf.proofs.Utf8FirstSequences.{one_valid, two_valid, three_valid, four_valid}
 
 pub valued : (bytes : List ℕ) (c : ℕ) → c ≡ scalar_of bytes
     → IsWholeChar utf_8_rule 0 bytes (scalar_of bytes) → IsWholeChar utf_8_rule 0 bytes c

@@ -11,9 +11,9 @@ use Rattle.enc_decoder.proofs.FirstSequenceLemmas.{true_or_false}
 use Rattle.enc_utf8.specs.Utf8Sequences.{sequence_len, is_second_byte, is_continuation}
 use Rattle.enc_utf8.proofs.Utf8SequenceLemmas.{one_range, at_most_four}
 use Rattle.enc_decoder_utf.specs.Utf8.{utf_8_rule}
-use Rattle.enc_decoder_utf.proofs.Utf8Lemmas.{valid_sequence, malformed_sequence, none_malformed, one_valid}
-use Rattle.enc_decoder_utf.proofs.Utf8Lemmas.{one_malformed, one_end, two_valid, two_malformed, two_end, three_valid}
-use Rattle.enc_decoder_utf.proofs.Utf8Lemmas.{three_malformed, three_end, four_valid}
+use Rattle.enc_decoder_utf.proofs.Utf8FirstSequences.{valid_sequence, malformed_sequence, none_malformed, one_valid}
+use Rattle.enc_decoder_utf.proofs.Utf8FirstSequences.{one_malformed, one_end, two_valid, two_malformed, two_end}
+use Rattle.enc_decoder_utf.proofs.Utf8FirstSequences.{three_valid, three_malformed, three_end, four_valid}
 
 -- If they have no malformed sequence they are well-formed.
 abbrev AreWell : List ℕ → Type 0
