@@ -43,9 +43,9 @@ module _ (w : List ℕ) (c : ℕ) (z : List ℕ) (begun : AreIncomplete utf_8_pr
       ≡ record { bytes = take (length front) front; text = x ∷ []; kind = kinds.Valid; set = 0 }
       ∷ sequences_of utf_8_rule 0 (drop (length front) front ++ z)
   is_char x complete =
-      rw (← utf_8_by_prefixes) (settled_first utf_8_prefix 0 w c z (length front) (One x) kinds.Valid
-      begun (settles_complete utf_8_prefix front (One x) (omega (arith, length-append w (c ∷ [])))
-      complete))
+      rw (← utf_8_by_prefixes) (settled_first utf_8_prefix 0 w c z (length front) (One x)
+      kinds.Valid begun (settles_complete utf_8_prefix front (One x)
+      (omega (arith, length-append w (c ∷ []))) complete))
 
   is_malformed : (n : ℕ) → utf_8_prefix front ≡ Malformed n
       → sequences_of utf_8_rule 0 (w ++ c ∷ z)

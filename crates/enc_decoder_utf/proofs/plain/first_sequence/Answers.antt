@@ -35,14 +35,14 @@ returns-in-Malformed c =
 
 pub loop-at-preserved : goal.loop-at-preserved
 loop-at-preserved c =
-    let walks = goes_on c.loop-at.invariant c.loop-at-test.true c.classify.ensures c.in-Incomplete.is in
-    rw c.with-front.ensures walks
+    rw c.with-front.ensures
+    (goes_on c.loop-at.invariant c.loop-at-test.true c.classify.ensures c.in-Incomplete.is)
 
 pub returns : goal.returns
 returns c =
     let found = end_found c.loop-at.invariant (omega arith) c.requires.some in
     record {
-      len = omega (arith, ap (λ (h : Head). h.more + 1) found, c.loop-at-test.false, c.requires.some);
+      len = omega (arith, ap (λ (h : Head). h.more) found, c.loop-at-test.false, c.requires.some);
       character = ap (λ (h : Head). h.text) found;
       within = c.loop-at.invariant.within;
       malformed = ap (λ (h : Head). is_malformed h.kind) (sym found);
