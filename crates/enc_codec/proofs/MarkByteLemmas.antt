@@ -1,10 +1,10 @@
 -- A pending BB needs no lookahead, by the rule of each codec.
 use Rattle.std.proofs.Common.{◌≡◌, ℕ, Bool, true, false, Option, Some, None, List, [], ◌∷◌, refl, ap}
-use Rattle.std.proofs.Common.{◌∙◌, sym, arith, inl, inr}
+use Rattle.std.proofs.Common.{◌∙◌, sym, arith}
 use Rattle.enc_decoder.specs.declared.byte_codec.Text.{Text}
 use Rattle.enc_decoder.specs.Segmentation.{one_byte_head}
-use Rattle.enc_decoder.proofs.FirstSequenceLemmas.{true_or_false}
-use Rattle.enc_decoder_utf.specs.Utf8.{sequence_len, is_second_byte, is_continuation, utf_8_rule}
+use Rattle.enc_decoder_utf.specs.Utf8.{utf_8_rule}
+use Rattle.enc_decoder_utf.proofs.Utf8Rule.{bb_goes_on}
 use Rattle.enc_decoder_utf.specs.Utf16.{code_unit, is_lead_surrogate as is_lead_unit, is_trail_surrogate, utf_16_rule}
 use Rattle.enc_decoder_single_byte.specs.OneByte.{one_byte_rule}
 use Rattle.enc_decoder_single_byte.proofs.OneByteLemmas.{no_more}
@@ -18,12 +18,7 @@ use Rattle.enc_codec.specs.Properties.{DeterminesBbByItself}
 
 -- in UTF-8 BB goes on with EF
 pub utf_8_shows_bb : DeterminesBbByItself utf_8_rule
-unfolding utf_8_rule sequence_len is_second_byte is_continuation
-utf_8_shows_bb [] ef_alone y = absurd (cc)
-utf_8_shows_bb (c ∷ z) ef_alone y = elim (true_or_false (is_continuation c)) [
-  | inl t ↦ absurd (let more_is = rw t at ef_alone in cc)
-  | inr t ↦ absurd (let more_is = rw t at ef_alone in cc)
-]
+utf_8_shows_bb z ef_alone y = absurd (bb_goes_on z ef_alone)
 
 -- in UTF-16 they are a code unit, and no surrogate
 pub utf_16_shows_bb : (big : Bool) → DeterminesBbByItself (utf_16_rule big)

@@ -7,9 +7,10 @@ use Rattle.enc_decoder.specs.Segmentation.{Head, Rule, one_byte_head, head_seque
 use Rattle.enc_decoder.specs.Remainder.{AreBytes}
 use Rattle.enc_decoder.specs.RuleLaws.{HasTexts}
 use Rattle.enc_decoder.proofs.SegmentationLemmas.{sequences_of-cons}
-use Rattle.enc_decoder_utf.specs.Utf8.{sequence_len, is_second_byte, is_continuation, utf_8_rule}
+use Rattle.enc_decoder_utf.specs.Utf8.{utf_8_rule, utf_8_prefix}
 use Rattle.enc_decoder_utf.specs.Utf16.{code_unit, is_lead_surrogate, is_trail_surrogate, utf_16_rule}
-use Rattle.enc_decoder_utf.proofs.Utf8Lemmas.{one_valid}
+use Rattle.enc_decoder_utf.proofs.Utf8Prefixes.{utf_8_ascii}
+use Rattle.enc_decoder_utf.proofs.Utf8Rule.{utf_8_by_prefixes, two_bytes}
 use Rattle.enc_decoder_single_byte.specs.OneByte.{one_byte_rule}
 use Rattle.enc_decoder_single_byte.specs.Replacement.{replacement_rule}
 use Rattle.enc_decoder_single_byte.proofs.OneByteLemmas.{one_byte_piece}
@@ -41,13 +42,13 @@ more_bytes rule b z a n h =
 -- UTF-8
 
 pub utf_8_is_ascii_compatible : IsAsciiCompatible utf_8_rule
-unfolding sequence_len
-utf_8_is_ascii_compatible b l y = one_valid b y (grind arith)
+utf_8_is_ascii_compatible = subst IsAsciiCompatible utf_8_by_prefixes
+    (λ b low. complete_one utf_8_prefix b b (utf_8_ascii b low))
 
 pub utf_8_is_not_single_byte : ¬ (IsSingleByte utf_8_rule)
-unfolding utf_8_rule sequence_len is_second_byte is_continuation
 utf_8_is_not_single_byte =
-    more_bytes utf_8_rule 0xC2 (0x80 ∷ []) (omega arith, (omega arith, tt)) (λ e. cc)
+    more_bytes utf_8_rule 0xC2 (0x80 ∷ []) (omega arith, (omega arith, tt))
+    (λ one. let two = rw two_bytes at one in cc)
 
 -- UTF-16
 

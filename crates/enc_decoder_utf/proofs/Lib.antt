@@ -1,7 +1,8 @@
 pub mod Utf8Prefixes
 pub mod Utf8Lemmas
 pub mod Utf8Rule
-pub mod Utf8Undetermined
+pub mod Utf8FirstSequences
+pub mod Utf8Incomplete
 pub mod Utf8Pieces
 pub mod Utf16Prefixes
 pub mod Utf16Lemmas

@@ -1,76 +1,116 @@
 -- The decoder of whole inputs, by the first sequence and the bytes after it.
-use Rattle.std.proofs.Common.{◌≡◌, ℕ, ◌+◌, ◌-◌, ◌<◌, ◌≤◌, suc, Bool, true, List, [], ◌∷◌, ◌++◌, length}
-use Rattle.std.proofs.Common.{get_or, take, drop, refl, ap, ◌∙◌, sym, arith, append_assoc, append-nil, ◌||◌}
-use Rattle.std.proofs.Common.{drop-drop, subst, length-drop}
+use Rattle.std.proofs.Common.{◌≡◌, ℕ, ◌+◌, ◌-◌, ◌<◌, ◌≤◌, suc, Bool, true, ◌&&◌, List, [], ◌∷◌, ◌++◌, length}
+use Rattle.std.proofs.Common.{get_or, drop, refl, ap, ◌∙◌, sym, arith, append_assoc, append-nil, ◌||◌}
+use Rattle.std.proofs.Common.{drop-cons, drop-drop}
 use Rattle.std.proofs.Math.ListN.{drop_of_length-le}
-use Rattle.std.proofs.lemmas.Bool.Decides.{nat_tests}
+use Rattle.std.proofs.lemmas.List.{length-append}
 use Rattle.std.specs.Char.{encode_utf8}
 use Rattle.enc_utf8.specs.Text.{units_of_text}
+use Rattle.enc_decoder.specs.declared.byte_codec.Text.TheVariants.{One}
+use Rattle.enc_decoder.specs.declared.prefix.Prefix.{Prefix}
+use Rattle.enc_decoder.specs.declared.prefix.Prefix.TheVariants.{Complete, Malformed, Incomplete}
 use Rattle.enc_decoder.specs.Sequence.{sequence_text, is_malformed, any_malformed}
 use Rattle.enc_decoder.specs.Segmentation.{Head, character_head, malformed_head, head_sequence, sequences_of}
-use Rattle.enc_decoder_utf.specs.Utf8.{sequence_len, is_continuation}
-use Rattle.enc_decoder_utf.specs.Utf8.{well_formed_tail_len, scalar_of, utf_8_rule}
+use Rattle.enc_decoder.specs.Prefixes.{prefix_head, prefix_rule, AreIncomplete, is_incomplete, are_incomplete}
+use Rattle.enc_decoder.proofs.PrefixLemmas.{one_more}
 use Rattle.enc_decoder.proofs.SequenceLemmas.{or_assoc, or_false}
 use Rattle.enc_decoder.proofs.SegmentationLemmas.{sequences_of-cons, sequences_of-nil}
-use Rattle.enc_decoder_utf.proofs.Utf8Lemmas.{holds_of_first, whole_head, short_head, well_formed_tail_len-within}
-use Rattle.enc_decoder_utf.proofs.Utf8Lemmas.{AreFollowing, reached_follow, continues_as_second}
+use Rattle.enc_decoder_utf.specs.Utf8.{utf_8_rule, utf_8_prefix}
+use Rattle.enc_decoder_utf.proofs.Utf8Lemmas.{holds_of_first}
+use Rattle.enc_decoder_utf.proofs.Utf8Prefixes.{utf_8_prefixes}
+use Rattle.enc_decoder_utf.proofs.Utf8Rule.{utf_8_by_prefixes}
 
--- what a sequence that is reached as a whole is made of
+-- the first sequence
 
-pub record Whole4 (a : ℕ) (z : List ℕ) : Type 0 where
-  pub some : 3 ≤ length z
-  pub third : is_continuation (get_or z 1 0) ≡ true
-  pub fourth : is_continuation (get_or z 2 0) ≡ true
-  pub bytes : take (well_formed_tail_len a z) z ≡ get_or z 0 0 ∷ get_or z 1 0 ∷ get_or z 2 0 ∷ []
+abbrev pub head_of : List ℕ → Head
+head_of bytes = utf_8_rule 0 (get_or bytes 0 0) (drop 1 bytes)
 
-pub whole_four : (a : ℕ) (z : List ℕ) → sequence_len a ≡ 4
-    → well_formed_tail_len a z + 1 ≡ sequence_len a → Whole4 a z
-whole_four a z four whole =
-    let reaches_all : well_formed_tail_len a z ≡ 3 = omega arith in
-    let within = well_formed_tail_len-within a z in
-    of_bytes z (omega arith) reaches_all
-    (subst (λ k. AreFollowing a (take k z)) reaches_all (reached_follow a (sequence_len a - 1) z))
+head_by_prefixes : (bytes : List ℕ) → 0 < length bytes
+    → head_of bytes ≡ prefix_head utf_8_prefix 0 [] Incomplete bytes
+unfolding prefix_rule
+head_by_prefixes [] some = absurd (omega arith)
+head_by_prefixes (b ∷ z) some = rw (← utf_8_by_prefixes) refl
+
+-- that sequence and whether all bytes are incomplete, by the prefix in front and its kind
+abbrev first : List ℕ → Prefix → List ℕ → Head × Bool
+first front r z = (
+  prefix_head utf_8_prefix 0 front r z,
+  is_incomplete r && are_incomplete utf_8_prefix front z,
+)
+
+-- The first bytes, `front`, are an incomplete prefix, so those after them decide.
+pub record Walks (bytes front : List ℕ) (at : ℕ) : Type 0 where
+  pub len : length front ≡ at
+  pub within : at ≤ length bytes
+  pub incomplete : AreIncomplete utf_8_prefix [] front
+  pub decide : first [] Incomplete bytes ≡ first front Incomplete (drop at bytes)
+
+-- the byte after them, by the kind of the prefix that it ends
+module _ {bytes front : List ℕ} {at : ℕ} (walks : Walks bytes front at)
+    (there : at < length bytes) {kind : Prefix}
+    (is_kind : kind ≡ utf_8_prefix (front ++ get_or bytes at 0 ∷ [])) where
+  abbrev longer : List ℕ
+  longer = front ++ get_or bytes at 0 ∷ []
+
+  longer_len : length longer ≡ at + 1
+  longer_len = length-append front (get_or bytes at 0 ∷ []) ∙ ap (λ n. n + 1) walks.len
+
+  next : {r : Prefix} → kind ≡ r
+      → first [] Incomplete bytes ≡ first longer r (drop (suc at) bytes)
+  next is_r =
+      walks.decide ∙ ap (first front Incomplete) (drop-cons bytes at 0 there)
+      ∙ ap (λ r. first longer r (drop (suc at) bytes)) (sym is_kind ∙ is_r)
+
+  next_head : {r : Prefix} → kind ≡ r
+      → head_of bytes ≡ prefix_head utf_8_prefix 0 longer r (drop (suc at) bytes)
+  next_head is_r =
+      head_by_prefixes bytes (omega arith) ∙ ap (λ (p : Head × Bool). p.0) (next is_r)
+
+  pub next_test : {r : Prefix} → kind ≡ r → are_incomplete utf_8_prefix [] bytes
+      ≡ (is_incomplete r && are_incomplete utf_8_prefix longer (drop (suc at) bytes))
+  next_test is_r = ap (λ (p : Head × Bool). p.1) (next is_r)
+
+  pub goes_on : kind ≡ Incomplete → Walks bytes longer (at + 1)
+  goes_on is_incomplete =
+      let place : suc at ≡ at + 1 = omega arith in
+      record {
+        len = longer_len;
+        within = omega arith;
+        incomplete = one_more utf_8_prefix [] front (get_or bytes at 0) walks.incomplete
+            (sym is_kind ∙ is_incomplete);
+        decide = rw place at (next is_incomplete);
+      }
+
+  pub complete_found : {c : ℕ} → kind ≡ Complete (One c) → head_of bytes ≡ character_head 0 at c
+  complete_found {c} is_complete =
+      let same_len : length longer - 1 ≡ at = omega (arith, longer_len) in
+      next_head is_complete ∙ ap (λ n. character_head 0 n c) same_len
+
+  pub malformed_found : {n : ℕ} → kind ≡ Malformed n
+      → (0 < n) × (n ≤ length bytes) × (head_of bytes ≡ malformed_head 0 (n - 1))
+  malformed_found {n} is_malformed =
+      let own = utf_8_prefixes.malformed longer n (sym is_kind ∙ is_malformed) in
+      (own.0, omega (arith, longer_len, own.1), next_head is_malformed)
+
+-- at the end all of them are malformed
+module _ {bytes front : List ℕ} {at : ℕ} (walks : Walks bytes front at) (all : length bytes ≤ at)
   where
-    of_bytes : (z : List ℕ) → 3 ≤ length z → well_formed_tail_len a z ≡ 3
-        → AreFollowing a (take 3 z) → Whole4 a z
-    of_bytes [] some reach follow = absurd (omega arith)
-    of_bytes (b ∷ []) some reach follow = absurd (omega arith)
-    of_bytes (b ∷ c ∷ []) some reach follow = absurd (omega arith)
-    of_bytes (b ∷ c ∷ d ∷ z) some reach follow = record {
-      some = omega arith;
-      third = sym (continues_as_second c) ∙ follow.1.0;
-      fourth = sym (continues_as_second d) ∙ follow.1.1.0;
-      bytes = rw reach refl;
-    }
+    last : first [] Incomplete bytes ≡ first front Incomplete []
+    last = walks.decide ∙ ap (first front Incomplete) (drop_of_length-le bytes all)
 
--- the head of the rule, by whether the sequence is whole
+    pub end_found : 0 < length bytes → head_of bytes ≡ malformed_head 0 (at - 1)
+    end_found some =
+        head_by_prefixes bytes some ∙ ap (λ (p : Head × Bool). p.0) last
+        ∙ ap (λ n. malformed_head 0 (n - 1)) walks.len
 
-module _ (lead : ℕ) (rest : List ℕ) {more len : ℕ} {after : List ℕ} (next : after ≡ drop 1 rest)
-    (reach : more ≡ well_formed_tail_len lead after) (by_lead : len ≡ sequence_len lead) where
-  pub whole_front : more + 1 ≡ len
-      → utf_8_rule 0 lead (drop 1 rest)
-      ≡ character_head 0 more (scalar_of (lead ∷ take (well_formed_tail_len lead after) after))
-  whole_front whole =
-      rw (sym next, sym reach) (whole_head 0 lead after (sym reach) (grind (arith, nat_tests)))
-
-  pub malformed_front : (more + 1 ≡ len → ⊥)
-      → utf_8_rule 0 lead (drop 1 rest) ≡ malformed_head 0 more
-  malformed_front short =
-      rw (sym next) (short_head 0 lead after (sym reach) (grind (arith, nat_tests)))
-
-  pub front_within : 0 < length rest → more + 1 ≤ length rest
-  front_within some =
-      let within = well_formed_tail_len-within lead after in
-      omega (arith, ap length next, length-drop 1 rest)
+    pub end_test : are_incomplete utf_8_prefix [] bytes ≡ true
+    end_test = ap (λ (p : Head × Bool). p.1) last
 
 -- no sequence changes the designated character set
 rule_set : (b : ℕ) (z : List ℕ) → (utf_8_rule 0 b z).set ≡ 0
 rule_set b z = holds_of_first (λ h. h.set ≡ 0) 0 b z (λ _. refl) refl
 
 -- what a sequence found at the front adds to the text and to the errors
-
-abbrev pub head_of : List ℕ → Head
-head_of rest = utf_8_rule 0 (get_or rest 0 0) (drop 1 rest)
 
 abbrev pub text_of_bytes : List ℕ → List ℕ
 text_of_bytes z = units_of_text encode_utf8 (sequence_text (sequences_of utf_8_rule 0 z))

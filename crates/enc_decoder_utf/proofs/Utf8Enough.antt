@@ -17,9 +17,11 @@ use Rattle.enc_decoder.specs.Need.{sequences_before_malformed, needed_units, Are
 use Rattle.enc_decoder.proofs.NeedLemmas.{units, units-both, units-one}
 use Rattle.enc_decoder.proofs.EnoughLemmas.{plus_is, sum_is, thrice_is, never_passes, HasFewUnits, few_by_single_bytes}
 use Rattle.enc_decoder.proofs.EnoughLemmas.{utf_8_bounded, utf_16_bounded, basic_by}
-use Rattle.enc_decoder_utf.specs.Utf8.{sequence_len, well_formed_tail_len, scalar_of, utf_8_rule}
+use Rattle.enc_utf8.specs.Utf8Sequences.{sequence_len, well_formed_tail_len, scalar_of}
+use Rattle.enc_utf8.proofs.Utf8SequenceLemmas.{one_range, two_range, three_range, second_range}
+use Rattle.enc_decoder_utf.specs.Utf8.{utf_8_rule}
 use Rattle.enc_decoder_utf.proofs.Utf8Rule.{utf_8_is_lawful}
-use Rattle.enc_decoder_utf.proofs.Utf8Lemmas.{holds_of_first, one_range, two_range, three_range, second_range}
+use Rattle.enc_decoder_utf.proofs.Utf8Lemmas.{holds_of_first}
 use Rattle.enc_decoder_utf.proofs.Utf8Lemmas.{well_formed_tail_len-within, AreFollowing, reached_follow}
 
 reach_taken : (b : ℕ) (z : List ℕ)

@@ -6,12 +6,14 @@ use Rattle.std.proofs.str.Laws as laws
 use Rattle.std.proofs.lemmas.Bool.{cases_lt}
 use Rattle.std.proofs.lemmas.Bool.Decides.{nat_tests}
 use Rattle.enc_utf8.specs.Pieces.{IsUtf8Char}
-use Rattle.enc_decoder_utf.specs.Utf8.{sequence_len, is_second_byte, is_continuation, scalar_of, utf_8_rule}
+use Rattle.enc_utf8.specs.Utf8Sequences.{sequence_len, scalar_of}
+use Rattle.enc_utf8.proofs.Utf8SequenceLemmas.{len_by_range, second_at, continues}
+use Rattle.enc_decoder_utf.specs.Utf8.{utf_8_rule}
 use Rattle.enc_decoder.specs.Taking.{IsWholeChar}
 use Rattle.enc_decoder.specs.Prefixes.{prefix_rule}
 use Rattle.enc_decoder_utf.specs.Utf8.{utf_8_prefix}
 use Rattle.enc_decoder_utf.proofs.Utf8Rule.{utf_8_by_prefixes}
-use Rattle.enc_decoder_utf.proofs.Utf8Lemmas.{len_by_range, one_valid, two_valid, three_valid, four_valid}
+use Rattle.enc_decoder_utf.proofs.Utf8FirstSequences.{one_valid, two_valid, three_valid, four_valid}
 
 pub valued : (bytes : List ℕ) (c : ℕ) → c ≡ scalar_of bytes
     → IsWholeChar utf_8_rule 0 bytes (scalar_of bytes) → IsWholeChar utf_8_rule 0 bytes c
@@ -32,15 +34,6 @@ lead_len b leads = (
   λ from. grind (arith, nat_tests),
   λ from. grind (arith, nat_tests),
 )
-
-second_at : (a b : ℕ) → (0x80 ≤ b) × (b < 0xC0) → (a ≡ 0xE0 → 0xA0 ≤ b) → (a ≡ 0xED → b < 0xA0)
-    → (a ≡ 0xF0 → 0x90 ≤ b) → (a ≡ 0xF4 → b < 0x90) → is_second_byte a b ≡ true
-unfolding is_second_byte
-second_at a b within after_e0 after_ed after_f0 after_f4 = grind (arith, nat_tests)
-
-continues : (b : ℕ) → (0x80 ≤ b) × (b < 0xC0) → is_continuation b ≡ true
-unfolding is_continuation
-continues b within = grind (arith, nat_tests)
 
 module _ (c : ℕ) where
   one : c < 0x80 → IsWholeChar utf_8_rule 0 (c ∷ []) c

@@ -11,9 +11,9 @@ use Rattle.enc_decoder.specs.Prefixes.{prefix_head, malformed_prefix_head, Leave
 use Rattle.enc_decoder.specs.Prefixes.{CanBeOther, ArePrefixes, HasAscii, AreSettledBelowDigits}
 use Rattle.enc_decoder.proofs.FirstSequenceLemmas.{true_or_false}
 use Rattle.enc_decoder.proofs.PrefixLaws.{IsLawfulPrefix, either_lawful, prefixes_by, one_is_text}
-use Rattle.enc_decoder_utf.specs.Utf8.{sequence_len, is_second_byte, is_continuation, second_byte_min, scalar_of}
+use Rattle.enc_utf8.specs.Utf8Sequences.{sequence_len, is_second_byte, is_continuation, second_byte_min, scalar_of}
+use Rattle.enc_utf8.proofs.Utf8SequenceLemmas.{at_most_four}
 use Rattle.enc_decoder_utf.specs.Utf8.{first_byte_prefix, utf_8_prefix}
-use Rattle.enc_decoder_utf.proofs.Utf8Lemmas.{at_most_four}
 
 begun_lawful : (t : Bool) (len c : ℕ) → len ≤ 3
     → IsLawfulPrefix 3 len (cond t (Complete (One c)) Incomplete)

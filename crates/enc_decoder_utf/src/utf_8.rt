@@ -1,9 +1,9 @@
 //! The UTF-8 codec (Encoding Standard 8.1.1).
 
 ghost use Rattle.std.specs.Prelude.{◌≡◌, [], ◌∷◌, true, nat_le};
-ghost use Rattle.enc_decoder_utf.specs.Utf8.{sequence_len as len_by_lead};
-ghost use Rattle.enc_decoder_utf.specs.Utf8.{is_second_byte as second_follows};
-ghost use Rattle.enc_decoder_utf.specs.Utf8.{is_continuation as continues, scalar_of};
+ghost use Rattle.enc_utf8.specs.Utf8Sequences.{sequence_len as len_by_lead};
+ghost use Rattle.enc_utf8.specs.Utf8Sequences.{is_second_byte as second_follows};
+ghost use Rattle.enc_utf8.specs.Utf8Sequences.{is_continuation as continues, scalar_of};
 ghost use Rattle.enc_decoder_utf.specs.Utf8.{utf_8_prefix};
 ghost use Rattle.enc_decoder.specs.declared.prefix.Prefix.TheVariants.{Incomplete};
 
@@ -47,8 +47,8 @@ impl Utf8Decoder {
 }
 
 /// Returns the length of the well-formed sequences that begin with a byte, or 0 if none does.
-#[tactic(auto, unfolding(crate::specs::Utf8::sequence_len))]
-pub fn sequence_len(lead: u8) -> u8
+#[tactic(auto, unfolding(enc_utf8::specs::Utf8Sequences::sequence_len))]
+fn sequence_len(lead: u8) -> u8
     ensures { result ≡ len_by_lead lead }
 {
     match lead {
@@ -62,7 +62,7 @@ pub fn sequence_len(lead: u8) -> u8
 }
 
 /// Returns whether a byte leads a sequence of two bytes or more.
-#[tactic(auto, unfolding(crate::specs::Utf8::sequence_len))]
+#[tactic(auto, unfolding(enc_utf8::specs::Utf8Sequences::sequence_len))]
 fn is_lead(byte: u8) -> bool
     ensures { result ≡ nat_le 2 (len_by_lead byte) }
 {
@@ -70,8 +70,8 @@ fn is_lead(byte: u8) -> bool
 }
 
 /// Returns whether a byte may be the second of a sequence with this lead byte.
-#[tactic(auto, unfolding(crate::specs::Utf8::is_second_byte))]
-pub fn is_second_byte(lead: u8, byte: u8) -> bool
+#[tactic(auto, unfolding(enc_utf8::specs::Utf8Sequences::is_second_byte))]
+fn is_second_byte(lead: u8, byte: u8) -> bool
     ensures { result ≡ second_follows lead byte }
 {
     let lower = match lead {
@@ -88,15 +88,15 @@ pub fn is_second_byte(lead: u8, byte: u8) -> bool
 }
 
 /// Returns whether a byte may be the third or the fourth of a sequence.
-#[tactic(auto, unfolding(crate::specs::Utf8::is_continuation))]
-pub fn is_continuation(byte: u8) -> bool
+#[tactic(auto, unfolding(enc_utf8::specs::Utf8Sequences::is_continuation))]
+fn is_continuation(byte: u8) -> bool
     ensures { result ≡ continues byte }
 {
     byte >= 0x80 && byte <= 0xBF
 }
 
 /// Returns the character of two bytes.
-pub fn two_byte_char(first: u8, second: u8) -> char
+fn two_byte_char(first: u8, second: u8) -> char
     requires len { len_by_lead first ≡ 2 }
     requires second { second_follows first second ≡ true }
     ensures { result ≡ scalar_of (first ∷ second ∷ []) }
@@ -106,7 +106,7 @@ pub fn two_byte_char(first: u8, second: u8) -> char
 }
 
 /// Returns the character of three bytes.
-pub fn three_byte_char(first: u8, second: u8, third: u8) -> char
+fn three_byte_char(first: u8, second: u8, third: u8) -> char
     requires len { len_by_lead first ≡ 3 }
     requires second { second_follows first second ≡ true }
     requires third { continues third ≡ true }
@@ -117,7 +117,7 @@ pub fn three_byte_char(first: u8, second: u8, third: u8) -> char
 }
 
 /// Returns the character of four bytes.
-pub fn four_byte_char(first: u8, second: u8, third: u8, fourth: u8) -> char
+fn four_byte_char(first: u8, second: u8, third: u8, fourth: u8) -> char
     requires len { len_by_lead first ≡ 4 }
     requires second { second_follows first second ≡ true }
     requires third { continues third ≡ true }

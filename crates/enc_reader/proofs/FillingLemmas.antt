@@ -1,14 +1,13 @@
 -- Chunks that are pulled one after another until something is determined.
-use Rattle.std.proofs.Common.{◌≡◌, ℕ, ◌+◌, ◌-◌, ◌<◌, ◌≤◌, inl, inr, true, false, List, [], ◌∷◌, ◌++◌, length, Option}
+use Rattle.std.proofs.Common.{◌≡◌, ℕ, ◌+◌, ◌-◌, ◌<◌, ◌≤◌, inl, inr, false, List, [], ◌++◌, length, Option}
 use Rattle.std.proofs.Common.{take, drop, refl, ap, ◌∙◌, sym, subst, arith}
 use Rattle.std.proofs.Common.{append_assoc, append-nil, length-append, if◌then◌else◌}
 use Rattle.std.proofs.Math.ListN.{length-drop}
 use Rattle.std.proofs.lemmas.List.{length-take}
 use Rattle.std.proofs.lemmas.Bool.{false_from_ne_true}
-use Rattle.std.proofs.lemmas.Bool.Decides.{nat_tests}
 use Rattle.enc_decoder.proofs.FirstSequenceLemmas.{true_or_false}
-use Rattle.enc_decoder_utf.specs.Utf8.{sequence_len, is_incomplete_sequence}
-use Rattle.enc_decoder_utf.proofs.Utf8Lemmas.{at_most_four}
+use Rattle.enc_utf8.specs.Utf8Sequences.{is_incomplete_sequence}
+use Rattle.enc_decoder_utf.proofs.Utf8Incomplete.{incomplete_is_short}
 use Rattle.enc_reader.specs.Reading.{ReaderState, NoneDetermined}
 use Rattle.enc_reader.specs.Turn.{PullsChunk}
 use Rattle.enc_reader.specs.Counting.{PullsCounted, FillsCounted}
@@ -66,15 +65,7 @@ PullsChunk-closer {a = a} {b = b} pulls not_ended few =
       | inr goes_on ↦ (let some = pulls.some goes_on in rw (goes_on, not_ended) (omega arith))
     ]
 
--- an incomplete sequence has fewer bytes than the longest sequence
-
-pub incomplete_is_short : (bytes : List ℕ) → is_incomplete_sequence bytes ≡ true → length bytes < 4
-incomplete_is_short [] incomplete = omega arith
-incomplete_is_short (b ∷ z) incomplete =
-    let most = at_most_four b in
-    let shorter : length z + 1 < sequence_len b = grind (arith, nat_tests) in
-    omega arith
-
+-- more bytes than an incomplete sequence has
 pub long_is_whole : (bytes : List ℕ) → 4 ≤ length bytes → is_incomplete_sequence bytes ≡ false
 long_is_whole bytes long = false_from_ne_true _
     (λ incomplete. let short = incomplete_is_short bytes incomplete in omega arith)

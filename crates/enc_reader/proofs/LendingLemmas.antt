@@ -10,8 +10,9 @@ use Rattle.enc_utf8.specs.Text.{AreScalars, units_of_text}
 use Rattle.enc_utf8.proofs.UnitsLemmas.{their_units}
 use Rattle.enc_decoder.specs.Remainder.{AreDetermined}
 use Rattle.enc_decoder.specs.Segmentation.{sequences_of}
-use Rattle.enc_decoder_utf.specs.Utf8.{utf_8_rule, is_incomplete_sequence}
-use Rattle.enc_decoder_utf.proofs.Utf8Undetermined.{undetermined, incomplete_begun}
+use Rattle.enc_utf8.specs.Utf8Sequences.{is_incomplete_sequence}
+use Rattle.enc_decoder_utf.specs.Utf8.{utf_8_rule}
+use Rattle.enc_decoder_utf.proofs.Utf8Incomplete.{undetermined, incomplete_begun}
 use Rattle.enc_stream.specs.declared.constants.TheConstants.{UTF_8}
 use Rattle.enc_decoder.proofs.SequenceLemmas.{or_false}
 use Rattle.enc_stream.specs.Bom.{find_mark, encoding_of_mark_or}

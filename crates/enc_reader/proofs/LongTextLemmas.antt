@@ -1,10 +1,9 @@
 -- Long text is lent whole: bytes at hand that begin their own text determine some of it, so that a
 -- read pulls nothing more.
 use Rattle.std.proofs.Common.{◌≡◌, ℕ, ◌+◌, ◌-◌, ◌<◌, ◌≤◌, zero, suc, ◌⊎◌, inl, inr, true, false, List, [], ◌∷◌}
-use Rattle.std.proofs.Common.{◌++◌, length, take, drop, Option, refl, ap, ◌∙◌, sym, subst, arith}
+use Rattle.std.proofs.Common.{◌++◌, length, take, drop, Option, ap, ◌∙◌, sym, subst, arith}
 use Rattle.std.proofs.Common.{append_assoc, append-nil}
 use Rattle.std.proofs.lemmas.Bool.{cases_lt}
-use Rattle.std.proofs.lemmas.Bool.Decides.{nat_tests}
 use Rattle.std.proofs.Math.ListN.{length-drop}
 use Rattle.std.proofs.lemmas.List.{length-take, take-append-le}
 use Rattle.enc_utf8.specs.Validity.{AreAscii}
@@ -14,9 +13,9 @@ use Rattle.enc_decoder.specs.Segmentation.{Rule, head_sequence, sequences_of}
 use Rattle.enc_decoder.specs.Remainder.{AreFirstSequences, AreDetermined}
 use Rattle.enc_decoder.proofs.FirstSequenceLemmas.{true_or_false}
 use Rattle.enc_decoder.proofs.SegmentationLemmas.{sequences_of-head}
-use Rattle.enc_decoder_utf.specs.Utf8.{sequence_len, is_second_byte, continuing_len, well_formed_tail_len}
-use Rattle.enc_decoder_utf.specs.Utf8.{utf_8_rule, is_incomplete_sequence}
-use Rattle.enc_decoder_utf.proofs.Utf8Lemmas.{continuations_as_second, continuing_len-within}
+use Rattle.enc_utf8.specs.Utf8Sequences.{is_incomplete_sequence}
+use Rattle.enc_decoder_utf.specs.Utf8.{utf_8_rule}
+use Rattle.enc_decoder_utf.proofs.Utf8Incomplete.{determined_head}
 use Rattle.enc_decoder_utf.proofs.Utf8Rule.{within}
 use Rattle.enc_decoder_utf.proofs.Utf8Rule.{utf_8_has_texts}
 use Rattle.enc_codec.specs.Properties.{IsAsciiCompatible}
@@ -36,31 +35,6 @@ record BeginsText (rule : Rule) (bytes : List ℕ) : Type 0 where
 
 -- UTF-8: bytes that are no incomplete sequence determine the first sequence
 
-reach_stays : (b n : ℕ) (z y : List ℕ) → (continuing_len b n z ≡ length z → n ≤ length z)
-    → continuing_len b n (z ++ y) ≡ continuing_len b n z
-reach_stays b zero z y enough = refl
-reach_stays b (suc n) [] y enough = absurd (let no = enough refl in omega arith)
-reach_stays b (suc n) (c ∷ z) y enough = elim (true_or_false (is_second_byte b c)) [
-  | inl goes_on ↦
-      let enough_after = rw (goes_on, continuations_as_second n z) at enough in
-      rw (goes_on, continuations_as_second n (z ++ y), continuations_as_second n z)
-      (ap suc (reach_stays 0 n z y
-      (λ reaches. let no_more_wanted = enough_after (ap suc reaches) in omega arith)))
-  | inr ends ↦ rw ends refl
-]
-
-enough_reached : (b : ℕ) (z : List ℕ) → is_incomplete_sequence (b ∷ z) ≡ false
-    → well_formed_tail_len b z ≡ length z → sequence_len b - 1 ≤ length z
-enough_reached b z whole reaches = grind (arith, nat_tests)
-
-rule_stays : (b : ℕ) (z y : List ℕ) → is_incomplete_sequence (b ∷ z) ≡ false
-    → utf_8_rule 0 b (z ++ y) ≡ utf_8_rule 0 b z
-unfolding utf_8_rule
-rule_stays b z y whole =
-    let bounds = continuing_len-within b (sequence_len b - 1) z in
-    let same = reach_stays b (sequence_len b - 1) z y (enough_reached b z whole) in
-    rw (same, take-append-le (well_formed_tail_len b z) z y bounds.1) refl
-
 utf_8_begins : (bytes : List ℕ) → 0 < length bytes → is_incomplete_sequence bytes ≡ false
     → BeginsText utf_8_rule bytes
 utf_8_begins [] some whole = absurd (omega arith)
@@ -68,7 +42,7 @@ utf_8_begins (b ∷ z) some whole = record {
   first = head_sequence (utf_8_rule 0 b z) b z;
   begins = λ y. (
     _,
-    sequences_of-head utf_8_rule 0 b (z ++ y) (utf_8_rule 0 b z) (rule_stays b z y whole)
+    sequences_of-head utf_8_rule 0 b (z ++ y) (utf_8_rule 0 b z) (determined_head b z y whole)
         ∙ ap (λ x. record {
           bytes = b ∷ x;
           text = (utf_8_rule 0 b z).text;

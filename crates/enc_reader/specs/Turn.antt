@@ -2,7 +2,7 @@
 use Rattle.std.specs.Prelude.{◌≡◌, ℕ, ◌<◌, ◌≤◌, ◌⊎◌, Bool, true, false, List, [], ◌++◌, length, Option}
 use Rattle.enc_utf8.specs.Validity.{IsWellFormedUtf8, AreAscii}
 use Rattle.enc_decoder.specs.Remainder.{IsUndetermined}
-use Rattle.enc_decoder_utf.specs.Utf8.{is_incomplete_sequence}
+use Rattle.enc_utf8.specs.Utf8Sequences.{is_incomplete_sequence}
 use Rattle.enc_codec.specs.Properties.{IsAsciiCompatible}
 use Rattle.enc_stream.specs.declared.constants.TheConstants.{UTF_8}
 use Rattle.enc_stream.specs.Encodings.{rule_of}

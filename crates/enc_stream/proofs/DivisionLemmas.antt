@@ -8,7 +8,8 @@ use Rattle.enc_utf8.specs.Text.{units_of_text}
 use Rattle.enc_decoder.specs.Sequence.{Sequence, sequence_text, any_malformed}
 use Rattle.enc_decoder.proofs.SequenceLemmas.{sequence_text-append, units-append, any_malformed-append}
 use Rattle.enc_decoder.specs.Segmentation.{sequences_after}
-use Rattle.enc_decoder_utf.specs.Utf8.{utf_8_rule, sequence_len, is_second_byte, is_continuation}
+use Rattle.enc_utf8.specs.Utf8Sequences.{sequence_len, is_second_byte, is_continuation}
+use Rattle.enc_decoder_utf.specs.Utf8.{utf_8_rule}
 use Rattle.enc_encoder.specs.EncoderRule.{EncoderRule}
 use Rattle.enc_encoder.specs.Unmappable.{any_unmappable}
 use Rattle.enc_encoder.proofs.UnmappableLemmas.{any_unmappable-append}

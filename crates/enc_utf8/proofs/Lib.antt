@@ -17,3 +17,4 @@ pub mod Utf8FaultLemmas
 pub mod Utf8FormLemmas
 pub mod Utf8PrefixLemmas
 pub mod Utf8RunLemmas
+pub mod Utf8SequenceLemmas

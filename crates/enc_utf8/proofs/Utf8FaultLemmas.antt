@@ -15,7 +15,8 @@ use lib.Lanes.{chunk, pick_l}
 use Rattle.enc_utf8.proofs.LengthLemmas.{lengths, rest_is}
 use Rattle.enc_utf8.specs.declared.utf8_faults.TheConstants.{FIRST_UPPER, FIRST_LOWER, SECOND_UPPER}
 use Rattle.enc_utf8.specs.Utf8Run.{CanFollowBytes, CanFollowBytesAt, IsCharBoundaryAfter, ArePairFaults}
-use Rattle.enc_utf8.specs.Utf8Run.{begins_or_is_second, is_continuation_byte, required_faults}
+use Rattle.enc_utf8.specs.Utf8Run.{begins_or_is_second, required_faults}
+use Rattle.enc_utf8.specs.Utf8Sequences.{sequence_len, is_second_byte, is_continuation}
 use Rattle.enc_utf8.specs.Validity.{IsWellFormedUtf8}
 use Rattle.enc_utf8.proofs.TestLemmas.{every, every_passes}
 use Rattle.enc_utf8.proofs.Utf8RunLemmas.{blocks_utf8}
@@ -39,7 +40,7 @@ looked_up upper lower second =
     (get_or SECOND_UPPER second 0)
 
 abbrev continue : ℕ → ℕ → Bool
-continue first second = is_continuation_byte first && is_continuation_byte second
+continue first second = is_continuation first && is_continuation second
 
 abbrev halves_ok : ℕ → ℕ → ℕ → Bool
 halves_ok upper lower second =
@@ -49,15 +50,17 @@ halves_ok upper lower second =
 
 tables_ok : every 16
     (λ upper. every 16 (λ lower. every 16 (λ second. halves_ok upper lower second))) ≡ true
-unfolding every
+unfolding every sequence_len is_second_byte is_continuation
 tables_ok = refl
 
 -- the upper half of the second byte decides
 
 begins_by_upper : (x b : ℕ) → begins_or_is_second x (b / 16 * 16) ≡ begins_or_is_second x b
+unfolding is_second_byte
 begins_by_upper x b = grind (arith, nat_tests)
 
 continue_by_upper : (x b : ℕ) → continue x (b / 16 * 16) ≡ continue x b
+unfolding is_continuation
 continue_by_upper x b = grind (arith, nat_tests)
 
 -- the faults of a pair, where each table is read at a half
@@ -131,9 +134,11 @@ equal_if_no_difference a b e =
 
 module _ {z y x b : ℕ} where
   within : (0xE0 ≤ y) ⊎ (0xF0 ≤ z) → continue x b ≡ true → CanFollowBytes z y x b
+  unfolding is_continuation
   within long continues = grind (arith, nat_tests)
 
   between : y < 0xE0 → z < 0xF0 → begins_or_is_second x b ≡ true → CanFollowBytes z y x b
+  unfolding sequence_len
   between no_second no_third begins = grind (arith, nat_tests)
 
   pub can_follow : (required pair : ℕ) → required ≡ required_faults z y → ArePairFaults x b pair

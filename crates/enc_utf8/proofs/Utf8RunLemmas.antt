@@ -1,6 +1,6 @@
 -- Bytes that follow one another as in well-formed UTF-8 are well-formed.
 use Rattle.std.proofs.Common.{◌≡◌, ℕ, zero, suc, ◌+◌, ◌-◌, ◌<◌, ◌≤◌, ◌⊎◌, List, [], ◌∷◌, length, get_or, take, drop}
-use Rattle.std.proofs.Common.{sym, ap, subst, arith, ◌∙◌, inl, inr, take-add, drop-drop}
+use Rattle.std.proofs.Common.{true, sym, ap, subst, arith, ◌∙◌, inl, inr, take-add, drop-drop}
 use Rattle.std.proofs.lemmas.Bool.{cases_lt, cases_eq}
 use Rattle.std.proofs.lemmas.Simd.{get_or-chunk}
 use Rattle.std.proofs.lemmas.Str.{IsUtf8-nil, IsUtf8-append}
@@ -8,6 +8,9 @@ use Rattle.std.proofs.str.Valid.{of_one, of_two, of_three, of_four}
 use Rattle.enc_utf8.proofs.LengthLemmas.{lengths, rest_is}
 use Rattle.enc_utf8.specs.Validity.{IsWellFormedUtf8, AreAscii}
 use Rattle.enc_utf8.specs.Utf8Run.{CanFollowBytes, CanFollowBytesAt, IsCharBoundaryAfter}
+use Rattle.enc_utf8.specs.Utf8Sequences.{sequence_len, is_second_byte, is_continuation}
+use Rattle.enc_utf8.proofs.Utf8SequenceLemmas.{two_range, three_range, four_range, from_three, at_most_four}
+use Rattle.enc_utf8.proofs.Utf8SequenceLemmas.{second_range, continuation_range}
 
 abbrev AreBetween : ℕ → ℕ → ℕ → Type 0
 AreBetween z y x = (z < 0xF0) × (y < 0xE0) × (x < 0xC0)
@@ -22,81 +25,92 @@ unless a n f = elim (cases_eq a n) [ inl e ↦ inr (f e) | inr e ↦ inl e ]
 
 -- the character in front
 
-pub three_front : (src : List ℕ) → 2 < length src
-    → (0xE0 ≤ get_or src 0 0) × (get_or src 0 0 < 0xF0)
-    → (0x80 ≤ get_or src 1 0) × (get_or src 1 0 < 0xC0)
-    → (get_or src 0 0 ≡ 0xE0 → 0xA0 ≤ get_or src 1 0)
-    → (get_or src 0 0 ≡ 0xED → get_or src 1 0 < 0xA0)
-    → (0x80 ≤ get_or src 2 0) × (get_or src 2 0 < 0xC0)
-    → IsWellFormedUtf8 (take 3 src)
-three_front src some lead second no_short no_surrogate third =
-    let least = unless (get_or src 0 0) 0xE0 no_short in
-    let most = unless (get_or src 0 0) 0xED no_surrogate in
-    of_three src 0 (omega arith) lead second third (omega arith)
+pub two_front : (src : List ℕ) → 1 < length src → sequence_len (get_or src 0 0) ≡ 2
+    → is_second_byte (get_or src 0 0) (get_or src 1 0) ≡ true → IsWellFormedUtf8 (take 2 src)
+two_front src some two follows =
+    let second = second_range _ _ follows in
+    of_two src 0 (omega arith) (two_range _ two) (omega arith, omega arith)
+
+pub three_front : (src : List ℕ) → 2 < length src → sequence_len (get_or src 0 0) ≡ 3
+    → is_second_byte (get_or src 0 0) (get_or src 1 0) ≡ true
+    → is_continuation (get_or src 2 0) ≡ true → IsWellFormedUtf8 (take 3 src)
+three_front src some three follows continues =
+    let lead = three_range _ three in
+    let second = second_range _ _ follows in
+    let third = continuation_range _ continues in
+    let least = unless (get_or src 0 0) 0xE0 second.2 in
+    of_three src 0 (omega arith) lead (omega arith, omega arith) (omega arith, omega arith)
+    (omega arith)
     (elim (cases_lt (get_or src 0 0) 0xED) [
       | inl below ↦ inl (omega arith)
       | inr from ↦ elim (cases_lt 0xED (get_or src 0 0)) [
         | inl above ↦ inr (omega arith)
-        | inr equal ↦ inl (omega (arith, no_surrogate (omega arith)))
+        | inr equal ↦ inl (omega (arith, second.3 (omega arith)))
       ]
     ])
 
-pub four_front : (src : List ℕ) → 3 < length src → (0xF0 ≤ get_or src 0 0) × (get_or src 0 0 ≤ 0xF4)
-    → (0x80 ≤ get_or src 1 0) × (get_or src 1 0 < 0xC0)
-    → (get_or src 0 0 ≡ 0xF0 → 0x90 ≤ get_or src 1 0)
-    → (get_or src 0 0 ≡ 0xF4 → get_or src 1 0 < 0x90)
-    → (0x80 ≤ get_or src 2 0) × (get_or src 2 0 < 0xC0)
-    → (0x80 ≤ get_or src 3 0) × (get_or src 3 0 < 0xC0) → IsWellFormedUtf8 (take 4 src)
-four_front src some lead second no_short no_beyond third fourth =
-    let least = unless (get_or src 0 0) 0xF0 no_short in
-    let most = unless (get_or src 0 0) 0xF4 no_beyond in
-    of_four src 0 (omega arith) lead.0 second third fourth (omega arith)
+pub four_front : (src : List ℕ) → 3 < length src → sequence_len (get_or src 0 0) ≡ 4
+    → is_second_byte (get_or src 0 0) (get_or src 1 0) ≡ true
+    → is_continuation (get_or src 2 0) ≡ true → is_continuation (get_or src 3 0) ≡ true
+    → IsWellFormedUtf8 (take 4 src)
+four_front src some four follows continues ends =
+    let lead = four_range _ four in
+    let second = second_range _ _ follows in
+    let third = continuation_range _ continues in
+    let fourth = continuation_range _ ends in
+    let least = unless (get_or src 0 0) 0xF0 second.4 in
+    let most = unless (get_or src 0 0) 0xF4 second.5 in
+    of_four src 0 (omega arith) lead.0 (omega arith, omega arith) (omega arith, omega arith)
+    (omega arith, omega arith) (omega arith)
 
 -- the bytes of several characters
 
 module _ (n : ℕ) (rest : (z y x : ℕ) (bs : List ℕ) → length bs ≤ n → AreBetween z y x
     → AllFollow z y x bs
     → IsWellFormedUtf8 bs) where
-  fourth : (y z a b c : ℕ) (bs : List ℕ) → length bs ≤ n → (0xF0 ≤ a) × (a ≤ 0xF4)
-      → (0x80 ≤ b) × (b < 0xC0) → CanFollowBytes y z a b → (0x80 ≤ c) × (c < 0xC0)
+  fourth : (a b c : ℕ) (bs : List ℕ) → length bs ≤ n → sequence_len a ≡ 4
+      → is_second_byte a b ≡ true → is_continuation c ≡ true
       → AllFollow a b c bs → IsWellFormedUtf8 (a ∷ b ∷ c ∷ bs)
-  fourth y z a b c [] l leads_four f second_follows e rest_follow = absurd (omega arith)
-  fourth y z a b c (d ∷ bs) l leads_four f second_follows e rest_follow =
+  fourth a b c [] few four follows continues follow =
+      absurd (let lead = four_range a four in omega arith)
+  fourth a b c (d ∷ bs) few four follows continues follow =
+      let ends = follow.0.after_third (four_range a four).0 in
+      let second = second_range a b follows in
+      let third = continuation_range c continues in
+      let last = continuation_range d ends in
       IsUtf8-append (a ∷ b ∷ c ∷ d ∷ []) bs
-      (four_front (a ∷ b ∷ c ∷ d ∷ []) (omega arith) leads_four f second_follows.after_0xf0
-      second_follows.after_0xf4 e
-      (rest_follow.0.after_third leads_four.0))
-      (rest b c d bs (omega arith) (omega (arith, rest_follow.0.after_third leads_four.0))
-      rest_follow.1)
+      (four_front (a ∷ b ∷ c ∷ d ∷ []) (omega arith) four follows continues ends)
+      (rest b c d bs (omega arith) (omega arith, omega arith, omega arith) follow.1)
 
-  third : (y z a b : ℕ) (bs : List ℕ) → length bs ≤ n → (0xE0 ≤ a) × (a ≤ 0xF4)
-      → (0x80 ≤ b) × (b < 0xC0) → CanFollowBytes y z a b → AllFollow z a b bs
-      → IsWellFormedUtf8 (a ∷ b ∷ bs)
-  third y z a b [] l leads_three continues second_follows rest_follow = absurd (omega arith)
-  third y z a b (c ∷ bs) l leads_three continues second_follows rest_follow =
-      let continues_too = rest_follow.0.after_second leads_three.0 in
-      elim (cases_lt a 0xF0) [
-        | inl u ↦ IsUtf8-append (a ∷ b ∷ c ∷ []) bs
-            (three_front (a ∷ b ∷ c ∷ []) (omega arith) (leads_three.0, u) continues
-            second_follows.after_0xe0
-            second_follows.after_0xed
-            continues_too) (rest a b c bs (omega arith) (omega arith) rest_follow.1)
-        | inr u ↦ fourth y z a b c bs (omega arith) (u, leads_three.1) continues second_follows
-            continues_too
-            rest_follow.1
+  third : (z a b : ℕ) (bs : List ℕ) → length bs ≤ n → 3 ≤ sequence_len a
+      → is_second_byte a b ≡ true → AllFollow z a b bs → IsWellFormedUtf8 (a ∷ b ∷ bs)
+  third z a b [] few more follows follow =
+      absurd (let from = from_three a more in omega arith)
+  third z a b (c ∷ bs) few more follows follow =
+      let continues = follow.0.after_second (from_three a more) in
+      elim (cases_eq (sequence_len a) 3) [
+        | inl three ↦ (let lead = three_range a three in
+            let second = second_range a b follows in
+            let last = continuation_range c continues in
+            IsUtf8-append (a ∷ b ∷ c ∷ []) bs
+            (three_front (a ∷ b ∷ c ∷ []) (omega arith) three follows continues)
+            (rest a b c bs (omega arith) (omega arith, omega arith, omega arith) follow.1))
+        | inr longer ↦ fourth a b c bs (omega arith) (omega (arith, at_most_four a)) follows
+            continues follow.1
       ]
 
   second : (y z a : ℕ) (bs : List ℕ) → length bs ≤ n → z < 0xC0 → 0xC0 ≤ a
       → AllFollow y z a bs → IsWellFormedUtf8 (a ∷ bs)
-  second y z a [] l k is_lead rest_follow = absurd (omega arith)
-  second y z a (b ∷ bs) l k is_lead rest_follow =
-      let continues = rest_follow.0.after_first is_lead in
-      let leads = rest_follow.0.leads is_lead in
-      elim (cases_lt a 0xE0) [
-        | inl u ↦ IsUtf8-append (a ∷ b ∷ []) bs (of_two (a ∷ b ∷ []) 0 (omega arith)
-            (leads.0, u) continues)
-            (rest z a b bs (omega arith) (omega arith) rest_follow.1)
-        | inr u ↦ third y z a b bs (omega arith) (u, leads.1) continues rest_follow.0 rest_follow.1
+  second y z a [] few before is_lead follow = absurd (omega arith)
+  second y z a (b ∷ bs) few before is_lead follow =
+      let leads = follow.0.after_first is_lead in
+      elim (cases_eq (sequence_len a) 2) [
+        | inl two ↦ (let lead = two_range a two in
+            let last = second_range a b leads.1 in
+            IsUtf8-append (a ∷ b ∷ []) bs
+            (two_front (a ∷ b ∷ []) (omega arith) two leads.1)
+            (rest z a b bs (omega arith) (omega arith, omega arith, omega arith) follow.1))
+        | inr longer ↦ third z a b bs (omega arith) (omega arith) leads.1 follow.1
       ]
 
   first : (z y x : ℕ) (bs : List ℕ) → length bs ≤ suc n → AreBetween z y x → AllFollow z y x bs

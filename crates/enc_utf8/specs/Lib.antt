@@ -5,4 +5,5 @@ pub mod Surrogates
 pub mod Text
 pub mod UnitWords
 pub mod Utf8Run
+pub mod Utf8Sequences
 pub mod Validity

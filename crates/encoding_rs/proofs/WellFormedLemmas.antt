@@ -1,27 +1,23 @@
 -- What has no malformed sequence by UTF-8's rule is well-formed UTF-8.
-use Rattle.std.proofs.Common.{◌≡◌, ℕ, ◌+◌, ◌<◌, ◌≤◌, zero, suc, true, false, true≢false, List, [], ◌∷◌, ◌++◌, length}
+use Rattle.std.proofs.Common.{◌≡◌, ℕ, ◌+◌, ◌≤◌, zero, suc, true, false, true≢false, List, [], ◌∷◌, ◌++◌, length}
 use Rattle.std.proofs.Common.{refl, ap, sym, ◌∙◌, arith, inl, inr}
-use Rattle.std.proofs.lemmas.Bool.Decides.{nat_tests}
 use Rattle.std.proofs.lemmas.Str.{IsUtf8-nil, IsUtf8-append}
 use Rattle.std.specs.Str.{IsUtf8}
-use Rattle.std.proofs.str.Valid.{of_one, of_two}
-use Rattle.enc_utf8.proofs.Utf8RunLemmas.{three_front, four_front}
+use Rattle.std.proofs.str.Valid.{of_one}
+use Rattle.enc_utf8.proofs.Utf8RunLemmas.{two_front, three_front, four_front}
 use Rattle.enc_decoder.specs.Sequence.{Sequence, any_malformed}
 use Rattle.enc_decoder.specs.Segmentation.{sequences_of}
 use Rattle.enc_decoder.proofs.FirstSequenceLemmas.{true_or_false}
-use Rattle.enc_decoder_utf.specs.Utf8.{sequence_len, is_second_byte, is_continuation, utf_8_rule}
-use Rattle.enc_decoder_utf.proofs.Utf8Lemmas.{valid_sequence, malformed_sequence, two_range, three_range, four_range}
-use Rattle.enc_decoder_utf.proofs.Utf8Lemmas.{at_most_four, second_range, continuation_range, none_malformed, one_valid}
-use Rattle.enc_decoder_utf.proofs.Utf8Lemmas.{one_malformed, one_end, two_valid, two_malformed, two_end, three_valid}
-use Rattle.enc_decoder_utf.proofs.Utf8Lemmas.{three_malformed, three_end, four_valid}
+use Rattle.enc_utf8.specs.Utf8Sequences.{sequence_len, is_second_byte, is_continuation}
+use Rattle.enc_utf8.proofs.Utf8SequenceLemmas.{one_range, at_most_four}
+use Rattle.enc_decoder_utf.specs.Utf8.{utf_8_rule}
+use Rattle.enc_decoder_utf.proofs.Utf8FirstSequences.{valid_sequence, malformed_sequence, none_malformed, one_valid}
+use Rattle.enc_decoder_utf.proofs.Utf8FirstSequences.{one_malformed, one_end, two_valid, two_malformed, two_end}
+use Rattle.enc_decoder_utf.proofs.Utf8FirstSequences.{three_valid, three_malformed, three_end, four_valid}
 
 -- If they have no malformed sequence they are well-formed.
 abbrev AreWell : List ℕ → Type 0
 AreWell z = any_malformed (sequences_of utf_8_rule 0 z) ≡ false → IsUtf8 z
-
-ascii_range : (a : ℕ) → sequence_len a ≡ 1 → a < 0x80
-unfolding sequence_len
-ascii_range a one = grind (arith, nat_tests)
 
 after_malformed : {z bytes : List ℕ} {ss : List Sequence}
     → sequences_of utf_8_rule 0 z ≡ malformed_sequence bytes ∷ ss → AreWell z
@@ -38,28 +34,18 @@ module _ (n : ℕ) (shorter : (z : List ℕ) → length z ≤ n → AreWell z) w
   four_bytes : (a b c d : ℕ) (z : List ℕ) → length z ≤ n → sequence_len a ≡ 4
       → is_second_byte a b ≡ true → is_continuation c ≡ true → AreWell (a ∷ b ∷ c ∷ d ∷ z)
   four_bytes a b c d z few four second third = elim (true_or_false (is_continuation d)) [
-    | inl fourth ↦ (let lead = four_range a four in
-        let two = second_range a b second in
-        let three = continuation_range c third in
-        let last = continuation_range d fourth in
-        after_valid (a ∷ b ∷ c ∷ d ∷ []) z
-        (four_front (a ∷ b ∷ c ∷ d ∷ []) (omega arith) (omega arith, omega arith)
-        (omega arith, omega arith) two.4 (λ most. omega (arith, two.5 most))
-        (omega arith, omega arith) (omega arith, omega arith))
-        few (four_valid a b c d z four second third fourth))
+    | inl fourth ↦ after_valid (a ∷ b ∷ c ∷ d ∷ []) z
+        (four_front (a ∷ b ∷ c ∷ d ∷ []) (omega arith) four second third fourth) few
+        (four_valid a b c d z four second third fourth)
     | inr cut ↦ after_malformed (three_malformed a b c d z four second third cut)
   ]
 
   three_bytes : (k a b c : ℕ) (z : List ℕ) → length z ≤ n → sequence_len a ≡ k + 3
       → is_second_byte a b ≡ true → is_continuation c ≡ true → AreWell (a ∷ b ∷ c ∷ z)
   three_bytes zero a b c z few three second third =
-      let lead = three_range a three in
-      let two = second_range a b second in
-      let last = continuation_range c third in
       after_valid (a ∷ b ∷ c ∷ []) z
-      (three_front (a ∷ b ∷ c ∷ []) (omega arith) lead (omega arith, omega arith) two.2
-      (λ most. omega (arith, two.3 most)) (omega arith, omega arith))
-      few (three_valid a b c z three second third)
+      (three_front (a ∷ b ∷ c ∷ []) (omega arith) three second third) few
+      (three_valid a b c z three second third)
   three_bytes (suc k) a b c [] few more second third =
       after_malformed (three_end a b c (omega (arith, at_most_four a)) second third)
   three_bytes (suc k) a b c (d ∷ z) few more second third =
@@ -68,10 +54,8 @@ module _ (n : ℕ) (shorter : (z : List ℕ) → length z ≤ n → AreWell z) w
   two_bytes : (k a b : ℕ) (z : List ℕ) → length z ≤ n → sequence_len a ≡ k + 2
       → is_second_byte a b ≡ true → AreWell (a ∷ b ∷ z)
   two_bytes zero a b z few two second =
-      let last = second_range a b second in
-      after_valid (a ∷ b ∷ []) z
-      (of_two (a ∷ b ∷ []) 0 (omega arith) (two_range a two) (omega arith, omega arith))
-      few (two_valid a b z two second)
+      after_valid (a ∷ b ∷ []) z (two_front (a ∷ b ∷ []) (omega arith) two second) few
+      (two_valid a b z two second)
   two_bytes (suc k) a b [] few more second = after_malformed (two_end a b (omega arith) second)
   two_bytes (suc k) a b (c ∷ z) few more second = elim (true_or_false (is_continuation c)) [
     | inl third ↦ three_bytes k a b c z (omega arith) (omega arith) second third
@@ -81,7 +65,7 @@ module _ (n : ℕ) (shorter : (z : List ℕ) → length z ≤ n → AreWell z) w
   one_byte : (k a : ℕ) (z : List ℕ) → length z ≤ n → sequence_len a ≡ k → AreWell (a ∷ z)
   one_byte zero a z few no_lead = after_malformed (none_malformed a z no_lead)
   one_byte (suc zero) a z few one =
-      after_valid (a ∷ []) z (of_one (a ∷ []) 0 (omega arith) (ascii_range a one)) few
+      after_valid (a ∷ []) z (of_one (a ∷ []) 0 (omega arith) (one_range a one)) few
       (one_valid a z one)
   one_byte (suc (suc k)) a [] few more = after_malformed (one_end a (omega arith))
   one_byte (suc (suc k)) a (b ∷ z) few more = elim (true_or_false (is_second_byte a b)) [

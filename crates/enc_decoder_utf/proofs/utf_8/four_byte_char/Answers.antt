@@ -1,4 +1,5 @@
-use Rattle.enc_decoder_utf.proofs.Utf8Lemmas.{four_range, second_range, continuation_range, four_scalar}
+use Rattle.enc_utf8.proofs.Utf8SequenceLemmas.{four_range, second_range, continuation_range}
+use Rattle.enc_decoder_utf.proofs.Utf8Lemmas.{four_scalar}
 use Rattle.enc_decoder_utf.proofs.utf_8.four_byte_char.Goals as goal
 
 pub overflow_sub-scalar : goal.overflow_sub-scalar

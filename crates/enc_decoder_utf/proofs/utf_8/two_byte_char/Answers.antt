@@ -1,5 +1,5 @@
 use Rattle.std.proofs.Common.{arith}
-use Rattle.enc_decoder_utf.proofs.Utf8Lemmas.{two_range, second_range}
+use Rattle.enc_utf8.proofs.Utf8SequenceLemmas.{two_range, second_range}
 use Rattle.enc_decoder_utf.proofs.utf_8.two_byte_char.Goals as goal
 
 pub overflow_sub-scalar : goal.overflow_sub-scalar

@@ -2,8 +2,9 @@ use Rattle.std.proofs.Common.{arith, sym, ◌∙◌}
 use Rattle.enc_decoder.specs.declared.byte_codec.Kind.TheVariants.{Valid, Malformed}
 use Rattle.enc_decoder.proofs.PieceLemmas.{one_of, two_of, three_of, four_of}
 use Rattle.enc_decoder.proofs.ReplacedCharLemmas.{whole_at, before_byte}
-use Rattle.enc_decoder_utf.proofs.Utf8Lemmas.{len_by_range, none_malformed, one_valid, one_malformed, two_valid}
-use Rattle.enc_decoder_utf.proofs.Utf8Lemmas.{two_malformed, three_valid, three_malformed, four_valid}
+use Rattle.enc_utf8.proofs.Utf8SequenceLemmas.{len_by_range}
+use Rattle.enc_decoder_utf.proofs.Utf8FirstSequences.{none_malformed, one_valid, one_malformed, two_valid}
+use Rattle.enc_decoder_utf.proofs.Utf8FirstSequences.{two_malformed, three_valid, three_malformed, four_valid}
 use Rattle.enc_decoder_utf.proofs.Utf8Rule.{utf_8_by_prefixes}
 use Rattle.enc_decoder_utf.proofs.Utf8Pieces.{valued, none_len, lead_len}
 use Rattle.enc_decoder_utf.proofs.utf_8.Utf8DecoderPrefixCodec.replaced_at.Goals as goal

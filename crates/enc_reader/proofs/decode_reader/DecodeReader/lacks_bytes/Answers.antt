@@ -3,7 +3,8 @@ use Rattle.std.proofs.lemmas.Bool.{false≢true}
 use Rattle.enc_stream.specs.declared.constants.TheConstants.{UTF_8}
 use Rattle.enc_reader.specs.Reader.{state_of}
 use Rattle.enc_reader.proofs.LendingLemmas.{incomplete_determines_none}
-use Rattle.enc_reader.proofs.FillingLemmas.{incomplete_is_short, long_is_whole, some_unread, unread_len}
+use Rattle.enc_decoder_utf.proofs.Utf8Incomplete.{incomplete_is_short}
+use Rattle.enc_reader.proofs.FillingLemmas.{long_is_whole, some_unread, unread_len}
 use Rattle.enc_reader.proofs.decode_reader.DecodeReader.lacks_bytes.Goals as goal
 use Rattle.enc_reader.proofs.decode_reader.DecodeReader.lacks_bytes.Goals.{then-unread-self, else-unread-self}
 use Rattle.enc_reader.proofs.decode_reader.DecodeReader.lacks_bytes.Goals.{then-is_incomplete_sequence}
