@@ -8,8 +8,8 @@ use crate::surface::derives::{are_equal, debug_text};
 use crate::surface::encoders::types::{variant_name, variant_of};
 use crate::surface::samples::{SAMPLES, Sample};
 use enc_encode::{
-    Codec, EncoderResult, EncoderOutcome, Iso2022JpEncoder, RawEncoder, VariantEncoder, has_encoder,
-    new_encoder,
+    Codec, EncoderOutcome, EncoderResult, Iso2022JpEncoder, RawEncoder, VariantEncoder,
+    has_encoder, new_encoder,
 };
 use enc_input::{Utf8Chars, Utf16Chars};
 use std::process::Abort;
