@@ -2,7 +2,7 @@
 use Rattle.enc_decoder.proofs.StageLemmas.{stage_at}
 use Rattle.enc_decoder.proofs.NextEventLemmas.{holds_sequences}
 use Rattle.std.proofs.lemmas.Bool.{false≢true}
-use Rattle.std.proofs.Common.{◌≡◌, ℕ, ◌<◌, ◌≤◌, suc, Bool, true, false, List, [], ◌∷◌, ◌++◌, length, get_or}
+use Rattle.std.proofs.Common.{◌≡◌, ℕ, ◌<◌, suc, Bool, true, false, List, [], ◌∷◌, ◌++◌, length, get_or}
 use Rattle.std.proofs.Common.{take, drop, refl, ap, ◌∙◌, sym, arith, append-nil, inl, inr, subst, drop-cons}
 use Rattle.std.proofs.Common.{length-drop, length-take}
 use Rattle.std.proofs.Math.ListN.{drop_of_length-le}

@@ -4,7 +4,6 @@ use Rattle.std.proofs.Common.{ap, ◌∙◌, sym, arith, subst, append-nil, nat_
 use Rattle.std.proofs.lemmas.Bool.{false≢true, true≢false, leb-true, leb-false}
 use Rattle.enc_decoder.specs.declared.byte_codec.Emission.{Emission}
 use Rattle.enc_decoder.specs.declared.machine.NextEvent.TheVariants.{NeedsInput, HoldsByte, Emits}
-use Rattle.enc_output.specs.declared.decoder_result.DecoderResult.{DecoderResult}
 use Rattle.enc_output.specs.declared.decoder_result.DecoderResult.TheVariants.{InputEmpty, OutputFull, Malformed}
 use Rattle.enc_output.specs.Output.{Output, with_appended}
 use Rattle.enc_utf8.specs.Text.{AreScalars, units_of_text}

@@ -2,7 +2,7 @@
 use Rattle.enc_decoder.proofs.SequenceLemmas.{or_false}
 use Rattle.enc_decoder.proofs.StageLemmas.{start_stage}
 use Rattle.enc_decoder.proofs.LeavesLemmas.{nothing_read}
-use Rattle.std.proofs.Common.{◌≡◌, ℕ, ◌+◌, ◌-◌, ◌≤◌, Bool, true, false, List, [], ◌++◌, length, drop, refl, ap, ◌∙◌}
+use Rattle.std.proofs.Common.{◌≡◌, ℕ, ◌+◌, ◌-◌, ◌≤◌, Bool, true, false, List, [], ◌++◌, length, refl, ap, ◌∙◌}
 use Rattle.std.proofs.Common.{sym, append-nil, subst}
 use Rattle.enc_output.specs.declared.decoder_result.DecoderResult.{DecoderResult}
 use Rattle.enc_output.specs.Output.{Output, with_appended}

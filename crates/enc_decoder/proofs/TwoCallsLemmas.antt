@@ -1,13 +1,11 @@
 -- Two successive calls, the first of which reads its chunk, are one call.
-use Rattle.std.proofs.Common.{◌≡◌, ℕ, ◌+◌, ◌-◌, Bool, true, false, List, [], ◌∷◌, ◌++◌, length, take, drop}
+use Rattle.std.proofs.Common.{◌≡◌, ℕ, ◌+◌, ◌-◌, Bool, false, List, [], ◌∷◌, ◌++◌, length, take, drop}
 use Rattle.std.proofs.Common.{refl, ap, ◌∙◌, sym, arith, append_assoc, inr, subst, ◌||◌}
 use Rattle.std.proofs.lemmas.Bool.{false≢true}
 use Rattle.std.proofs.lemmas.List.{length-append, take-append-le, drop-append-le}
 use Rattle.std.proofs.Math.ListN.{drop_of_length-le}
 use Rattle.std.proofs.Math.Seq.{take-length}
-use Rattle.enc_output.specs.declared.decoder_result.DecoderResult.{DecoderResult}
 use Rattle.enc_output.specs.declared.decoder_result.DecoderResult.TheVariants.{InputEmpty}
-use Rattle.enc_decoder.specs.Sequence.{Sequence}
 use Rattle.enc_decoder.specs.Remainder.{Remainder, AreBytes, Determines}
 use Rattle.enc_decoder.specs.Call.{IsRawCall}
 use Rattle.enc_decoder.specs.CallRecord.{Call}

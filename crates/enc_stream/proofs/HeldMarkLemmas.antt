@@ -166,8 +166,9 @@ module _ {e : Encoding} {life : LifeCycle} {v : CodecState} {src : List ℕ} {la
         call_outside
         (bytes-append held src (bytes_unread life (length v.pending)) text.bytes)
         (shifts text call) nothing_written
-        (record { room = omega arith; mode = refl }) (subst (MatchesRead (shifts text call)) (sym read_is) (reads_on text call all_within refl)) does
-        matches in
+        (record { room = omega arith; mode = refl })
+        (subst (MatchesRead (shifts text call)) (sym read_is) (reads_on text call all_within refl))
+        does matches in
         let placed = end_placed last stop left in
         record {
           wrote = made.wrote;
@@ -356,8 +357,8 @@ module _ {e : Encoding} {life : LifeCycle} {v : CodecState} {src : List ℕ} {la
         → Leaves (decoder_state_of e ConvertingWithPendingBb w)
     stays_bb not_ended nothing_read two one =
         let leaves : LeavesBb v w src done total life =
-        leaves_bb made.call.accounted two 
-        (omega (arith, nothing_read, two, read_is), omega (arith, nothing_read, two, one, left_is, read_is)) in
+        leaves_bb made.call.accounted two (omega (arith, nothing_read, two, read_is),
+        omega (arith, nothing_read, two, one, left_is, read_is)) in
         let all_read : bytes_read ≡ 0xEF ∷ 0xBB ∷ [] =
         ap (λ k. pending ++ take k src) nothing_read ∙ append-nil pending
         ∙ text.holds.held ∙ ap (λ x. x ++ held) leaves.none ∙ leaves.unread in

@@ -1,7 +1,7 @@
-use Rattle.std.proofs.Common.{[], ◌∷◌, ◌++◌, ap, sym, ◌∙◌, refl, arith, drop, length}
+use Rattle.std.proofs.Common.{[], ◌∷◌, ◌++◌, ap, sym, ◌∙◌, refl, arith, length}
 use Rattle.std.proofs.lemmas.List.{length-append}
 use Rattle.enc_decoder.specs.Pending.{bytes_of_pending}
-use Rattle.enc_decoder.proofs.PrefixLemmas.{one_more, keeps_incomplete, keeps_left, settles_complete}
+use Rattle.enc_decoder.proofs.PrefixLemmas.{keeps_left, settles_complete}
 use Rattle.enc_decoder.proofs.PrefixLemmas.{settles_malformed}
 use Rattle.enc_decoder.proofs.PrefixComes.{shows_byte_with, shows_byte, waits}
 use Rattle.enc_decoder.proofs.prefix_codec.step_after.Goals as goal

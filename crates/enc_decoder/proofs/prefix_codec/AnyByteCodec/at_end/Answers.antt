@@ -1,4 +1,4 @@
-use Rattle.std.proofs.Common.{ap, refl, length, ◌∙◌, sym}
+use Rattle.std.proofs.Common.{ap, refl, length, ◌∙◌}
 use Rattle.enc_decoder.specs.Pending.{bytes_of_pending}
 use Rattle.enc_decoder.proofs.PrefixComes.{pending_len, left_over}
 use Rattle.enc_decoder.proofs.prefix_codec.AnyByteCodec.at_end.Goals as goal
