@@ -24,7 +24,7 @@ use Rattle.enc_decoder.proofs.DeterminedLemmas.{begins_after}
 use Rattle.enc_decoder.proofs.SegmentationLemmas.{sequences_of-nil}
 use Rattle.enc_decoder.proofs.SequenceLemmas.{sequence_bytes-append}
 use Rattle.enc_decoder.proofs.StageLemmas.{Stage, start_stage}
-use Rattle.enc_decoder.proofs.LeavesLemmas.{Leaves, call_at, one_call}
+use Rattle.enc_decoder.proofs.LeavesLemmas.{Leaves, one_call}
 use Rattle.enc_stream.specs.Encodings.{rule_of}
 use Rattle.enc_stream.specs.Bom.{Mark, find_mark, any_mark, marks_begun, mark_sequence, sequences_by_mark}
 use Rattle.enc_stream.specs.Bom.{mark_sequences, encoding_of_mark_or}

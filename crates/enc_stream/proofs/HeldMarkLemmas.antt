@@ -22,7 +22,7 @@ use Rattle.enc_decoder.specs.CallRecord.{Call, call_writing}
 use Rattle.enc_stream.proofs.AfterMarkLemmas.{made_call}
 use Rattle.enc_decoder.proofs.ByteLemmas.{bytes-append}
 use Rattle.enc_decoder.proofs.FirstSequenceLemmas.{true_or_false}
-use Rattle.enc_decoder.proofs.StageLemmas.{start_stage, nothing_written}
+use Rattle.enc_decoder.proofs.StageLemmas.{nothing_written}
 use Rattle.enc_decoder.proofs.InnerInputLemmas.{MatchesRead, most_or_more}
 use Rattle.enc_decoder.proofs.JoinedCallLemmas.{no_bytes}
 use Rattle.enc_decoder.proofs.InnerCallLemmas.{MatchesState, AreAllRead, reports_escape, call_outside}
@@ -35,7 +35,7 @@ use Rattle.enc_stream.specs.Decoding.{are_still_held, held_after}
 use Rattle.enc_stream.specs.Decoding.{DecodesInto}
 use Rattle.enc_stream.proofs.BegunMarkLemmas.{none_once_done, none_of, held_by, not_begun_any}
 use Rattle.enc_stream.proofs.EndOfInputLemmas.{end_placed, at_end, not_at_end}
-use Rattle.enc_stream.proofs.LifeCycleLemmas.{second_if_two, held_are_few, none_awaited, holds_marks}
+use Rattle.enc_stream.proofs.LifeCycleLemmas.{none_awaited, holds_marks}
 use Rattle.enc_stream.proofs.PendingBytesLemmas.{few_unread, bytes_unread, held_or_pending, pending_if_held}
 use Rattle.enc_stream.proofs.PendingBbLemmas.{LeavesBb, leaves_bb, none_of_held}
 use Rattle.enc_stream.proofs.UnmarkedTextLemmas.{ReadsText, settled_from, awaited_unless_settled}
