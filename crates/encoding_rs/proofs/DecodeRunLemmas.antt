@@ -170,8 +170,7 @@ module _ {handling : BomHandling} {e : Encoding} {bytes : List ℕ} {made : Deco
 
   abbrev Stops : DecoderResult → Type 0
   Stops r = DecoderStops (units_of_call made.utf16) (decoder_remainder old.decoder)
-      (decoder_remainder new.decoder) chunk last (decode_error_mode made.replace) made.room put
-      done advances.more r
+      (decoder_remainder new.decoder) of_call put done r
 
   text_by : (r : DecoderResult) → Stops r
       → sequence_text done ≡ sequence_text put ++ replacement_text r

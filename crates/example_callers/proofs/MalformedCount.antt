@@ -41,7 +41,7 @@ counts_now : {old new : DecoderState} {src : List ℕ} {room : ℕ} (result : De
     → DecodesChunk encode_utf8 old new (reporting_call src true room result read wrote)
     → malformed_count (remaining_sequences old src)
     ≡ reported result + malformed_count (remaining_sequences new (drop read src))
-counts_now {old} {new} {src} {room} result {read} decodes =
+counts_now {old} {new} {src} {room} result {read} {wrote} decodes =
     let call = decodes.call in
     let after = remaining_sequences new (drop read src) in
     ap (λ x. malformed_count (remaining_sequences old x)) (sym (append-nil src))
@@ -51,8 +51,8 @@ counts_now {old} {new} {src} {room} result {read} decodes =
     ∙ ap (λ n. n + malformed_count after) (by_result result call.stops)
   where
     by_result : (r : DecoderResult)
-        → DecoderStops encode_utf8 (decoder_remainder old) (decoder_remainder new) src true
-        Fatal room decodes.call.put decodes.call.done read r
+        → DecoderStops encode_utf8 (decoder_remainder old) (decoder_remainder new)
+        (reporting_call src true room result read wrote) decodes.call.put decodes.call.done r
         → malformed_count decodes.call.done ≡ reported r
     by_result raw.InputEmpty stops = ap malformed_count stops.only_put
         ∙ none_counted decodes.call.put (sym decodes.call.flag)
