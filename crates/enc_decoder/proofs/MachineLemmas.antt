@@ -21,7 +21,8 @@ use Rattle.enc_decoder.proofs.StageLemmas.{Stage, stage_after, nothing_written}
 use Rattle.enc_decoder.proofs.StateLeavesLemmas.{unread}
 use Rattle.enc_decoder.specs.Taking.{TakesRun, TakesSequences}
 use Rattle.enc_decoder.proofs.TakenRunLemmas.{reaches_run}
-use Rattle.enc_decoder.proofs.OutputStageLemmas.{Reaches, Progress, progress_at, room_at, call_to, call_over, reaches_state}
+use Rattle.enc_decoder.proofs.OutputStageLemmas.{Reaches, Progress, progress_at, room_at, call_to, call_over}
+use Rattle.enc_decoder.proofs.OutputStageLemmas.{reaches_state}
 use Rattle.enc_decoder.proofs.NextEventLemmas.{EndsAt, end_is}
 use Rattle.enc_decoder.proofs.EventLeavesLemmas as event
 
@@ -72,8 +73,8 @@ module _ {C : Type 0} {units_of : ℕ → List ℕ} (state : C → CodecState) {
           let full = leb-false (length (units_of_text units_of (text_chars s.text))) at.room
           none_fits in
           call_over reaches
-          (event.output_full state c stage emits (not_malformed stage.mode s.kind not_reported) full)
-          (λ e. cc) unchanged (omega arith)
+          (event.output_full state c stage emits
+          (not_malformed stage.mode s.kind not_reported) full) (λ e. cc) unchanged (omega arith)
 
       -- the sequence is put out
       module _ {end : ℕ} {then : Output} (ends : EndsAt s.takes_byte stage.read end)

@@ -49,7 +49,8 @@ module _ {units_of : ℕ → List ℕ} {old mid : Remainder} (c : Call)
   whole = ap (λ k. take k c.src) call.call.stops.all_read ∙ take-length c.src
 
   -- what it leaves
-  abbrev leaves : (more : List ℕ) (last : Bool) → AreBytes more → Leaves old mid (stage_with more last)
+  abbrev leaves : (more : List ℕ) (last : Bool) → AreBytes more
+      → Leaves old mid (stage_with more last)
   leaves more last also =
       let all_read = call.call.stops.all_read in
       let same_taken : take c.read (c.src ++ more) ≡ take c.read c.src =

@@ -110,7 +110,8 @@ module _ {old mid : DecoderState} {src : List ℕ} {len : ℕ} (bytes : AreBytes
       {replaced : Bool}
       → DecodesInto units_of mid new
       (made_call (drop len src) last mode before after result n replaced)
-      → DecodesInto units_of old new (made_call src last mode before after result (len + n) replaced)
+      → DecodesInto units_of old new
+      (made_call src last mode before after result (len + n) replaced)
   after_prefix {mode = mode} {last} {before} {new = new} {result} {n} {replaced} rest =
       let stage : Stage = reaches last mode before.room in
       let called =
@@ -358,7 +359,8 @@ module _ (e : Encoding) {life now : LifeCycle} {v : CodecState} (src : List ℕ)
       let none_left : drop len src ≡ [] = drop_of_length-le src (omega arith) in
       let none_more : len + 0 ≡ len = omega arith in
       subst (λ n. DecodesInto units_of from held
-      (made_call src false mode out out InputEmpty n false)) none_more (after_prefix bytes (goes_on_after_held (omega arith)) (rw none_left idle))
+      (made_call src false mode out out InputEmpty n false)) none_more
+      (after_prefix bytes (goes_on_after_held (omega arith)) (rw none_left idle))
 
 -- After the bytes before text.
 pub after_text : (e : Encoding) {life now : LifeCycle} {v : CodecState} (src : List ℕ) (len : ℕ)

@@ -4,7 +4,7 @@ use Rattle.std.proofs.Common.{◌++◌, length, take, drop, refl, ap, ◌∙◌,
 use Rattle.std.proofs.Common.{None}
 use Rattle.std.proofs.lemmas.List.{append-nil, length-append}
 use Rattle.std.proofs.Math.ListN.{drop_of_length-le}
-use Rattle.std.proofs.Math.Seq.{take-append-add, drop-append-add, take-length}
+use Rattle.std.proofs.Math.Seq.{take-length}
 use Rattle.enc_stream.specs.declared.encoding.Encoding.{Encoding}
 use Rattle.enc_stream.specs.declared.life_cycle.LifeCycle.{LifeCycle}
 use Rattle.enc_stream.specs.declared.life_cycle.LifeCycle.TheVariants.{ConvertingWithPendingBb, Converting, Finished}
@@ -38,38 +38,30 @@ use Rattle.enc_stream.proofs.EndOfInputLemmas.{end_placed, at_end, not_at_end}
 use Rattle.enc_stream.proofs.LifeCycleLemmas.{none_awaited, holds_marks}
 use Rattle.enc_stream.proofs.PendingBytesLemmas.{few_unread, bytes_unread, held_or_pending, pending_if_held}
 use Rattle.enc_stream.proofs.PendingBbLemmas.{LeavesBb, leaves_bb, none_of_held}
-use Rattle.enc_stream.proofs.UnmarkedTextLemmas.{ReadsText, settled_from, awaited_unless_settled}
+use Rattle.enc_stream.proofs.UnmarkedTextLemmas.{ReadsText, HeldRead, settled_from, awaited_unless_settled}
+use Rattle.enc_stream.proofs.UnmarkedTextLemmas.{read_within, taken_all, dropped_all}
 use Rattle.enc_stream.proofs.UnmarkedTextLemmas.{shifts, reads_on, unmarked_read, pending_in_front, text_goes_on}
 use Rattle.enc_stream.proofs.UnmarkedTextLemmas.{length_at_hand, begun_no_more, by_codec, unmarked_all, at_hand}
 use Rattle.enc_utf8.proofs.LengthLemmas.{lengths}
 use Rattle.enc_stream.proofs.RemainingRuleLemmas.{none_without_bytes}
 
 module _ {e : Encoding} {life : LifeCycle} {v : CodecState} {src : List ℕ} {last : Bool}
-    (text : ReadsText e life v src last) {total left read : ℕ}
-    (all_within : total ≤ length (unread_bytes life (length v.pending)) + length src)
-    (left_is : left ≡ length (unread_bytes life (length v.pending)) - total)
-    (read_is : read ≡ total - length (unread_bytes life (length v.pending))) where
+    (text : ReadsText e life v src last)
+    (reads : HeldRead (unread_bytes life (length v.pending)) src) where
   abbrev held : List ℕ
   held = unread_bytes life (length v.pending)
 
   abbrev pending : List ℕ
   pending = held_or_pending_bytes (held_mark_bytes life) v.pending
 
-  -- `left` held bytes are unread, and `read` of the others are read
-  within : read ≤ length src
-  within = omega (arith, all_within, read_is)
+  abbrev total : ℕ
+  total = reads.total
 
-  -- all bytes held are read
-  all_and_read : left ≡ 0 → total ≡ length held + read
-  all_and_read none_left = omega arith
+  abbrev left : ℕ
+  left = reads.left
 
-  taken_all : left ≡ 0 → take total (held ++ src) ≡ held ++ take read src
-  taken_all none_left = ap (λ k. take k (held ++ src)) (all_and_read none_left)
-      ∙ take-append-add held src read
-
-  dropped_all : left ≡ 0 → drop total (held ++ src) ≡ drop read src
-  dropped_all none_left = ap (λ k. drop k (held ++ src)) (all_and_read none_left)
-      ∙ drop-append-add held src read
+  abbrev read : ℕ
+  read = reads.read
 
   module _ {units_of : ℕ → List ℕ} {w : CodecState} {mode : ErrorMode} {before after : Output}
       {stop : DecoderResult} {replaced : Bool} (kept : w.rule ≡ v.rule)
@@ -96,7 +88,7 @@ module _ {e : Encoding} {life : LifeCycle} {v : CodecState} {src : List ℕ} {la
 
     -- how many bytes are done
     done_len : length v.pending + total ≡ length (sequence_bytes done) + length w.pending
-    done_len = omega (arith, lengths, ap length made.call.accounted, all_within)
+    done_len = omega (arith, lengths, ap length made.call.accounted, reads.within)
 
     -- nothing is done where no byte is
     none_done : length (sequence_bytes done) ≡ 0 → done ≡ []
@@ -116,7 +108,7 @@ module _ {e : Encoding} {life : LifeCycle} {v : CodecState} {src : List ℕ} {la
 
     accounted_all : left ≡ 0 → bytes_read ≡ sequence_bytes done ++ w.pending
     accounted_all none_left =
-        at_hand text (take read src) ∙ ap (λ x. v.pending ++ x) (sym (taken_all none_left))
+        at_hand text (take read src) ∙ ap (λ x. v.pending ++ x) (sym (taken_all reads none_left))
         ∙ made.call.accounted
 
     -- unless it is settled that no mark comes, few bytes are read
@@ -161,14 +153,14 @@ module _ {e : Encoding} {life : LifeCycle} {v : CodecState} {src : List ℕ} {la
         → Leaves (decoder_state_of e next state)
     into next state matches all_accounted goes_on next_marks next_held next_ended =
         let none : find_mark (marks_of life) bytes_read ≡ None =
-        unmarked_read text read within in
+        unmarked_read text read (read_within reads) in
         let called =
         call_outside
         (bytes-append held src (bytes_unread life (length v.pending)) text.bytes)
         (shifts text call) nothing_written
         (record { room = omega arith; mode = refl })
-        (subst (MatchesRead (shifts text call)) (sym read_is) (reads_on text call all_within refl))
-        does matches in
+        (subst (MatchesRead (shifts text call)) (sym reads.read_is)
+        (reads_on text call reads.within refl)) does matches in
         let placed = end_placed last stop left in
         record {
           wrote = made.wrote;
@@ -293,7 +285,7 @@ module _ {e : Encoding} {life : LifeCycle} {v : CodecState} {src : List ℕ} {la
             ] in
             ap (marks_begun (marks_of life))
             (ap (λ ts. sequence_bytes ts ++ w.pending) is_done ∙ sym (accounted_all none_left))
-            ∙ begun_no_more text read some_read within awaits
+            ∙ begun_no_more text read some_read (read_within reads) awaits
       ]
 
       -- nor is a byte held: if none is read, and bytes were held, none is left pending
@@ -325,7 +317,7 @@ module _ {e : Encoding} {life : LifeCycle} {v : CodecState} {src : List ℕ} {la
           | inl none_read ↦ rw (none_pending_now (omega (arith, none_read))
               (pending_in_front text awaits)) refl
           | inr some_read ↦ rw (not_begun_any (marks_of life) _ bytes_read read
-              (begun_no_more text read some_read within awaits) some_read)
+              (begun_no_more text read some_read (read_within reads) awaits) some_read)
               (none_of w.pending)
         ]
       ]
@@ -334,7 +326,7 @@ module _ {e : Encoding} {life : LifeCycle} {v : CodecState} {src : List ℕ} {la
       goes_on =
           into Converting w (record {
             after = λ y _.
-                ap (λ x. (remainder_of w).sequences (x ++ y)) (dropped_all none_left)
+                ap (λ x. (remainder_of w).sequences (x ++ y)) (dropped_all reads none_left)
                 ∙ ap (λ (q : Rule). sequences_of q w.set (w.pending ++ (drop read src ++ y)))
                 (kept ∙ sym text.same_rule);
             set = does.set;
@@ -345,7 +337,7 @@ module _ {e : Encoding} {life : LifeCycle} {v : CodecState} {src : List ℕ} {la
             escape = escape;
             held = λ l a _. inl none_left;
           }) (accounted_all none_left)
-          (λ _ y _. text_goes_on text within done (decoder_state_of e Converting w)
+          (λ _ y _. text_goes_on text (read_within reads) done (decoder_state_of e Converting w)
           some_done does.set (accounted_all none_left) (λ y. refl) y)
           (rw not_ended (sym (none_awaited_now done refl)))
           (sym none_held_now)
@@ -357,8 +349,8 @@ module _ {e : Encoding} {life : LifeCycle} {v : CodecState} {src : List ℕ} {la
         → Leaves (decoder_state_of e ConvertingWithPendingBb w)
     stays_bb not_ended nothing_read two one =
         let leaves : LeavesBb v w src done total life =
-        leaves_bb made.call.accounted two (omega (arith, nothing_read, two, read_is),
-        omega (arith, nothing_read, two, one, left_is, read_is)) in
+        leaves_bb made.call.accounted two (omega (arith, nothing_read, two, reads.read_is),
+        omega (arith, nothing_read, two, one, reads.left_is, reads.read_is)) in
         let all_read : bytes_read ≡ 0xEF ∷ 0xBB ∷ [] =
         ap (λ k. pending ++ take k src) nothing_read ∙ append-nil pending
         ∙ text.holds.held ∙ ap (λ x. x ++ held) leaves.none ∙ leaves.unread in
@@ -395,7 +387,7 @@ module _ {e : Encoding} {life : LifeCycle} {v : CodecState} {src : List ℕ} {la
             )
           ];
         }) accounted
-        (λ _ y _. text_goes_on text within done
+        (λ _ y _. text_goes_on text (read_within reads) done
         (decoder_state_of e ConvertingWithPendingBb w) (λ _. some) does.set accounted
         (λ y. refl) y)
         (rw not_ended (sym (none_once_done (marks_of life) done (0xBB ∷ []) some)))

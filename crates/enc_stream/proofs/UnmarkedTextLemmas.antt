@@ -1,10 +1,10 @@
 -- Text after bytes that might have begun a mark: the decoder makes the same of them, and of later
 -- bytes, as its codec.
 use Rattle.std.proofs.Common.{◌≡◌, ℕ, ◌+◌, ◌-◌, ◌<◌, ◌≤◌, zero, suc, Bool, true, false, if◌then◌else◌, List, [], ◌∷◌}
-use Rattle.std.proofs.Common.{◌++◌, length, take, refl, ap, ◌∙◌, sym, arith, append_assoc, inl, inr, subst, ◌⊎◌}
+use Rattle.std.proofs.Common.{◌++◌, length, take, drop, refl, ap, ◌∙◌, sym, arith, append_assoc, inl, inr, subst, ◌⊎◌}
 use Rattle.std.proofs.Common.{Option, Some, None}
 use Rattle.std.proofs.lemmas.List.{append-nil, length-append}
-use Rattle.std.proofs.Math.Seq.{take-append-add}
+use Rattle.std.proofs.Math.Seq.{take-append-add, drop-append-add}
 use Rattle.enc_stream.specs.declared.encoding.Encoding.{Encoding}
 use Rattle.enc_stream.specs.declared.life_cycle.LifeCycle.{LifeCycle}
 use Rattle.enc_decoder.specs.Sequence.{Sequence, sequence_bytes, set_after}
@@ -64,6 +64,33 @@ pub first_byte : (n : ℕ) (src y : List ℕ) → 1 ≤ n → n ≤ length src
 first_byte n [] y some within = absurd (omega arith)
 first_byte zero (b ∷ z) y some within = absurd (omega arith)
 first_byte (suc n) (b ∷ z) y some within = (b, z, take n z ++ y, refl, refl)
+
+-- A call over held bytes and src has read `total` of both: `left` held bytes are unread, and `read`
+-- of src are read.
+pub record HeldRead (held src : List ℕ) : Type 0 where
+  pub total : ℕ
+  pub left : ℕ
+  pub read : ℕ
+  pub within : total ≤ length held + length src
+  pub left_is : left ≡ length held - total
+  pub read_is : read ≡ total - length held
+
+module _ {held src : List ℕ} (reads : HeldRead held src) where
+  pub read_within : reads.read ≤ length src
+  read_within = omega (arith, reads.within, reads.read_is)
+
+  -- all bytes held are read
+  all_and_read : reads.left ≡ 0 → reads.total ≡ length held + reads.read
+  all_and_read none_left = omega (arith, none_left, reads.left_is, reads.read_is)
+
+  pub taken_all : reads.left ≡ 0
+      → take reads.total (held ++ src) ≡ held ++ take reads.read src
+  taken_all none_left = ap (λ k. take k (held ++ src)) (all_and_read none_left)
+      ∙ take-append-add held src reads.read
+
+  pub dropped_all : reads.left ≡ 0 → drop reads.total (held ++ src) ≡ drop reads.read src
+  dropped_all none_left = ap (λ k. drop k (held ++ src)) (all_and_read none_left)
+      ∙ drop-append-add held src reads.read
 
 -- A decoder of the encoding e, with the state v of its codec, reads src as text: it is not at its
 -- end, and no byte order mark precedes src.

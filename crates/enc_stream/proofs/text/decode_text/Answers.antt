@@ -1,4 +1,4 @@
-use Rattle.std.proofs.Common.{◌≡◌, ◌+◌, ◌≤◌, sym, ◌∙◌, ap, arith, length}
+use Rattle.std.proofs.Common.{◌≡◌, ◌+◌, ◌-◌, ◌≤◌, ◌++◌, sym, ◌∙◌, ap, arith, length}
 use Rattle.enc_decoder.proofs.ByteLemmas.{bytes_of_slice}
 use Rattle.enc_stream.proofs.HeldMarkLemmas.{ends, stays, goes_on, stays_bb}
 use Rattle.enc_stream.proofs.PendingBbLemmas.{leaves_bb, holds_bb, both_equal, not_both_equal, all_equal}
@@ -11,7 +11,7 @@ use Rattle.enc_decoder.specs.Remainder.{AreBytes}
 use Rattle.enc_stream.specs.Encodings.{rule_of}
 use Rattle.enc_stream.specs.LifeCycle.{has_ended, HeldBytesMatchCodec}
 use Rattle.enc_stream.specs.Sniffing.{HasNoMark}
-use Rattle.enc_stream.proofs.UnmarkedTextLemmas.{ReadsText}
+use Rattle.enc_stream.proofs.UnmarkedTextLemmas.{ReadsText, HeldRead}
 use Rattle.enc_utf8.proofs.LengthLemmas.{lengths}
 use Rattle.enc_stream.proofs.text.decode_text.Goals as goal
 
@@ -26,6 +26,18 @@ reads_text bytes same_rule going no_mark holds = record {
   holds = holds;
 }
 
+abbrev held_read : {held src : List ℕ} {total left read : ℕ} → total ≤ length (held ++ src)
+    → (given : List ℕ) → length given ≡ length held → left ≡ length given - total → read ≡ total - length given
+    → HeldRead held src
+held_read {total = total} {left} {read} within given same left_is read_is = record {
+  total = total;
+  left = left;
+  read = read;
+  within = omega (arith, lengths, within);
+  left_is = omega (arith, same, left_is);
+  read_is = omega (arith, same, read_is);
+}
+
 pub returns-then-reaches_end-clause-call : goal.returns-then-reaches_end-clause-call
 returns-then-reaches_end-clause-call g c = λ e same.
     let made = rw (c.unread-held.ensures, c.held.ensures.count)
@@ -33,9 +45,8 @@ returns-then-reaches_end-clause-call g c = λ e same.
     let held = ap length (rw c.held.ensures.count at c.unread-held.ensures) in
     rw c.shift_malformed.ensures (ends (reads_text (bytes_of_slice _ c.type_inv.src) same
     c.requires.unfinished c.requires.text c.requires.holds)
-    (omega (arith, lengths, made.call.call.within))
-    (omega (arith, c.saturating_sub-left.ensures, held))
-    (omega (arith, c.saturating_sub-read.ensures, held))
+    (held_read made.call.call.within _ held c.saturating_sub-left.ensures
+    c.saturating_sub-read.ensures)
     c.decode_held_first-done.ensures.call.rule made
     (sym c.reaches_end.ensures ∙ c.if-reaches_end.true))
 
@@ -47,9 +58,8 @@ returns-then-untouched-clause-call g c = λ e same.
     let equal = both_equal _ _ _ c.if-untouched.true in
     rw c.shift_malformed.ensures (stays (reads_text (bytes_of_slice _ c.type_inv.src) same
     c.requires.unfinished c.requires.text c.requires.holds)
-    (omega (arith, lengths, made.call.call.within))
-    (omega (arith, c.saturating_sub-left.ensures, held))
-    (omega (arith, c.saturating_sub-read.ensures, held))
+    (held_read made.call.call.within _ held c.saturating_sub-left.ensures
+    c.saturating_sub-read.ensures)
     c.decode_held_first-done.ensures.call.rule made
     (sym c.reaches_end.ensures ∙ c.if-reaches_end.false) equal.0 (let u = equal.1 in
     omega (arith, c.held-2.ensures.count, c.held.ensures.count)))
@@ -62,9 +72,8 @@ returns-then-leaves_bb-clause-call g c = λ e same.
     let equal = all_equal _ _ _ _ _ c.if-leaves_bb.true in
     rw c.shift_malformed.ensures (stays_bb (reads_text (bytes_of_slice _ c.type_inv.src) same
     c.requires.unfinished c.requires.text c.requires.holds)
-    (omega (arith, lengths, made.call.call.within))
-    (omega (arith, c.saturating_sub-left.ensures, held))
-    (omega (arith, c.saturating_sub-read.ensures, held))
+    (held_read made.call.call.within _ held c.saturating_sub-left.ensures
+    c.saturating_sub-read.ensures)
     c.decode_held_first-done.ensures.call.rule made
     (sym c.reaches_end.ensures ∙ c.if-reaches_end.false) equal.0 (sym held ∙ equal.1)
     (let u = equal.2 in
@@ -95,9 +104,8 @@ returns-clause-call g c = λ e same.
     let held = ap length (rw c.held.ensures.count at c.unread-held.ensures) in
     rw c.shift_malformed.ensures (goes_on (reads_text (bytes_of_slice _ c.type_inv.src) same
     c.requires.unfinished c.requires.text c.requires.holds)
-    (omega (arith, lengths, made.call.call.within))
-    (omega (arith, c.saturating_sub-left.ensures, held))
-    (omega (arith, c.saturating_sub-read.ensures, held))
+    (held_read made.call.call.within _ held c.saturating_sub-left.ensures
+    c.saturating_sub-read.ensures)
     c.decode_held_first-done.ensures.call.rule made
     (sym c.reaches_end.ensures ∙ c.if-reaches_end.false)
     (λ z n. not_both_equal _ _ _ c.if-untouched.false z
