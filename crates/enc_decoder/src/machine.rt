@@ -4,7 +4,6 @@ ghost use Rattle.std.specs.Prelude.{◌≡◌, ◌<◌, ◌≤◌, Bool, length,
 ghost use Rattle.enc_utf8.specs.Text.{AreScalars, units_of_text};
 ghost use Rattle.enc_output.specs.Output.{with_appended};
 ghost use Rattle.enc_decoder.specs.CodecLaw.{IsNextEvent, text_chars, lone_fault};
-ghost use Rattle.enc_decoder.specs.Taking.{TakesRun};
 ghost use Rattle.enc_decoder.specs.declared.machine.NextEvent.TheVariants as comings;
 ghost use Rattle.enc_decoder.specs.Call.{IsCodecCall, reports};
 ghost use Rattle.enc_decoder.specs.CallRecord.{call_into};
@@ -33,19 +32,6 @@ fn is_at_lone_fault<C: ByteCodec>(codec: C, src: &[u8], read: usize) -> bool
         IsNextEvent C.state codec src.now read last (comings.Emits (lone_fault codec)) }
 {
     read < src.len() && codec.is_lone_fault(src[read])
-}
-
-/// Takes whole sequences from the front of `src`, none of them malformed, as
-/// [`ByteCodec::take_run`] does, and none if the first byte is malformed by itself.
-#[inline(always)]
-fn take_front<C: ByteCodec, U: Units>(codec: C, src: &[u8], out: &mut U) -> (C, usize)
-    ensures { TakesRun U.units_of C.state codec result.0 src.now result.1 (U.output out.old)
-        (U.output out.new) }
-{
-    if is_at_lone_fault(codec, src, 0) {
-        return (codec, 0);
-    }
-    codec.take_run(src, out)
 }
 
 /// Returns the next event: a sequence that the pending bytes, the next byte or the end determines,
@@ -143,7 +129,7 @@ pub fn run<C: ByteCodec, U: Units>(
     let mut replaced = false;
     let result = 'events: loop {
         let (_, rest) = src.split_at(read);
-        let (ahead, taken) = take_front(state, rest, out);
+        let (ahead, taken) = state.take_run(rest, out);
         state = ahead;
         read += taken;
         let shown = match what_comes(state, src, read, options.last) {

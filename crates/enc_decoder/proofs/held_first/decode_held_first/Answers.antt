@@ -14,7 +14,8 @@ returns-then-ne-clause-call g c =
       call = stops_in_held (call_into c.args.held.now c.args.options
           (g.U.Units.output c.args.out.now) (g.U.Units.output c.decode-first.new.out)
           c.decode-first.result) c.args.src.now c.args.options.last
-          (bytes_of_slice _ c.type_inv.held) (bytes_of_slice _ c.type_inv.src) stopped c.decode-first.ensures.call.call;
+          (bytes_of_slice _ c.type_inv.held) (bytes_of_slice _ c.type_inv.src) stopped
+          c.decode-first.ensures.call.call;
       rule = c.decode-first.ensures.call.rule;
     }
 

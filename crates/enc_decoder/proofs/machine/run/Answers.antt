@@ -13,60 +13,60 @@ events-init g c = record { progress = start (bytes_of_slice _ c.type_inv.src); r
 pub returns-in-NeedsInput : goal.returns-in-NeedsInput
 returns-in-NeedsInput g c =
     let progress = after_run g.C.ByteCodec.state _ c.events.invariant.progress.reaches
-    c.split_at.ensures.back c.take_front-ahead.ensures in
+    c.split_at.ensures.back c.take_run-ahead.ensures in
     record {
-      call = stays g.C.ByteCodec.state c.take_front-ahead.result.0 progress.reaches
+      call = stays g.C.ByteCodec.state c.take_run-ahead.result.0 progress.reaches
           c.in-NeedsInput.ensures;
-      rule = ap (λ (s : CodecState). s.rule) c.take_front-ahead.ensures.run.next_state
+      rule = ap (λ (s : CodecState). s.rule) c.take_run-ahead.ensures.run.next_state
           ∙ c.events.invariant.rule;
     }
 
 pub events-preserved-in-HoldsByte : goal.events-preserved-in-HoldsByte
 events-preserved-in-HoldsByte g c =
     let progress = after_run g.C.ByteCodec.state _ c.events.invariant.progress.reaches
-    c.split_at.ensures.back c.take_front-ahead.ensures in
+    c.split_at.ensures.back c.take_run-ahead.ensures in
     record {
-      progress = holds g.C.ByteCodec.state c.take_front-ahead.result.0 progress.reaches
+      progress = holds g.C.ByteCodec.state c.take_run-ahead.result.0 progress.reaches
           c.in-HoldsByte.ensures;
       rule = ap (λ (s : CodecState). s.rule) c.in-HoldsByte.ensures.1.0
-          ∙ ap (λ (s : CodecState). s.rule) c.take_front-ahead.ensures.run.next_state
+          ∙ ap (λ (s : CodecState). s.rule) c.take_run-ahead.ensures.run.next_state
           ∙ c.events.invariant.rule;
     }
 
 pub returns-then-is_reported : goal.returns-then-is_reported
 returns-then-is_reported g c =
     let progress = after_run g.C.ByteCodec.state _ c.events.invariant.progress.reaches
-    c.split_at.ensures.back c.take_front-ahead.ensures in
+    c.split_at.ensures.back c.take_run-ahead.ensures in
     record {
-      call = stops_at g.C.ByteCodec.state c.take_front-ahead.result.0 progress.reaches
+      call = stops_at g.C.ByteCodec.state c.take_run-ahead.result.0 progress.reaches
           c.in-Emits.ensures
           (elim c.if-shown.branch [
             | then-shown shown ↦ inl (shown.if-shown.true, shown.end-is)
             | else-shown shown ↦ inr (shown.if-shown.false, shown.end-is)
           ]) (sym c.if-is_reported.ensures) c.held.ensures;
       rule = c.in-Emits.ensures.0.same_rule
-          ∙ ap (λ (s : CodecState). s.rule) c.take_front-ahead.ensures.run.next_state
+          ∙ ap (λ (s : CodecState). s.rule) c.take_run-ahead.ensures.run.next_state
           ∙ c.events.invariant.rule;
     }
 
 pub returns-then-not-put_text : goal.returns-then-not-put_text
 returns-then-not-put_text g c =
     let progress = after_run g.C.ByteCodec.state _ c.events.invariant.progress.reaches
-    c.split_at.ensures.back c.take_front-ahead.ensures in
+    c.split_at.ensures.back c.take_run-ahead.ensures in
     record {
-      call = stops_full g.C.ByteCodec.state c.take_front-ahead.result.0 progress.reaches
+      call = stops_full g.C.ByteCodec.state c.take_run-ahead.result.0 progress.reaches
           c.in-Emits.ensures (c.put_text.ensures.unchanged c.if-not-put_text.true)
           (sym c.if-is_reported.ensures) (sym c.if-not-put_text.ensures.fits);
-      rule = ap (λ (s : CodecState). s.rule) c.take_front-ahead.ensures.run.next_state
+      rule = ap (λ (s : CodecState). s.rule) c.take_run-ahead.ensures.run.next_state
           ∙ c.events.invariant.rule;
     }
 
 pub events-preserved : goal.events-preserved
 events-preserved g c =
     let progress = after_run g.C.ByteCodec.state _ c.events.invariant.progress.reaches
-    c.split_at.ensures.back c.take_front-ahead.ensures in
+    c.split_at.ensures.back c.take_run-ahead.ensures in
     record {
-      progress = puts g.C.ByteCodec.state c.take_front-ahead.result.0 progress.reaches
+      progress = puts g.C.ByteCodec.state c.take_run-ahead.result.0 progress.reaches
           c.in-Emits.ensures
           (elim c.if-shown.branch [
             | then-shown shown ↦ inl (shown.if-shown.true, shown.end-is)
@@ -75,16 +75,16 @@ events-preserved g c =
           (sym c.if-not-put_text.ensures.fits) (c.put_text.ensures.written c.if-not-put_text.false)
           (sym c.if-is_malformed.ensures);
       rule = c.in-Emits.ensures.0.same_rule
-          ∙ ap (λ (s : CodecState). s.rule) c.take_front-ahead.ensures.run.next_state
+          ∙ ap (λ (s : CodecState). s.rule) c.take_run-ahead.ensures.run.next_state
           ∙ c.events.invariant.rule;
     }
 
 pub events-preserved-then-is_malformed : goal.events-preserved-then-is_malformed
 events-preserved-then-is_malformed g c =
     let progress = after_run g.C.ByteCodec.state _ c.events.invariant.progress.reaches
-    c.split_at.ensures.back c.take_front-ahead.ensures in
+    c.split_at.ensures.back c.take_run-ahead.ensures in
     record {
-      progress = replaces g.C.ByteCodec.state c.take_front-ahead.result.0 progress.reaches
+      progress = replaces g.C.ByteCodec.state c.take_run-ahead.result.0 progress.reaches
           c.in-Emits.ensures
           (elim c.if-shown.branch [
             | then-shown shown ↦ inl (shown.if-shown.true, shown.end-is)
@@ -94,15 +94,15 @@ events-preserved-then-is_malformed g c =
           (sym c.if-is_malformed.ensures) c.split_at-then-is_malformed.ensures.back
           c.replace_more-read.ensures;
       rule = c.in-Emits.ensures.0.same_rule
-          ∙ ap (λ (s : CodecState). s.rule) c.take_front-ahead.ensures.run.next_state
+          ∙ ap (λ (s : CodecState). s.rule) c.take_run-ahead.ensures.run.next_state
           ∙ c.events.invariant.rule;
     }
 
 pub events-smaller : goal.events-smaller
 events-smaller g c =
     let progress = after_run g.C.ByteCodec.state _ c.events.invariant.progress.reaches
-    c.split_at.ensures.back c.take_front-ahead.ensures in
-    let next_state = c.take_front-ahead.ensures.run.next_state in
+    c.split_at.ensures.back c.take_run-ahead.ensures in
+    let next_state = c.take_run-ahead.ensures.run.next_state in
     let same_pending = ap (λ (s : CodecState). length s.pending) next_state in
     let within = progress.reaches.leaves.within in
     let fewer = fewer_left _ _ c.if-shown.end c.in-Emits.ensures.0
@@ -115,8 +115,8 @@ events-smaller g c =
 pub events-smaller-then-is_malformed : goal.events-smaller-then-is_malformed
 events-smaller-then-is_malformed g c =
     let progress = after_run g.C.ByteCodec.state _ c.events.invariant.progress.reaches
-    c.split_at.ensures.back c.take_front-ahead.ensures in
-    let next_state = c.take_front-ahead.ensures.run.next_state in
+    c.split_at.ensures.back c.take_run-ahead.ensures in
+    let next_state = c.take_run-ahead.ensures.run.next_state in
     let same_pending = ap (λ (s : CodecState). length s.pending) next_state in
     let within = progress.reaches.leaves.within in
     let fewer = fewer_left _ _ c.if-shown.end c.in-Emits.ensures.0

@@ -27,8 +27,8 @@ reads_text bytes same_rule going no_mark holds = record {
 }
 
 abbrev held_read : {held src : List ℕ} {total left read : ℕ} → total ≤ length (held ++ src)
-    → (given : List ℕ) → length given ≡ length held → left ≡ length given - total → read ≡ total - length given
-    → HeldRead held src
+    → (given : List ℕ) → length given ≡ length held → left ≡ length given - total
+    → read ≡ total - length given → HeldRead held src
 held_read {total = total} {left} {read} within given same left_is read_is = record {
   total = total;
   left = left;
