@@ -14,7 +14,7 @@ use Rattle.enc_decoder_iso_2022_jp.specs.declared.character_set.CharacterSet.{Ch
 use Rattle.enc_decoder_iso_2022_jp.specs.declared.character_set.CharacterSet.TheVariants as read
 use Rattle.enc_decoder_iso_2022_jp.specs.declared.escape.Escape.{Escape}
 use Rattle.enc_decoder_iso_2022_jp.specs.declared.escape.Escape.TheVariants.{ToAscii, ToRoman, ToJis0208Of1983}
-use Rattle.enc_decoder_iso_2022_jp.specs.Iso2022Jp.{set_number, designated_set, is_lead_byte, one_byte_char}
+use Rattle.enc_decoder_iso_2022_jp.specs.Iso2022Jp.{set_number, designated_set, one_byte_char}
 use Rattle.enc_decoder_iso_2022_jp.specs.Iso2022Jp.{two_byte_char, iso_2022_jp_rule as jp_rule}
 use Rattle.enc_decoder_iso_2022_jp.specs.Iso2022JpState.{escape_bytes, escape_set}
 use Rattle.enc_decoder_iso_2022_jp.proofs.Iso2022JpLemmas.{skipped_escape}
@@ -70,9 +70,9 @@ record IsReadIn (s : CharacterSet) (b : List ℕ) (c : ℕ) : Type 0 where
   plain : (y : List ℕ) → designated_set (b ++ y) ≡ None
 
 one_read : (s : CharacterSet) (b c : ℕ) → one_byte_char (as_read s) b ≡ Some c
-    → is_lead_byte (as_read s) b ≡ false → eqb b 0x1B ≡ false → IsReadIn s (b ∷ []) c
-one_read s b c e l n =
-    record { piece = alone_piece (as_read s) b c e l; plain = λ y. other_front b y n }
+    → eqb b 0x1B ≡ false → IsReadIn s (b ∷ []) c
+one_read s b c e n =
+    record { piece = alone_piece (as_read s) b c e; plain = λ y. other_front b y n }
 
 -- The set in which a character is written has its class: that of `\`, `A`, U+00A5 or U+4E00.
 
@@ -106,35 +106,35 @@ no_escape : (c : ℕ) → is_shift c ≡ false → eqb c 0x1B ≡ false
 no_escape c n = grind (arith, nat_tests)
 
 in_ascii : (c : ℕ) → nat_lt c 0x80 ≡ true → is_shift c ≡ false → IsReadIn Ascii (c ∷ []) c
-unfolding one_byte_char is_lead_byte
+unfolding one_byte_char
 in_ascii c l not_shift =
-    one_read Ascii c c (rw (is_ascii c l not_shift) refl) refl (no_escape c not_shift)
+    one_read Ascii c c (rw (is_ascii c l not_shift) refl) (no_escape c not_shift)
 
 in_roman : (c : ℕ) → nat_lt c 0x80 ≡ true → is_shift c ≡ false → (c == 0x5C || c == 0x7E) ≡ false
     → IsReadIn Roman (c ∷ []) c
-unfolding one_byte_char is_lead_byte
+unfolding one_byte_char
 in_roman c l not_shift k =
     let either = or_parts (c == 0x5C) (c == 0x7E) k in
-    one_read Roman c c (rw (either.0, either.1, is_ascii c l not_shift) refl) refl
+    one_read Roman c c (rw (either.0, either.1, is_ascii c l not_shift) refl)
     (no_escape c not_shift)
 
 yen_read : IsReadIn Roman (0x5C ∷ []) 0xA5
-unfolding one_byte_char is_lead_byte
-yen_read = one_read Roman 0x5C 0xA5 refl refl refl
+unfolding one_byte_char
+yen_read = one_read Roman 0x5C 0xA5 refl refl
 
 line_read : IsReadIn Roman (0x7E ∷ []) 0x203E
-unfolding one_byte_char is_lead_byte
-line_read = one_read Roman 0x7E 0x203E refl refl refl
+unfolding one_byte_char
+line_read = one_read Roman 0x7E 0x203E refl refl
 
 -- pairs of jis0208
 
 two_read : (a b c : ℕ) → 0x21 ≤ a → a ≤ 0x7E → 0x21 ≤ b → b ≤ 0x7E
     → jis0208_at ((a - 0x21) * 94 + (b - 0x21)) ≡ Some c → IsReadIn Jis0208 (a ∷ b ∷ []) c
-unfolding two_byte_char is_lead_byte
+unfolding two_byte_char
 two_read a b c k l m n e =
     let other : eqb a 0x1B ≡ false = grind (arith, nat_tests) in
     record {
-      piece = pair_piece read.Jis0208 a b c (cond-true _ _ _ (within 0x21 0x7E b m n) ∙ e)
+      piece = pair_piece a b c (cond-true _ _ _ (within 0x21 0x7E b m n) ∙ e)
           (within 0x21 0x7E a k l);
       plain = λ y. other_front a (b ∷ y) other;
     }

@@ -250,9 +250,9 @@ module _ {e : Encoding} {life : LifeCycle} {v : CodecState} {src : List ℕ} {la
         | inr within_held ↦
             let none_read : read ≡ 0 = omega (arith, within_held) in
             elim (most_or_more left 0) [
-          | inl none ↦ omega (arith, none)
-          | inr some ↦ absurd (too_few none_read some)
-        ]
+              | inl none ↦ omega (arith, none)
+              | inr some ↦ absurd (too_few none_read some)
+            ]
       ]
         where
           too_few : read ≡ 0 → 0 < left → ⊥
@@ -349,8 +349,10 @@ module _ {e : Encoding} {life : LifeCycle} {v : CodecState} {src : List ℕ} {la
         → Leaves (decoder_state_of e ConvertingWithPendingBb w)
     stays_bb not_ended nothing_read two one =
         let leaves : LeavesBb v w src done total life =
-        leaves_bb made.call.accounted two (omega (arith, nothing_read, two, reads.read_is),
-        omega (arith, nothing_read, two, one, reads.left_is, reads.read_is)) in
+        leaves_bb made.call.accounted two (
+          omega (arith, nothing_read, two, reads.read_is),
+          omega (arith, nothing_read, two, one, reads.left_is, reads.read_is),
+        ) in
         let all_read : bytes_read ≡ 0xEF ∷ 0xBB ∷ [] =
         ap (λ k. pending ++ take k src) nothing_read ∙ append-nil pending
         ∙ text.holds.held ∙ ap (λ x. x ++ held) leaves.none ∙ leaves.unread in
