@@ -20,7 +20,7 @@ use Rattle.enc_decoder.proofs.SegmentationLemmas.{sequences_of-nil}
 use Rattle.enc_decoder_utf.specs.Utf8.{utf_8_rule}
 use Rattle.enc_decoder_utf.proofs.Utf8Pieces.{utf8_piece}
 use Rattle.enc_decoder_iso_2022_jp.specs.declared.character_set.CharacterSet.TheVariants.{Ascii}
-use Rattle.enc_decoder_iso_2022_jp.specs.Iso2022Jp.{iso_2022_jp_rule, is_lead_byte, one_byte_char}
+use Rattle.enc_decoder_iso_2022_jp.specs.Iso2022Jp.{iso_2022_jp_rule, one_byte_char}
 use Rattle.enc_decoder_iso_2022_jp.proofs.Iso2022JpLemmas.{differs}
 use Rattle.enc_decoder_iso_2022_jp.proofs.Iso2022JpPieces.{alone_piece}
 use Rattle.enc_stream.specs.declared.bom.BomHandling.{BomHandling}
@@ -142,17 +142,13 @@ plain_char b is_low not_out not_in not_escape =
     let low : nat_lt b 0x80 ≡ true = grind (arith, nat_tests) in
     rw (low, differs b 0x0E not_out, differs b 0x0F not_in, differs b 0x1B not_escape) refl
 
-leads_none : (b : ℕ) → is_lead_byte Ascii b ≡ false
-unfolding is_lead_byte
-leads_none b = refl
-
 plain_own : (bs : List ℕ) → AreIso2022JpAscii bs → HasOwnText iso_2022_jp_rule bs
 plain_own bs are_plain = record {
   text = bs;
   encoded = ascii_encoded bs (plain_ascii bs are_plain);
   each = each_byte iso_2022_jp_rule bs (λ k d h. let plain = are_plain k d h in (
     plain.0,
-    alone_piece Ascii _ _ (plain_char _ plain.0 plain.1 plain.2 plain.3) (leads_none _),
+    alone_piece Ascii _ _ (plain_char _ plain.0 plain.1 plain.2 plain.3),
   ));
 }
 
