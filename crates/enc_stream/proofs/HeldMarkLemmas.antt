@@ -1,5 +1,5 @@
 -- A codec's call over the bytes held and the chunk, as a call of the decoder over the chunk.
-use Rattle.std.proofs.Common.{◌≡◌, ℕ, ◌+◌, ◌-◌, ◌<◌, ◌≤◌, Bool, true, false, List, [], ◌∷◌}
+use Rattle.std.proofs.Common.{◌≡◌, ℕ, ◌+◌, ◌<◌, ◌≤◌, Bool, true, false, List, [], ◌∷◌}
 use Rattle.std.proofs.Common.{◌++◌, length, take, drop, refl, ap, ◌∙◌, sym, arith, append_assoc, inl, inr, ◌⊎◌, subst}
 use Rattle.std.proofs.Common.{None}
 use Rattle.std.proofs.lemmas.List.{append-nil, length-append}

@@ -31,6 +31,8 @@ pub mod UnreadTextLemmas
 pub mod OneShotEncodeLemmas
 pub mod OwnTextLemmas
 pub mod OwnMarkLemmas
+pub mod StartLemmas
+pub mod WholeInputMark
 pub mod OwnBytesLemmas
 pub mod NeedLemmas
 pub mod FormulaLemmas

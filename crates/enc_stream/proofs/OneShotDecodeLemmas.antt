@@ -2,7 +2,7 @@
 use Rattle.std.proofs.Common.{◌≡◌, ℕ, Bool, true, false, true≢false, List, [], ◌∷◌, ◌++◌, length, take, drop, refl, ap}
 use Rattle.std.proofs.Common.{◌∙◌, sym, arith, append_assoc, append-nil, ◌||◌, if◌then◌else◌}
 use Rattle.std.proofs.lemmas.List.{take-append-drop}
-use Rattle.std.specs.Prelude.{Option, Some, None, IfSome, option_map, ◌==◌, ◌≢◌}
+use Rattle.std.specs.Prelude.{Option, Some, None, IfSome, ◌==◌, ◌≢◌}
 use Rattle.std.specs.Char.{encode_utf8}
 use Rattle.enc_stream.specs.declared.bom.BomHandling.{BomHandling}
 use Rattle.enc_stream.specs.declared.bom.BomHandling.TheVariants.{Off}
@@ -20,8 +20,7 @@ use Rattle.enc_decoder.specs.Remainder.{Remainder, AreBytes}
 use Rattle.enc_decoder.proofs.SequenceLemmas.{units-append, any_malformed-append}
 use Rattle.enc_decoder.proofs.SegmentationLemmas.{sequences_of-nil}
 use Rattle.enc_stream.specs.Encodings.{rule_of}
-use Rattle.enc_stream.specs.Bom.{Mark, find_mark, sequences_by_mark}
-use Rattle.enc_stream.specs.Bom.{encoding_of_mark_or}
+use Rattle.enc_stream.specs.Bom.{find_mark, sequences_by_mark}
 use Rattle.enc_stream.specs.Decoding.{DecoderState, has_finished, fresh_decoder, remaining_sequences}
 use Rattle.enc_stream.specs.Decoding.{whole_sequences, whole_malformed, DecodesChunk}
 use Rattle.enc_stream.specs.Decoding.{replacing_call, reporting_call}
@@ -211,24 +210,6 @@ too_long_after {handling} {e} {bytes} {new} is_fresh length_is {room} exact code
       call = rw is_fresh at call;
       passes = passes;
     }
-
--- the encoding of a mark, with its length
-
-abbrev pub encoding_and_length : Mark → Encoding × ℕ
-encoding_and_length m = (m.encoding, length m.bytes)
-
-pub encoding_by_mark : (found : Option Mark) (e other : Encoding) (n : ℕ)
-    → option_map encoding_and_length found ≡ Some (other, n) → other ≡ encoding_of_mark_or found e
-encoding_by_mark None e other n bom_is = cc
-encoding_by_mark (Some m) e other n bom_is =
-    let pair_is : encoding_and_length m ≡ (other, n) = cc in
-    sym (ap (λ (p : Encoding × ℕ). p.0) pair_is)
-
-pub encoding_without_mark : (found : Option Mark) (e : Encoding)
-    → option_map encoding_and_length found ≡ None
-    → e ≡ encoding_of_mark_or found e
-encoding_without_mark None e none = refl
-encoding_without_mark (Some m) e none = cc
 
 -- calls that report malformed sequences
 

@@ -1,18 +1,14 @@
 -- The byte order mark of one encoding, by the one of all three that is found.
-use Rattle.std.proofs.Common.{◌≡◌, ℕ, List, [], ◌∷◌, drop, refl, ap, ◌∙◌, sym}
+use Rattle.std.proofs.Common.{◌≡◌, ℕ, List, [], ◌∷◌, refl, ap}
 use Rattle.std.proofs.Common.{Option, Some, None}
-use Rattle.std.specs.Prelude.{option_map}
 use Rattle.enc_names.specs.declared.encoding_id.EncodingId.{EncodingId}
 use Rattle.enc_names.specs.declared.encoding_id.EncodingId.TheVariants.{Utf8, Utf16be, Utf16le}
 use Rattle.enc_stream.specs.declared.bom.BomHandling.TheVariants.{Sniff, Remove}
 use Rattle.enc_stream.specs.declared.encoding.Encoding.{Encoding}
 use Rattle.enc_stream.specs.Bom.{Mark, marks, marks_of_encoding, find_mark}
-use Rattle.enc_stream.specs.Bom.{bom_of, sequences_by_mark, encoding_of_mark_or}
+use Rattle.enc_stream.specs.Bom.{sequences_by_mark, encoding_of_mark_or}
 use Rattle.enc_stream.specs.Decoding.{whole_sequences, whole_encoding}
-use Rattle.enc_stream.specs.MarkLaws.{bytes_after_mark}
-use Rattle.enc_stream.specs.OwnText.{mark_looked_for}
 use Rattle.enc_stream.proofs.FoundMarkLemmas.{EachMark, found_has, found_is, found_starts}
-use Rattle.enc_stream.proofs.OneShotDecodeLemmas.{encoding_and_length}
 use Rattle.std.proofs.Common.{◌++◌}
 
 -- A byte order mark of this encoding, which is found among all three where it is in front.
@@ -73,41 +69,3 @@ removal_keeps e bytes = by_found (find_mark (marks_of_encoding e.id) bytes) refl
         let own =
         found_has (IsOwn e.id) (marks_of_encoding e.id) bytes m (own_marks e.id) at_front in
         ap (λ (i : EncodingId). record { id = i }) own.0
-
--- the mark that is found among all three
-
-found_as : (found : Option Mark) (other : Encoding) (n : ℕ)
-    → option_map encoding_and_length found ≡ Some (other, n)
-    → (m : Mark) × (found ≡ Some m) × (encoding_and_length m ≡ (other, n))
-found_as None other n bom_is = cc
-found_as (Some m) other n bom_is =
-    (m, refl, (let same : encoding_and_length m ≡ (other, n) = cc in same))
-
-pub own_mark_same : (e : Encoding) (bytes : List ℕ) (other : Encoding) (n : ℕ)
-    → bom_of bytes ≡ Some (other, n) → other ≡ e
-    → Some (other, n) ≡ mark_looked_for Remove e bytes
-own_mark_same e bytes other n bom_is same =
-    let found = found_as (find_mark marks bytes) other n bom_is in
-    sym (ap (option_map encoding_and_length) (found_if_own e.id bytes found.0 found.1
-    (ap (λ (p : Encoding × ℕ). p.0) found.2 ∙ same))
-    ∙ ap (λ (p : Encoding × ℕ). Some p) found.2)
-
-pub own_mark_other : (e : Encoding) (bytes : List ℕ) (other : Encoding) (n : ℕ)
-    → bom_of bytes ≡ Some (other, n) → ¬ (other ≡ e)
-    → None ≡ mark_looked_for Remove e bytes
-own_mark_other e bytes other n bom_is differs =
-    let found = found_as (find_mark marks bytes) other n bom_is in
-    sym (ap (option_map encoding_and_length) (none_unless_own e.id bytes (λ m at_front own.
-    let same : found.0 ≡ m = cc in
-    differs (sym (ap (λ (p : Encoding × ℕ). p.0) found.2)
-    ∙ ap (λ (k : Mark). k.encoding) same ∙ ap (λ (i : EncodingId). record { id = i }) own))))
-
--- the bytes after a mark, by its length
-
-pub bytes_by_length : (found : Option Mark) (bytes : List ℕ) (other : Encoding) (n : ℕ)
-    → option_map encoding_and_length found ≡ Some (other, n)
-    → drop n bytes ≡ bytes_after_mark found bytes
-bytes_by_length found bytes other n length_is =
-    let mark = found_as found other n length_is in
-    ap (λ k. drop k bytes) (sym (ap (λ (p : Encoding × ℕ). p.1) mark.2))
-    ∙ ap (λ (o : Option Mark). bytes_after_mark o bytes) (sym mark.1)

@@ -1,5 +1,5 @@
 -- Input that is its own text, bytes that equal their text in UTF-8, and answers that lend it.
-use Rattle.std.specs.Prelude.{◌≡◌, ℕ, ◌⊎◌, true, List, length, Option, option_map}
+use Rattle.std.specs.Prelude.{◌≡◌, ℕ, ◌⊎◌, true, List}
 use Rattle.std.specs.declared.borrow.CowStr.{CowStr}
 use Rattle.std.specs.declared.borrow.CowStr.TheVariants as text
 use Rattle.std.specs.declared.borrow.CowSlice.{CowSlice}
@@ -23,11 +23,6 @@ AreTheirOwnText e bytes =
     ((e ≡ UTF_8) × IsWellFormedUtf8 bytes)
     ⊎ (((is_ascii_compatible e ≡ true) × AreAscii bytes)
     ⊎ ((e ≡ ISO_2022_JP) × AreIso2022JpAscii bytes))
-
--- The encoding and the length of the byte order mark at the start, if one is looked for and found.
-abbrev pub mark_looked_for : BomHandling → Encoding → List ℕ → Option (Encoding × ℕ)
-mark_looked_for handling e bytes =
-    option_map (λ m. (m.encoding, length m.bytes)) (find_mark (marks_looked_for handling e) bytes)
 
 -- the bytes of a whole input after the byte order mark, if one is looked for and found
 abbrev pub unmarked_bytes : BomHandling → Encoding → List ℕ → List ℕ

@@ -15,16 +15,15 @@ mod queries;
 mod start;
 mod strings;
 
-use crate::bom::BomHandling;
+use crate::chunk::decode_sniffed;
 use crate::encoding::Encoding;
 use crate::life_cycle::LifeCycle;
-use crate::sniffing::{Sniffed, sniff};
-use crate::text::decode_text;
+use crate::sniffing::sniff;
 use enc_codec::VariantDecoder;
 use enc_decoder::{CallOptions, DecoderOutcome, ErrorMode};
 use enc_output::{DecoderResult, Units, Utf8Slice, Utf16Slice};
 use enc_utf8::CoderResult;
-pub(crate) use start::whole_length;
+pub(crate) use start::{first_life, whole_length};
 use std::fmt;
 use std::marker::Model;
 
@@ -96,28 +95,16 @@ impl Decoder {
             (call_into src.now (record { last = last; mode = mode }) (U.output out.old)
             (U.output out.new) result) }
     {
-        U::laws();
-        let (sniffed, len) = sniff(self.life, src, last);
-        let (_, rest) = src.split_at(len);
-        match sniffed {
-            Sniffed::Open(life) => {
-                self.life = life;
-                return DecoderOutcome {
-                    result: DecoderResult::InputEmpty,
-                    read: len,
-                    replaced: false,
-                };
-            }
-            Sniffed::Mark(encoding) => *self = Decoder::start(encoding, BomHandling::Off),
-            Sniffed::Text(life) => self.life = life,
-        }
-        let options = CallOptions { last, mode };
-        let of_text = decode_text(&mut self.life, &mut self.codec, rest, out, options);
-        DecoderOutcome {
-            result: of_text.result,
-            read: len + of_text.read,
-            replaced: of_text.replaced,
-        }
+        let sniffed = sniff(self.life, src, last);
+        decode_sniffed(
+            &mut self.encoding,
+            &mut self.life,
+            &mut self.codec,
+            sniffed,
+            src,
+            out,
+            CallOptions { last, mode },
+        )
     }
 
     /// Decodes a chunk of input into UTF-8, with replacement.

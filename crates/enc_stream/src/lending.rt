@@ -20,7 +20,7 @@ use crate::bom::BomHandling;
 use crate::encoding::Encoding;
 use crate::one_shot::{convert_strictly, convert_text, convert_whole};
 use crate::one_shot_error::OneShotError;
-use crate::own_text::{encodes_as_itself, own_text};
+use crate::own_text::{encodes_as_itself, own_text, search};
 use std::alloc::Global;
 use std::borrow::{CowSlice, CowStr};
 
@@ -30,10 +30,12 @@ fn lend_whole<'a>(
     encoding: Encoding,
     handling: BomHandling,
     bytes: &'a [u8],
-) -> Result<(CowStr<'a>, bool), OneShotError>
+) -> Result<(CowStr<'a>, Encoding, bool), OneShotError>
     ensures text { IfOk result (λ answer.
         cow_str_bytes answer.0 ≡ whole_utf_8 handling encoding bytes.now) }
-    ensures flag { IfOk result (λ answer. answer.1 ≡ whole_malformed handling encoding bytes.now) }
+    ensures encoding { IfOk result (λ answer.
+        answer.1 ≡ whole_encoding handling encoding bytes.now) }
+    ensures flag { IfOk result (λ answer. answer.2 ≡ whole_malformed handling encoding bytes.now) }
     ensures lends { IsOkAnd result (λ answer. IsBorrowedStr answer.0)
         ↔ IsItsOwnText handling encoding bytes.now }
     ensures part { IfOk result (λ answer. IsBorrowedStr answer.0
@@ -47,11 +49,12 @@ fn lend_whole<'a>(
     ensures capacity { bytes.now ≡ [] → IfOk result (λ answer.
         owned_str_capacity answer.0 ≡ 0) }
 {
-    if let Some(text) = own_text(encoding, handling, bytes) {
-        return Ok((CowStr::Borrowed(text), false));
+    let input = search(encoding, handling, bytes);
+    if let Some(text) = own_text(input.encoding, input.rest) {
+        return Ok((CowStr::Borrowed(text), input.encoding, false));
     }
-    let (text, had_errors) = convert_whole(alloc, encoding, handling, bytes)?;
-    Ok((CowStr::Owned(text), had_errors))
+    let (text, had_errors) = convert_whole(alloc, encoding, handling, input.sniffed, bytes)?;
+    Ok((CowStr::Owned(text), input.encoding, had_errors))
 }
 
 impl Encoding {
@@ -95,14 +98,7 @@ impl Encoding {
         ensures capacity { bytes.now ≡ [] → IfOk result (λ answer.
             owned_str_capacity answer.0 ≡ 0) }
     {
-        let encoding = match Encoding::for_bom(bytes) {
-            Some((marked, _)) => marked,
-            None => self,
-        };
-        match lend_whole(alloc, self, BomHandling::Sniff, bytes) {
-            Ok((text, had_errors)) => Ok((text, encoding, had_errors)),
-            Err(error) => Err(error),
-        }
+        lend_whole(alloc, self, BomHandling::Sniff, bytes)
     }
 
     /// Decodes a whole input without the byte order mark of this encoding, with replacement, or
@@ -135,7 +131,8 @@ impl Encoding {
         ensures capacity { bytes.now ≡ [] → IfOk result (λ answer.
             owned_str_capacity answer.0 ≡ 0) }
     {
-        lend_whole(alloc, self, BomHandling::Remove, bytes)
+        let (text, _, had_errors) = lend_whole(alloc, self, BomHandling::Remove, bytes)?;
+        Ok((text, had_errors))
     }
 
     /// Decodes a whole input, a byte order mark included, with replacement, or lends its text
@@ -168,7 +165,8 @@ impl Encoding {
         ensures capacity { bytes.now ≡ [] → IfOk result (λ answer.
             owned_str_capacity answer.0 ≡ 0) }
     {
-        lend_whole(alloc, self, BomHandling::Off, bytes)
+        let (text, _, had_errors) = lend_whole(alloc, self, BomHandling::Off, bytes)?;
+        Ok((text, had_errors))
     }
 
     /// Decodes a whole input, a byte order mark included, if nothing in it is malformed, or lends
@@ -200,7 +198,7 @@ impl Encoding {
         ensures capacity { bytes.now ≡ [] → IfOk result (λ answer.
             IfSome answer (λ text. owned_str_capacity text ≡ 0)) }
     {
-        if let Some(text) = own_text(self, BomHandling::Off, bytes) {
+        if let Some(text) = own_text(self, bytes) {
             return Ok(Some(CowStr::Borrowed(text)));
         }
         match convert_strictly(alloc, self, bytes)? {

@@ -9,6 +9,7 @@
 #![tactic(auto)]
 
 mod bom;
+mod chunk;
 pub mod constants;
 mod decoder;
 mod encoder;

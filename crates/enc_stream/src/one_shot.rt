@@ -15,12 +15,15 @@ ghost use Rattle.enc_stream.specs.OneShot.{utf_8_without_replacement, HasRoomFor
 ghost use Rattle.enc_stream.specs.OneShot.{HasRoomExactlyFor, first_length, length_to_encode};
 ghost use Rattle.enc_stream.specs.OneShot.{IsTooLong, IsTooLongToEncode};
 ghost use Rattle.enc_stream.specs.OneShot.{MayLackMemory, MayLackMemoryToEncode};
+ghost use Rattle.enc_stream.specs.LifeCycle.{start_life};
+ghost use Rattle.enc_stream.specs.Sniffing.{IsSniffed};
 
 use crate::bom::BomHandling;
 use crate::decoder::{Decoder, whole_length};
 use crate::encoding::Encoding;
 use crate::one_shot_error::OneShotError;
-use crate::own_text::{encodes_as_itself, own_text};
+use crate::own_text::{encodes_as_itself, own_text, search};
+use crate::sniffing::Sniffed;
 use enc_output::DecoderResult;
 use enc_utf8::CoderResult;
 use std::alloc::Global;
@@ -104,14 +107,17 @@ fn make_byte_room(bytes: &mut Vec<u8>, length: Option<usize>) -> Result<(), OneS
 
 /// Decodes a whole input by calls of a decoder, with U+FFFD for each malformed sequence.
 ///
-/// One call is enough if nothing is malformed. Otherwise a second call may follow, after a growth
+/// `sniffed` is the result of the search for a byte order mark at its start. One call is enough if nothing is malformed. Otherwise a second call may follow, after a growth
 /// for the rest of the input.
 pub(crate) fn convert_whole(
     alloc: Global,
     encoding: Encoding,
     handling: BomHandling,
+    sniffed: (Sniffed, usize),
     bytes: &[u8],
 ) -> Result<(String, bool), OneShotError>
+    requires within { sniffed.1 ≤ length bytes.now }
+    requires sniffed { IsSniffed (start_life handling encoding.id) bytes.now true sniffed.0 sniffed.1 }
     ensures text { IfOk result (λ answer.
         string_bytes answer.0 ≡ whole_utf_8 handling encoding bytes.now) }
     ensures flag { IfOk result (λ answer. answer.1 ≡ whole_malformed handling encoding bytes.now) }
@@ -126,10 +132,11 @@ pub(crate) fn convert_whole(
     if bytes.is_empty() {
         return Ok((empty_text(alloc), false));
     }
-    let mut decoder = Decoder::start(encoding, handling);
-    let length = decoder.max_utf8_buffer_length_without_replacement(bytes.len());
+    let length = whole_length(encoding, handling, bytes.len());
     let mut text = text_with_room(alloc, length)?;
-    let (stop, read, had_errors) = decoder.decode_to_string(bytes, &mut text, true);
+    let (mut decoder, stop, read, had_errors) = Decoder::whole_to_string(
+        encoding, handling, sniffed, bytes, &mut text,
+    );
     if stop == CoderResult::InputEmpty {
         return Ok((text, had_errors));
     }
@@ -186,10 +193,12 @@ fn decode_whole(
     encoding: Encoding,
     handling: BomHandling,
     bytes: &[u8],
-) -> Result<(String, bool), OneShotError>
+) -> Result<(String, Encoding, bool), OneShotError>
     ensures text { IfOk result (λ answer.
         string_bytes answer.0 ≡ whole_utf_8 handling encoding bytes.now) }
-    ensures flag { IfOk result (λ answer. answer.1 ≡ whole_malformed handling encoding bytes.now) }
+    ensures encoding { IfOk result (λ answer.
+        answer.1 ≡ whole_encoding handling encoding bytes.now) }
+    ensures flag { IfOk result (λ answer. answer.2 ≡ whole_malformed handling encoding bytes.now) }
     ensures too_long { IsErrOf result OneShotError.TooLong → IsTooLong handling encoding bytes.now }
     ensures first { bytes.now ≢ [] → first_length handling encoding bytes.now ≡ None
         → IsErrOf result OneShotError.TooLong }
@@ -198,12 +207,22 @@ fn decode_whole(
     ensures empty { bytes.now ≡ [] → IsOk result }
     ensures capacity { bytes.now ≡ [] → IfOk result (λ answer. string_capacity answer.0 ≡ 0) }
 {
-    match own_text(encoding, handling, bytes) {
-        Some(text) => Ok((
-            copy_own_text(alloc, encoding, handling, bytes, text)?,
-            false,
-        )),
-        None => convert_whole(alloc, encoding, handling, bytes),
+    let input = search(encoding, handling, bytes);
+    match own_text(input.encoding, input.rest) {
+        Some(text) => {
+            let text = copy_own_text(alloc, encoding, handling, bytes, text)?;
+            Ok((text, input.encoding, false))
+        }
+        None => {
+            let (text, had_errors) = convert_whole(
+                alloc,
+                encoding,
+                handling,
+                input.sniffed,
+                bytes,
+            )?;
+            Ok((text, input.encoding, had_errors))
+        }
     }
 }
 
@@ -338,12 +357,7 @@ impl Encoding {
         ensures empty { bytes.now ≡ [] → IsOk result }
         ensures capacity { bytes.now ≡ [] → IfOk result (λ answer. string_capacity answer.0 ≡ 0) }
     {
-        let (text, had_errors) = decode_whole(alloc, self, BomHandling::Sniff, bytes)?;
-        let encoding = match Encoding::for_bom(bytes) {
-            Some((marked, _)) => marked,
-            None => self,
-        };
-        Ok((text, encoding, had_errors))
+        decode_whole(alloc, self, BomHandling::Sniff, bytes)
     }
 
     /// Decodes a whole input without the byte order mark of this encoding, with replacement.
@@ -374,7 +388,8 @@ impl Encoding {
         ensures empty { bytes.now ≡ [] → IsOk result }
         ensures capacity { bytes.now ≡ [] → IfOk result (λ answer. string_capacity answer.0 ≡ 0) }
     {
-        decode_whole(alloc, self, BomHandling::Remove, bytes)
+        let (text, _, had_errors) = decode_whole(alloc, self, BomHandling::Remove, bytes)?;
+        Ok((text, had_errors))
     }
 
     /// Decodes a whole input, a byte order mark included, with replacement.
@@ -400,7 +415,8 @@ impl Encoding {
         ensures empty { bytes.now ≡ [] → IsOk result }
         ensures capacity { bytes.now ≡ [] → IfOk result (λ answer. string_capacity answer.0 ≡ 0) }
     {
-        decode_whole(alloc, self, BomHandling::Off, bytes)
+        let (text, _, had_errors) = decode_whole(alloc, self, BomHandling::Off, bytes)?;
+        Ok((text, had_errors))
     }
 
     /// Decodes a whole input, a byte order mark included, if nothing in it is malformed.
@@ -433,7 +449,7 @@ impl Encoding {
         ensures capacity { bytes.now ≡ [] → IfOk result (λ answer.
             IfSome answer (λ text. string_capacity text ≡ 0)) }
     {
-        match own_text(self, BomHandling::Off, bytes) {
+        match own_text(self, bytes) {
             Some(text) => Ok(Some(copy_own_text(alloc, self, BomHandling::Off, bytes, text)?)),
             None => convert_strictly(alloc, self, bytes),
         }

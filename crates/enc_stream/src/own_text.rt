@@ -1,15 +1,17 @@
 //! Input that is its own text, which a one-shot call lends or copies at once.
 
-ghost use Rattle.std.specs.Prelude.{◌≡◌, ◌↔◌, ◌≤◌, length, IsTrue, IsSome, IfSome};
-ghost use Rattle.enc_stream.specs.declared.bom.BomHandling.TheVariants as handling;
+ghost use Rattle.std.specs.Prelude.{◌≡◌, ◌↔◌, ◌≤◌, true, length, IsTrue, IsSome, IfSome};
 ghost use Rattle.enc_stream.specs.Decoding.{whole_encoding};
+ghost use Rattle.enc_stream.specs.LifeCycle.{start_life};
 ghost use Rattle.enc_stream.specs.Properties.{output_encoding_of};
-ghost use Rattle.enc_stream.specs.OwnText.{AreTheirOwnText, IsItsOwnText};
-ghost use Rattle.enc_stream.specs.OwnText.{mark_looked_for, unmarked_bytes};
+ghost use Rattle.enc_stream.specs.OwnText.{AreTheirOwnText, unmarked_bytes};
+ghost use Rattle.enc_stream.specs.Sniffing.{IsSniffed};
 
 use crate::bom::BomHandling;
 use crate::constants::{ISO_2022_JP, UTF_8};
+use crate::decoder::first_life;
 use crate::encoding::Encoding;
+use crate::sniffing::{Sniffed, sniff};
 use enc_utf8::{ascii_valid_up_to, iso_2022_jp_ascii_valid_up_to, utf8_valid_up_to};
 
 /// Returns whether two encodings are the same.
@@ -35,60 +37,51 @@ fn are_their_own_text(encoding: Encoding, bytes: &[u8]) -> bool
     encoding.is_ascii_compatible() && ascii_valid_up_to(bytes) == bytes.len()
 }
 
-/// Returns the encoding and the length of the byte order mark of this encoding at the start.
-fn own_mark(encoding: Encoding, bytes: &[u8]) -> Option<(Encoding, usize)>
-    ensures mark { result ≡ mark_looked_for handling.Remove encoding bytes.now }
-    ensures within { IfSome result (λ found. found.1 ≤ length bytes.now) }
+/// Returns the text of bytes in this encoding that are their own text.
+pub(crate) fn own_text(encoding: Encoding, bytes: &[u8]) -> Option<&str>
+    ensures own { IsSome result ↔ AreTheirOwnText encoding bytes.now }
+    ensures bytes { IfSome result (λ text. text.now ≡ bytes.now) }
 {
-    let (marked, len) = Encoding::for_bom(bytes)?;
-    if are_same(marked, encoding) {
-        Some((marked, len))
-    } else {
-        None
-    }
-}
-
-/// Returns the encoding and the length of the byte order mark that is looked for, if it is there.
-fn mark_at_start(
-    encoding: Encoding,
-    handling: BomHandling,
-    bytes: &[u8],
-) -> Option<(Encoding, usize)>
-    ensures mark { result ≡ mark_looked_for handling encoding bytes.now }
-    ensures within { IfSome result (λ found. found.1 ≤ length bytes.now) }
-{
-    match handling {
-        BomHandling::Off => None,
-        BomHandling::Sniff => Encoding::for_bom(bytes),
-        BomHandling::Remove => own_mark(encoding, bytes),
-    }
-}
-
-/// Splits off the byte order mark that is looked for.
-///
-/// Returns its encoding and the bytes after it. If there is none, returns the encoding and the
-/// bytes given.
-fn split_mark(encoding: Encoding, handling: BomHandling, bytes: &[u8]) -> (Encoding, &[u8])
-    ensures encoding { result.0 ≡ whole_encoding handling encoding bytes.now }
-    ensures rest { result.1.now ≡ unmarked_bytes handling encoding bytes.now }
-{
-    match mark_at_start(encoding, handling, bytes) {
-        Some((marked, len)) => (marked, &bytes[len..]),
-        None => (encoding, bytes),
-    }
-}
-
-/// Returns the text of a whole input if it is its own text, after the byte order mark that is
-/// looked for.
-pub(crate) fn own_text(encoding: Encoding, handling: BomHandling, bytes: &[u8]) -> Option<&str>
-    ensures own { IsSome result ↔ IsItsOwnText handling encoding bytes.now }
-    ensures bytes { IfSome result (λ text. text.now ≡ unmarked_bytes handling encoding bytes.now) }
-{
-    let (encoding, rest) = split_mark(encoding, handling, bytes);
-    if are_their_own_text(encoding, rest) {
-        return Some(unsafe { str::from_utf8_unchecked(rest) });
+    if are_their_own_text(encoding, bytes) {
+        return Some(unsafe { str::from_utf8_unchecked(bytes) });
     }
     None
+}
+
+/// A whole input, whose start has been searched for a byte order mark.
+#[derive(Clone, Copy)]
+pub(crate) struct WholeInput<'a> {
+    /// The result of the search, and the number of bytes that it is about.
+    pub(crate) sniffed: (Sniffed, usize),
+    /// The encoding that is used.
+    pub(crate) encoding: Encoding,
+    /// The bytes after the byte order mark.
+    pub(crate) rest: &'a [u8],
+}
+
+/// Searches the start of a whole input for the byte order mark that is looked for.
+pub(crate) fn search(encoding: Encoding, handling: BomHandling, bytes: &[u8]) -> WholeInput<'_>
+    ensures within { result.sniffed.1 ≤ length bytes.now }
+    ensures sniffed { IsSniffed (start_life handling encoding.id) bytes.now true result.sniffed.0
+        result.sniffed.1 }
+    ensures encoding { result.encoding ≡ whole_encoding handling encoding bytes.now }
+    ensures rest { result.rest.now ≡ unmarked_bytes handling encoding bytes.now }
+{
+    let sniffed = sniff(first_life(encoding, handling), bytes, true);
+    match sniffed.0 {
+        Sniffed::Mark(marked) => WholeInput {
+            sniffed,
+            encoding: marked,
+            rest: &bytes[sniffed.1..],
+        },
+        Sniffed::Text(_) => WholeInput {
+            sniffed,
+            encoding,
+            rest: bytes,
+        },
+        // nothing follows a whole input
+        Sniffed::Open(_) => unreachable!(),
+    }
 }
 
 /// Returns whether the bytes of a text, in the output encoding, are the text itself.

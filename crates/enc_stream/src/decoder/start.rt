@@ -28,7 +28,7 @@ fn removal_start(id: EncodingId) -> LifeCycle
 }
 
 /// The start of the life cycle of a decoder that looks for the byte order marks of `handling`.
-fn first_life(encoding: Encoding, handling: BomHandling) -> LifeCycle
+pub(crate) fn first_life(encoding: Encoding, handling: BomHandling) -> LifeCycle
     ensures { result ≡ start_life handling encoding.id }
 {
     match handling {

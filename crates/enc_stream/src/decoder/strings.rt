@@ -1,6 +1,6 @@
 //! Decoding into strings: over the text of a str, and at the end of a String.
 
-ghost use Rattle.std.specs.Prelude.{◌≡◌, ◌+◌, ◌-◌, ◌≤◌, false, length, take, drop};
+ghost use Rattle.std.specs.Prelude.{◌≡◌, ◌+◌, ◌-◌, ◌≤◌, true, false, length, take, drop};
 ghost use Rattle.std.specs.Char.{encode_utf8};
 ghost use Rattle.std.specs.String.{string_bytes, string_len, string_capacity};
 ghost use Rattle.std.specs.Str.{IsUtf8};
@@ -9,11 +9,19 @@ ghost use Rattle.enc_output.specs.Rest.{without_continuations};
 ghost use Rattle.enc_output.specs.Results.{decoder_result_of};
 ghost use Rattle.enc_decoder.specs.declared.error_mode.ErrorMode.TheVariants.{Replacement, Fatal};
 ghost use Rattle.enc_decoder.specs.Call.{reaches_end};
-ghost use Rattle.enc_stream.specs.Decoding.{has_finished, LeavesFewerBytes};
+ghost use Rattle.enc_stream.specs.Decoding.{fresh_decoder, has_finished, LeavesFewerBytes};
 ghost use Rattle.enc_stream.specs.Decoding.{AnswersDecode, ReportsBytesSoFar};
+ghost use Rattle.enc_stream.specs.LifeCycle.{start_life};
+ghost use Rattle.enc_stream.specs.Sniffing.{IsSniffed};
 
+use super::start::first_life;
 use super::{Decoder, unreported};
-use enc_decoder::ErrorMode;
+use crate::bom::BomHandling;
+use crate::chunk::decode_sniffed;
+use crate::encoding::{Encoding, codec_of};
+use crate::sniffing::Sniffed;
+use enc_codec::NewDecoder;
+use enc_decoder::{CallOptions, ErrorMode};
 use enc_output::{DecoderResult, StringTail, clear_rest};
 use enc_utf8::CoderResult;
 
@@ -147,6 +155,64 @@ impl Decoder {
         let mut tail = StringTail::new(dst);
         let outcome = self.decode_chunk(src, &mut tail, last, ErrorMode::Replacement);
         (unreported(outcome.result), outcome.read, outcome.replaced)
+    }
+
+    /// Decodes a whole input by one call, and appends its text to a String, with replacement.
+    ///
+    /// The start of the input has been searched for a byte order mark. Returns the decoder after
+    /// the call, and what [`Decoder::decode_to_string`] of a new decoder returns.
+    pub(crate) fn whole_to_string(
+        encoding: Encoding,
+        handling: BomHandling,
+        sniffed: (Sniffed, usize),
+        src: &[u8],
+        dst: &mut String,
+    ) -> (Decoder, CoderResult, usize, bool)
+        requires within { sniffed.1 ≤ length src.now }
+        requires sniffed { IsSniffed (start_life handling encoding.id) src.now true sniffed.0 sniffed.1 }
+        ensures call { AnswersDecode encode_utf8 4 (fresh_decoder handling encoding) result.0
+            (record {
+              src = src.now;
+              last = true;
+              mode = Replacement;
+              room = string_capacity dst.old - string_len dst.old;
+              result = decoder_result_of result.1;
+              read = result.2;
+              wrote = drop (length (string_bytes dst.old)) (string_bytes dst.new);
+              replaced = result.3;
+            }) }
+        ensures read { result.2 ≤ length src.now }
+        ensures appended { take (length (string_bytes dst.old)) (string_bytes dst.new)
+            ≡ string_bytes dst.old }
+    {
+        let mut of_text = encoding;
+        let mut life = first_life(encoding, handling);
+        let mut codec = codec_of(encoding).new_decoder();
+        let mut tail = StringTail::new(dst);
+        let options = CallOptions {
+            last: true,
+            mode: ErrorMode::Replacement,
+        };
+        let outcome = decode_sniffed(
+            &mut of_text,
+            &mut life,
+            &mut codec,
+            sniffed,
+            src,
+            &mut tail,
+            options,
+        );
+        let decoder = Decoder {
+            encoding: of_text,
+            codec,
+            life,
+        };
+        (
+            decoder,
+            unreported(outcome.result),
+            outcome.read,
+            outcome.replaced,
+        )
     }
 
     /// Decodes a chunk of input and appends its text to a String, without replacement.

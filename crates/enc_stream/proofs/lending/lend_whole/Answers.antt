@@ -4,10 +4,12 @@ use Rattle.enc_stream.proofs.lending.lend_whole.Goals as goal
 
 pub returns-in-Some-clause-text : goal.returns-in-Some-clause-text
 returns-in-Some-clause-text c =
-    c.in-Some.ensures.bytes
+    rw c.search-input.ensures.rest at c.in-Some.ensures.bytes
     ∙ whole_own_text c.args.handling c.args.encoding c.args.bytes.now
-    (c.in-Some.ensures.own.0 refl)
+    (rw (c.search-input.ensures.encoding, c.search-input.ensures.rest)
+    at (c.in-Some.ensures.own.0 refl))
 
 pub returns-in-Some-clause-flag : goal.returns-in-Some-clause-flag
 returns-in-Some-clause-flag c =
-    whole_own_valid c.args.handling c.args.encoding c.args.bytes.now (c.in-Some.ensures.own.0 refl)
+    whole_own_valid c.args.handling c.args.encoding c.args.bytes.now (rw (c.search-input.ensures.encoding, c.search-input.ensures.rest)
+    at (c.in-Some.ensures.own.0 refl))

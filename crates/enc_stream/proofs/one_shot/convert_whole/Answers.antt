@@ -28,60 +28,60 @@ returns-then-is_empty-clause-flag c =
 pub returns-in_err-text-clause-too_long :
     goal.returns-in_err-text-clause-too_long
 returns-in_err-text-clause-too_long c = λ too_long.
-    let none : c.max_utf8_buffer_length_without_replacement-length.result ≡ None = search rules in
-    let asked = c.max_utf8_buffer_length_without_replacement-length.ensures.length in
-    inl (sym (rw c.start-decoder.ensures at asked) ∙ none)
+    let none : c.whole_length-length.result ≡ None = search rules in
+    let asked = c.whole_length-length.ensures in
+    inl (sym asked ∙ none)
 
 pub returns-in_err-text-clause-memory : goal.returns-in_err-text-clause-memory
 returns-in_err-text-clause-memory c = λ memory.
-    asks_for_memory c.start-decoder.ensures
-    c.max_utf8_buffer_length_without_replacement-length.ensures.length c.if-is_empty.ensures
+    asks_for_memory refl
+    c.whole_length-length.ensures c.if-is_empty.ensures
     (search rules)
 
 pub returns-then-eq-clause-text : goal.returns-then-eq-clause-text
 returns-then-eq-clause-text c =
-    let decodes = c.decode_to_string-stop.ensures.call.decodes in
-    let at_end : c.decode_to_string-stop.result.0 ≡ InputEmpty = search rules in
+    let decodes = c.whole_to_string-decoder.ensures.call.decodes in
+    let at_end : c.whole_to_string-decoder.result.1 ≡ InputEmpty = search rules in
     let decoded =
-    next_call _ (none_so_far c.start-decoder.ensures c.in_ok-text.ensures.bytes) refl refl
-    decodes c.decode_to_string-stop.ensures.appended in
+    next_call _ (none_so_far refl c.in_ok-text.ensures.bytes) refl refl
+    decodes c.whole_to_string-decoder.ensures.appended in
     whole_text decoded (rw at_end at decodes.finished)
 
 pub returns-then-eq-clause-flag : goal.returns-then-eq-clause-flag
 returns-then-eq-clause-flag c =
-    let decodes = c.decode_to_string-stop.ensures.call.decodes in
-    let at_end : c.decode_to_string-stop.result.0 ≡ InputEmpty = search rules in
+    let decodes = c.whole_to_string-decoder.ensures.call.decodes in
+    let at_end : c.whole_to_string-decoder.result.1 ≡ InputEmpty = search rules in
     let decoded =
-    next_call _ (none_so_far c.start-decoder.ensures c.in_ok-text.ensures.bytes) refl refl
-    decodes c.decode_to_string-stop.ensures.appended in
+    next_call _ (none_so_far refl c.in_ok-text.ensures.bytes) refl refl
+    decodes c.whole_to_string-decoder.ensures.appended in
     whole_flag decoded (rw at_end at decodes.finished)
 
 pub max_utf8_buffer_length-length-requires : goal.max_utf8_buffer_length-length-requires
 max_utf8_buffer_length-length-requires c =
-    let goes_on : ¬ (c.decode_to_string-stop.result.0 ≡ InputEmpty) = search rules in
-    record { unfinished = still_open _ c.decode_to_string-stop.ensures.call.decodes goes_on }
+    let goes_on : ¬ (c.whole_to_string-decoder.result.1 ≡ InputEmpty) = search rules in
+    record { unfinished = still_open _ c.whole_to_string-decoder.ensures.call.decodes goes_on }
 
 pub returns-in_err-make_room-clause-too_long : goal.returns-in_err-make_room-clause-too_long
 returns-in_err-make_room-clause-too_long c =
-    let goes_on : ¬ (c.decode_to_string-stop.result.0 ≡ InputEmpty) = search rules in
+    let goes_on : ¬ (c.whole_to_string-decoder.result.1 ≡ InputEmpty) = search rules in
     let none : string_bytes c.in_ok-text.text ≡ [] = c.in_ok-text.ensures.bytes in
     λ too_long. inr (
-    too_long_after c.start-decoder.ensures
-    c.max_utf8_buffer_length_without_replacement-length.ensures.length
-    c.in_ok-text.ensures.room _ goes_on c.decode_to_string-stop.ensures.call
+    too_long_after refl
+    c.whole_length-length.ensures
+    c.in_ok-text.ensures.room _ goes_on c.whole_to_string-decoder.ensures.call
     (rw (none, ← c.split_at.ensures.back) (search rules))
     )
 
 pub returns-in_err-make_room-clause-memory : goal.returns-in_err-make_room-clause-memory
 returns-in_err-make_room-clause-memory c = λ memory.
-    asks_for_memory c.start-decoder.ensures
-    c.max_utf8_buffer_length_without_replacement-length.ensures.length c.if-is_empty.ensures
+    asks_for_memory refl
+    c.whole_length-length.ensures c.if-is_empty.ensures
     (there_is_a_length _ _ c.in_ok-text.ensures.room)
 
 pub decode_to_string-requires : goal.decode_to_string-requires
 decode_to_string-requires c =
-    let goes_on : ¬ (c.decode_to_string-stop.result.0 ≡ InputEmpty) = search rules in
-    record { unfinished = still_open _ c.decode_to_string-stop.ensures.call.decodes goes_on }
+    let goes_on : ¬ (c.whole_to_string-decoder.result.1 ≡ InputEmpty) = search rules in
+    record { unfinished = still_open _ c.whole_to_string-decoder.ensures.call.decodes goes_on }
 
 pub unreachable-requires : goal.unreachable-requires
 unreachable-requires c =
@@ -94,10 +94,10 @@ unreachable-requires c =
 
 pub returns-clause-text : goal.returns-clause-text
 returns-clause-text c =
-    let decodes = c.decode_to_string-stop.ensures.call.decodes in
+    let decodes = c.whole_to_string-decoder.ensures.call.decodes in
     let first =
-    next_call _ (none_so_far c.start-decoder.ensures c.in_ok-text.ensures.bytes) refl refl
-    decodes c.decode_to_string-stop.ensures.appended in
+    next_call _ (none_so_far refl c.in_ok-text.ensures.bytes) refl refl
+    decodes c.whole_to_string-decoder.ensures.appended in
     let decodes_rest = c.decode_to_string.ensures.call.decodes in
     let both =
     next_call _ first c.split_at.ensures.back c.in_ok-make_room.ensures.bytes decodes_rest
@@ -106,10 +106,10 @@ returns-clause-text c =
 
 pub returns-clause-flag : goal.returns-clause-flag
 returns-clause-flag c =
-    let decodes = c.decode_to_string-stop.ensures.call.decodes in
+    let decodes = c.whole_to_string-decoder.ensures.call.decodes in
     let first =
-    next_call _ (none_so_far c.start-decoder.ensures c.in_ok-text.ensures.bytes) refl refl
-    decodes c.decode_to_string-stop.ensures.appended in
+    next_call _ (none_so_far refl c.in_ok-text.ensures.bytes) refl refl
+    decodes c.whole_to_string-decoder.ensures.appended in
     let decodes_rest = c.decode_to_string.ensures.call.decodes in
     let both =
     next_call _ first c.split_at.ensures.back c.in_ok-make_room.ensures.bytes decodes_rest

@@ -3,5 +3,5 @@ use Rattle.enc_stream.proofs.own_text.own_text.Goals as goal
 
 pub from_utf8_unchecked-requires : goal.from_utf8_unchecked-requires
 from_utf8_unchecked-requires c =
-    own_utf_8 c.split_mark.result.0 c.split_mark.result.1.now
+    own_utf_8 c.args.encoding c.args.bytes.now
     (c.are_their_own_text.ensures.0 c.if-are_their_own_text.true)

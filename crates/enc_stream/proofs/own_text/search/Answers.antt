@@ -1,0 +1,34 @@
+use Rattle.std.proofs.Common.{◌-◌, ◌∙◌, length, drop, arith, length-drop, true≢false}
+use Rattle.std.proofs.lemmas.List.{take_all}
+use Rattle.enc_stream.proofs.WholeInputMark.{without_mark, after_mark}
+use Rattle.enc_stream.proofs.own_text.search.Goals as goal
+
+pub returns-in-Mark : goal.returns-in-Mark
+returns-in-Mark c =
+    let bytes = c.args.bytes.now in
+    let n = c.sniff-sniffed.result.1 in
+    let found = after_mark c.args.handling c.args.encoding bytes n c.in-Mark.marked
+    c.sniff-sniffed.ensures.within
+    (rw (c.first_life.ensures, c.in-Mark.is) at c.sniff-sniffed.ensures.sniffed) in
+    record {
+      within = c.sniff-sniffed.ensures.within;
+      sniffed = rw c.first_life.ensures at c.sniff-sniffed.ensures.sniffed;
+      encoding = found.0;
+      rest = take_all (length bytes - n) (drop n bytes) (omega (arith, length-drop n bytes)) ∙ found.1;
+    }
+
+pub returns-in-Text : goal.returns-in-Text
+returns-in-Text c =
+    let sniffed = rw (c.first_life.ensures, c.in-Text.is) at c.sniff-sniffed.ensures.sniffed in
+    let none = without_mark c.args.handling c.args.encoding c.args.bytes.now
+    c.sniff-sniffed.result.1 _ sniffed.0 sniffed.1 in
+    record {
+      within = c.sniff-sniffed.ensures.within;
+      sniffed = rw c.first_life.ensures at c.sniff-sniffed.ensures.sniffed;
+      encoding = none.0;
+      rest = none.1;
+    }
+
+pub unreachable-requires : goal.unreachable-requires
+unreachable-requires c =
+    true≢false (rw c.in-Open.is at c.sniff-sniffed.ensures.sniffed).1
