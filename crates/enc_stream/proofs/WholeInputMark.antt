@@ -24,30 +24,31 @@ none_found life now x (b ∷ z) none_held extends no_mark =
     let held : x ≡ held_mark_bytes now = rw none_held at extends.held in
     rw held (found_later life now extends (b ∷ z) ∙ (no_mark.rules_out b z refl).no_mark z)
 
-module _ (handling : BomHandling) (e : Encoding) (bytes : List ℕ) (n : ℕ) where
+module _ (handling : BomHandling) (e : Encoding) (bytes : List ℕ) (len : ℕ) where
   -- no mark
-  pub without_mark : (now : LifeCycle) → ExtendsHeldMark (start_life handling e.id) now (take n bytes)
-      → HasNoMark now (drop n bytes) true
+  pub without_mark : (now : LifeCycle)
+      → ExtendsHeldMark (start_life handling e.id) now (take len bytes)
+      → HasNoMark now (drop len bytes) true
       → (e ≡ whole_encoding handling e bytes) × (bytes ≡ unmarked_bytes handling e bytes)
   without_mark now extends no_mark =
       let at_start = starts handling e in
       let none : find_mark (marks_looked_for handling e) bytes ≡ None =
       rw (at_start.marks, take-append-drop) at
-      (none_found _ now (take n bytes) (drop n bytes) at_start.none_held extends no_mark) in
+      (none_found _ now (take len bytes) (drop len bytes) at_start.none_held extends no_mark) in
       rw none (refl, refl)
 
   -- the mark of the encoding `to`
-  pub after_mark : (to : Encoding) → n ≤ length bytes
-      → CompletesMark (start_life handling e.id) (take n bytes) to
-      → (to ≡ whole_encoding handling e bytes) × (drop n bytes ≡ unmarked_bytes handling e bytes)
+  pub after_mark : (to : Encoding) → len ≤ length bytes
+      → CompletesMark (start_life handling e.id) (take len bytes) to
+      → (to ≡ whole_encoding handling e bytes) × (drop len bytes ≡ unmarked_bytes handling e bytes)
   after_mark to within completes =
       let at_start = starts handling e in
-      let whole : take n bytes ≡ completes.mark.bytes =
+      let whole : take len bytes ≡ completes.mark.bytes =
       rw at_start.none_held at completes.whole in
       let found : find_mark (marks_looked_for handling e) bytes ≡ Some completes.mark =
       subst (λ x. find_mark (marks_looked_for handling e) x ≡ Some completes.mark)
-      (ap (λ x. x ++ drop n bytes) (sym whole) ∙ take-append-drop n bytes)
-      (rw at_start.marks at (completes.found (drop n bytes))) in
-      let len : length completes.mark.bytes ≡ n =
-      omega (arith, ap length whole, length-take n bytes, within) in
-      rw (found, len) (sym completes.is_encoding, refl)
+      (ap (λ x. x ++ drop len bytes) (sym whole) ∙ take-append-drop len bytes)
+      (rw at_start.marks at (completes.found (drop len bytes))) in
+      let same_len : length completes.mark.bytes ≡ len =
+      omega (arith, ap length whole, length-take len bytes, within) in
+      rw (found, same_len) (sym completes.is_encoding, refl)

@@ -3,6 +3,7 @@ pub mod Bom
 pub mod Decoding
 pub mod LifeCycle
 pub mod Sniffing
+pub mod Parts
 pub mod Division
 pub mod Faults
 pub mod MarkLaws

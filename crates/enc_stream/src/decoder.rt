@@ -15,15 +15,12 @@ mod queries;
 mod start;
 mod strings;
 
-use crate::chunk::decode_sniffed;
-use crate::encoding::Encoding;
-use crate::life_cycle::LifeCycle;
+use crate::parts::DecoderParts;
 use crate::sniffing::sniff;
-use enc_codec::VariantDecoder;
 use enc_decoder::{CallOptions, DecoderOutcome, ErrorMode};
 use enc_output::{DecoderResult, Units, Utf8Slice, Utf16Slice};
 use enc_utf8::CoderResult;
-pub(crate) use start::{first_life, whole_length};
+pub(crate) use start::whole_length;
 use std::fmt;
 use std::marker::Model;
 
@@ -38,29 +35,25 @@ use std::marker::Model;
 /// there and report it.
 #[derive(Drop)]
 pub struct Decoder {
-    encoding: Encoding,
-    codec: VariantDecoder,
-    life: LifeCycle,
+    parts: DecoderParts,
 }
 
 impl Model for Decoder {
     ghost use Rattle.enc_stream.specs.Decoding.{DecoderState};
-    ghost use Rattle.enc_stream.specs.LifeCycle.{decoder_state_of, HasCodecOf, HasFormulasOf};
-    ghost use Rattle.enc_codec.specs.Variant.{variant_decoder_state, variant_decoder_lengths};
+    ghost use Rattle.enc_stream.specs.Parts.{state_of_parts, AreParts};
 
     ghost Value = { DecoderState };
 
-    ghost view = { λ d. decoder_state_of d.encoding d.life (variant_decoder_state d.codec) };
+    ghost view = { λ d. state_of_parts d.parts };
 
-    ghost invariant = { λ d. HasCodecOf d.encoding d.life (variant_decoder_state d.codec)
-        × HasFormulasOf d.encoding (variant_decoder_lengths d.codec) };
+    ghost invariant = { λ d. AreParts d.parts };
 }
 
 impl fmt::Debug for Decoder {
     /// Writes the encoding, and whether the decoder is finished.
     fn fmt<W: fmt::Write>(&self, f: &mut fmt::Formatter<W>) -> fmt::Result {
         f.debug_struct("Decoder")
-            .field("encoding", &self.encoding)
+            .field("encoding", &self.parts.encoding)
             .field("finished", &self.is_finished())
             .finish()
     }
@@ -95,16 +88,9 @@ impl Decoder {
             (call_into src.now (record { last = last; mode = mode }) (U.output out.old)
             (U.output out.new) result) }
     {
-        let sniffed = sniff(self.life, src, last);
-        decode_sniffed(
-            &mut self.encoding,
-            &mut self.life,
-            &mut self.codec,
-            sniffed,
-            src,
-            out,
-            CallOptions { last, mode },
-        )
+        let sniffed = sniff(self.parts.life, src, last);
+        self.parts
+            .decode_sniffed(sniffed, src, out, CallOptions { last, mode })
     }
 
     /// Decodes a chunk of input into UTF-8, with replacement.

@@ -9,7 +9,6 @@
 #![tactic(auto)]
 
 mod bom;
-mod chunk;
 pub mod constants;
 mod decoder;
 mod encoder;
@@ -24,6 +23,7 @@ mod numbers;
 mod one_shot;
 mod one_shot_error;
 mod own_text;
+mod parts;
 mod properties;
 mod sniffing;
 mod table_laws;

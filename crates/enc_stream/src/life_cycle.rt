@@ -2,11 +2,14 @@
 //! "decode").
 
 ghost use Rattle.std.specs.Prelude.{◌≡◌, if◌then◌else◌};
-ghost use Rattle.enc_stream.specs.LifeCycle.{awaits_mark as awaits, held_mark_bytes};
+ghost use Rattle.enc_stream.specs.declared.bom.BomHandling.TheVariants as handling;
+ghost use Rattle.enc_stream.specs.LifeCycle.{awaits_mark as awaits, held_mark_bytes, start_life};
 ghost use Rattle.enc_stream.specs.Sniffing.{IsMarkByte};
 
+use crate::bom::BomHandling;
 use crate::constants::{UTF_8, UTF_16BE, UTF_16LE};
 use crate::encoding::Encoding;
+use enc_names::EncodingId;
 
 /// Where a decoder is in its life cycle.
 #[derive(Clone, Copy)]
@@ -122,5 +125,28 @@ impl LifeCycle {
             LifeCycle::Converting => MarkByte::RulesOut,
             LifeCycle::Finished => MarkByte::RulesOut,
         }
+    }
+}
+
+/// The start of the life cycle of a decoder that removes the byte order mark of its own encoding.
+fn removal_start(id: EncodingId) -> LifeCycle
+    ensures { result ≡ start_life handling.Remove id }
+{
+    match id {
+        EncodingId::Utf8 => LifeCycle::AtUtf8Start,
+        EncodingId::Utf16be => LifeCycle::AtUtf16BeStart,
+        EncodingId::Utf16le => LifeCycle::AtUtf16LeStart,
+        _ => LifeCycle::Converting,
+    }
+}
+
+/// The start of the life cycle of a decoder that looks for the byte order marks of `handling`.
+pub(crate) fn first_life(encoding: Encoding, handling: BomHandling) -> LifeCycle
+    ensures { result ≡ start_life handling encoding.id }
+{
+    match handling {
+        BomHandling::Off => LifeCycle::Converting,
+        BomHandling::Sniff => LifeCycle::AtStart,
+        BomHandling::Remove => removal_start(encoding.id),
     }
 }

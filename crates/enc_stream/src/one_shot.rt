@@ -107,8 +107,9 @@ fn make_byte_room(bytes: &mut Vec<u8>, length: Option<usize>) -> Result<(), OneS
 
 /// Decodes a whole input by calls of a decoder, with U+FFFD for each malformed sequence.
 ///
-/// `sniffed` is the result of the search for a byte order mark at its start. One call is enough if nothing is malformed. Otherwise a second call may follow, after a growth
-/// for the rest of the input.
+/// `sniffed` is the result of the search for a byte order mark at its start. One call is enough if
+/// nothing is malformed. Otherwise a second call may follow, after a growth for the rest of the
+/// input.
 pub(crate) fn convert_whole(
     alloc: Global,
     encoding: Encoding,
@@ -117,7 +118,8 @@ pub(crate) fn convert_whole(
     bytes: &[u8],
 ) -> Result<(String, bool), OneShotError>
     requires within { sniffed.1 ≤ length bytes.now }
-    requires sniffed { IsSniffed (start_life handling encoding.id) bytes.now true sniffed.0 sniffed.1 }
+    requires sniffed { IsSniffed (start_life handling encoding.id) bytes.now true sniffed.0
+        sniffed.1 }
     ensures text { IfOk result (λ answer.
         string_bytes answer.0 ≡ whole_utf_8 handling encoding bytes.now) }
     ensures flag { IfOk result (λ answer. answer.1 ≡ whole_malformed handling encoding bytes.now) }

@@ -9,8 +9,8 @@ ghost use Rattle.enc_stream.specs.Sniffing.{IsSniffed};
 
 use crate::bom::BomHandling;
 use crate::constants::{ISO_2022_JP, UTF_8};
-use crate::decoder::first_life;
 use crate::encoding::Encoding;
+use crate::life_cycle::first_life;
 use crate::sniffing::{Sniffed, sniff};
 use enc_utf8::{ascii_valid_up_to, iso_2022_jp_ascii_valid_up_to, utf8_valid_up_to};
 

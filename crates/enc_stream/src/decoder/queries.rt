@@ -21,7 +21,7 @@ impl Decoder {
     pub fn encoding(&self) -> Encoding
         ensures { result ≡ self.now.encoding }
     {
-        self.encoding
+        self.parts.encoding
     }
 
     /// Returns whether a call with `last` has returned `InputEmpty`.
@@ -30,7 +30,7 @@ impl Decoder {
     pub fn is_finished(&self) -> bool
         ensures { result ≡ has_finished self.now }
     {
-        match self.life {
+        match self.parts.life {
             LifeCycle::Finished => true,
             _ => false,
         }
@@ -42,8 +42,13 @@ impl Decoder {
         ensures enough { IfSome result (λ room. (mode : ErrorMode) → IsForMode query mode
             → IsEnoughRoom (query_units query) mode self.now byte_length room) }
     {
-        let formulas = self.codec.text_lengths();
-        query.max_length(self.life, formulas, byte_length, self.codec.held())
+        let formulas = self.parts.codec.text_lengths();
+        query.max_length(
+            self.parts.life,
+            formulas,
+            byte_length,
+            self.parts.codec.held(),
+        )
     }
 
     /// Returns the length in bytes to allocate for UTF-8, with replacement.
@@ -111,8 +116,8 @@ impl Decoder {
     pub fn latin1_byte_compatible_up_to(&self, bytes: &[u8]) -> Option<usize>
         ensures { AnswersDecoderLatin1 self.now bytes.now result }
     {
-        match self.life {
-            LifeCycle::Converting => self.codec.latin1_byte_compatible_up_to(bytes),
+        match self.parts.life {
+            LifeCycle::Converting => self.parts.codec.latin1_byte_compatible_up_to(bytes),
             _ => None,
         }
     }

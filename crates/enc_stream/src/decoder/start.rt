@@ -5,38 +5,14 @@ ghost use Rattle.enc_stream.specs.declared.bom.BomHandling.TheVariants as handli
 ghost use Rattle.enc_stream.specs.declared.lengths.Query.TheVariants as query;
 ghost use Rattle.enc_stream.specs.Lengths.{max_length};
 ghost use Rattle.enc_stream.specs.Decoding.{fresh_decoder};
-ghost use Rattle.enc_stream.specs.LifeCycle.{start_life};
 
 use super::Decoder;
 use crate::bom::BomHandling;
 use crate::encoding::{Encoding, codec_of};
 use crate::lengths::Query;
-use crate::life_cycle::LifeCycle;
-use enc_codec::{NewDecoder, RawDecoder};
-use enc_names::EncodingId;
-
-/// The start of the life cycle of a decoder that removes the byte order mark of its own encoding.
-fn removal_start(id: EncodingId) -> LifeCycle
-    ensures { result ≡ start_life handling.Remove id }
-{
-    match id {
-        EncodingId::Utf8 => LifeCycle::AtUtf8Start,
-        EncodingId::Utf16be => LifeCycle::AtUtf16BeStart,
-        EncodingId::Utf16le => LifeCycle::AtUtf16LeStart,
-        _ => LifeCycle::Converting,
-    }
-}
-
-/// The start of the life cycle of a decoder that looks for the byte order marks of `handling`.
-pub(crate) fn first_life(encoding: Encoding, handling: BomHandling) -> LifeCycle
-    ensures { result ≡ start_life handling encoding.id }
-{
-    match handling {
-        BomHandling::Off => LifeCycle::Converting,
-        BomHandling::Sniff => LifeCycle::AtStart,
-        BomHandling::Remove => removal_start(encoding.id),
-    }
-}
+use crate::life_cycle::first_life;
+use crate::parts::DecoderParts;
+use enc_codec::NewDecoder;
 
 /// Returns the length in bytes to allocate for the UTF-8 of a whole input, without replacement.
 ///
@@ -100,9 +76,7 @@ impl Decoder {
         ensures { result ≡ fresh_decoder handling encoding }
     {
         Decoder {
-            encoding,
-            codec: codec_of(encoding).new_decoder(),
-            life: first_life(encoding, handling),
+            parts: DecoderParts::start(encoding, handling),
         }
     }
 }

@@ -14,13 +14,11 @@ ghost use Rattle.enc_stream.specs.Decoding.{AnswersDecode, ReportsBytesSoFar};
 ghost use Rattle.enc_stream.specs.LifeCycle.{start_life};
 ghost use Rattle.enc_stream.specs.Sniffing.{IsSniffed};
 
-use super::start::first_life;
 use super::{Decoder, unreported};
 use crate::bom::BomHandling;
-use crate::chunk::decode_sniffed;
-use crate::encoding::{Encoding, codec_of};
+use crate::encoding::Encoding;
+use crate::parts::DecoderParts;
 use crate::sniffing::Sniffed;
-use enc_codec::NewDecoder;
 use enc_decoder::{CallOptions, ErrorMode};
 use enc_output::{DecoderResult, StringTail, clear_rest};
 use enc_utf8::CoderResult;
@@ -169,7 +167,8 @@ impl Decoder {
         dst: &mut String,
     ) -> (Decoder, CoderResult, usize, bool)
         requires within { sniffed.1 ≤ length src.now }
-        requires sniffed { IsSniffed (start_life handling encoding.id) src.now true sniffed.0 sniffed.1 }
+        requires sniffed { IsSniffed (start_life handling encoding.id) src.now true sniffed.0
+            sniffed.1 }
         ensures call { AnswersDecode encode_utf8 4 (fresh_decoder handling encoding) result.0
             (record {
               src = src.now;
@@ -185,30 +184,15 @@ impl Decoder {
         ensures appended { take (length (string_bytes dst.old)) (string_bytes dst.new)
             ≡ string_bytes dst.old }
     {
-        let mut of_text = encoding;
-        let mut life = first_life(encoding, handling);
-        let mut codec = codec_of(encoding).new_decoder();
+        let mut parts = DecoderParts::start(encoding, handling);
         let mut tail = StringTail::new(dst);
         let options = CallOptions {
             last: true,
             mode: ErrorMode::Replacement,
         };
-        let outcome = decode_sniffed(
-            &mut of_text,
-            &mut life,
-            &mut codec,
-            sniffed,
-            src,
-            &mut tail,
-            options,
-        );
-        let decoder = Decoder {
-            encoding: of_text,
-            codec,
-            life,
-        };
+        let outcome = parts.decode_sniffed(sniffed, src, &mut tail, options);
         (
-            decoder,
+            Decoder { parts },
             unreported(outcome.result),
             outcome.read,
             outcome.replaced,

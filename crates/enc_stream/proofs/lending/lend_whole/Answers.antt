@@ -11,5 +11,6 @@ returns-in-Some-clause-text c =
 
 pub returns-in-Some-clause-flag : goal.returns-in-Some-clause-flag
 returns-in-Some-clause-flag c =
-    whole_own_valid c.args.handling c.args.encoding c.args.bytes.now (rw (c.search-input.ensures.encoding, c.search-input.ensures.rest)
+    whole_own_valid c.args.handling c.args.encoding c.args.bytes.now
+    (rw (c.search-input.ensures.encoding, c.search-input.ensures.rest)
     at (c.in-Some.ensures.own.0 refl))

@@ -6,15 +6,16 @@ use Rattle.enc_stream.proofs.own_text.search.Goals as goal
 pub returns-in-Mark : goal.returns-in-Mark
 returns-in-Mark c =
     let bytes = c.args.bytes.now in
-    let n = c.sniff-sniffed.result.1 in
-    let found = after_mark c.args.handling c.args.encoding bytes n c.in-Mark.marked
+    let len = c.sniff-sniffed.result.1 in
+    let found = after_mark c.args.handling c.args.encoding bytes len c.in-Mark.marked
     c.sniff-sniffed.ensures.within
     (rw (c.first_life.ensures, c.in-Mark.is) at c.sniff-sniffed.ensures.sniffed) in
     record {
       within = c.sniff-sniffed.ensures.within;
       sniffed = rw c.first_life.ensures at c.sniff-sniffed.ensures.sniffed;
       encoding = found.0;
-      rest = take_all (length bytes - n) (drop n bytes) (omega (arith, length-drop n bytes)) ∙ found.1;
+      rest = take_all (length bytes - len) (drop len bytes)
+          (omega (arith, length-drop len bytes)) ∙ found.1;
     }
 
 pub returns-in-Text : goal.returns-in-Text

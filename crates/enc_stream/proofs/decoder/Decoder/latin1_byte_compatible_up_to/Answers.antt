@@ -10,4 +10,5 @@ returns-in-Converting c =
 
 pub returns-in_default : goal.returns-in_default
 returns-in_default c = rw (← c.self.view_is) (λ m.
-    c.in_default.not-Converting (only_converting _ _ (variant_decoder_state c.self.inside.codec) m))
+    c.in_default.not-Converting
+    (only_converting _ _ (variant_decoder_state c.self.inside.parts.codec) m))

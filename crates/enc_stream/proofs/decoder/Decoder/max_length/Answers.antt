@@ -7,7 +7,7 @@ use Rattle.enc_stream.proofs.EnoughLemmas.{room_is_enough}
 
 pub returns-clause-enough : goal.returns-clause-enough
 returns-clause-enough c =
-    let decoder = c.self.inside in
+    let decoder = c.self.inside.parts in
     let kept = c.self.invariant in
     let are_enough =
     subst (λ (f : TextLengths). AreEnoughForCodec f (variant_decoder_state decoder.codec))

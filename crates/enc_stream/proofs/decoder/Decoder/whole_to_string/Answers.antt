@@ -4,20 +4,15 @@ use Rattle.enc_output.specs.Output.{Output}
 use Rattle.enc_stream.proofs.AppendedOutputLemmas.{over_text, reports_none, in_front}
 use Rattle.enc_stream.proofs.OutputFullLemmas.{four_bytes}
 use Rattle.enc_stream.proofs.LifeCycleLemmas.{starts}
-use Rattle.enc_stream.proofs.StartLemmas.{is_fresh, holds_at_start}
 use Rattle.enc_stream.proofs.decoder.Decoder.whole_to_string.Goals as goal
 
 pub decode_sniffed-outcome-requires : goal.decode_sniffed-outcome-requires
-decode_sniffed-outcome-requires c =
-    let holds = holds_at_start c.args.handling c.args.encoding c.first_life-life.ensures
-    c.codec_of.ensures c.new_decoder-codec.ensures.state c.new_decoder-codec.ensures.lengths in
-    record {
-      unfinished = rw c.first_life-life.ensures (starts c.args.handling c.args.encoding).going;
-      codec = holds.0;
-      formulas = holds.1;
-      within = c.requires.within;
-      sniffed = rw c.first_life-life.ensures c.requires.sniffed;
-    }
+decode_sniffed-outcome-requires c = record {
+  unfinished = rw c.start-parts.ensures.life (starts c.args.handling c.args.encoding).going;
+  parts = c.start-parts.ensures.parts;
+  within = c.requires.within;
+  sniffed = rw c.start-parts.ensures.life c.requires.sniffed;
+}
 
 pub unreported-requires : goal.unreported-requires
 unreported-requires c =
@@ -25,10 +20,10 @@ unreported-requires c =
 
 pub returns-clause-call : goal.returns-clause-call
 returns-clause-call c =
-    let call = rw (is_fresh c.args.handling c.args.encoding c.first_life-life.ensures
-    c.new_decoder-codec.ensures.state) at c.decode_sniffed-outcome.ensures.call in
+    let call = rw c.start-parts.ensures.state at c.decode_sniffed-outcome.ensures.call in
     rw c.unreported.ensures (over_text {text = string_bytes c.args.dst.now} four_bytes
-    call (rw c.new-tail.ensures.now refl) refl (rw c.new-tail.ensures.room refl) (search rules) refl)
+    call (rw c.new-tail.ensures.now refl) refl (rw c.new-tail.ensures.room refl) (search rules)
+    refl)
 
 pub returns-clause-read : goal.returns-clause-read
 returns-clause-read c = (returns-clause-call c).decodes.call.within
