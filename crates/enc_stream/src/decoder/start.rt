@@ -17,6 +17,7 @@ use enc_codec::NewDecoder;
 /// Returns the length in bytes to allocate for the UTF-8 of a whole input, without replacement.
 ///
 /// It is that of a decoder at the start, which it does not make.
+#[inline(always)]
 pub(crate) fn whole_length(
     encoding: Encoding,
     handling: BomHandling,
