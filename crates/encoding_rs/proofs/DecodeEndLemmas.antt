@@ -14,7 +14,8 @@ use Rattle.encoding_rs.specs.DecodeEnd.{most_units, CanDecodeMore}
 use Rattle.enc_decoder.specs.Call.{decode_error_mode}
 use Rattle.enc_stream.proofs.DecoderProgressLemmas.{nearer}
 use Rattle.enc_stream.proofs.OutputFullLemmas.{four_bytes, two_units}
-use Rattle.encoding_rs.proofs.RunLemmas.{IsRun, ends_within}
+use Rattle.encoding_rs.specs.Runs.{IsRun}
+use Rattle.encoding_rs.proofs.RunLemmas.{ends_within}
 
 small_by : (utf16 : Bool) → TakesSmallTexts (units_of_call utf16) (most_units utf16)
 small_by true = two_units

@@ -1,6 +1,6 @@
 -- A run of a decoder does the sequences of the whole input, from the first on.
-use Rattle.std.proofs.Common.{◌≡◌, ℕ, ◌+◌, ◌-◌, ◌≤◌, Bool, true, false, true≢false, List, [], ◌∷◌, ◌++◌, map, length}
-use Rattle.std.proofs.Common.{take, drop, refl, ap, ◌∙◌, sym, arith, append_assoc, ◌||◌, subst, nat_le, append-nil}
+use Rattle.std.proofs.Common.{◌≡◌, ℕ, ◌+◌, ◌-◌, ◌≤◌, Bool, true, false, true≢false, List, [], ◌∷◌, ◌++◌, length}
+use Rattle.std.proofs.Common.{take, drop, refl, ap, ◌∙◌, sym, arith, append_assoc, ◌||◌, nat_le, append-nil}
 use Rattle.std.proofs.lemmas.Bool.{leb-true}
 use Rattle.std.proofs.lemmas.List.{take-append-drop, drop-append-le, drop-drop, length-append}
 use Rattle.std.proofs.Math.ListN.{drop_of_length-le, length-drop, length-take}
@@ -20,8 +20,7 @@ use Rattle.enc_stream.specs.Decoding.{has_finished, remaining_sequences, decoder
 use Rattle.enc_stream.specs.Decoding.{whole_sequences, whole_encoding, whole_utf_8, whole_malformed, marks_after}
 use Rattle.encoding_rs.specs.Run.{units_of_call, is_malformed_result, replacement_text, fault_of_result}
 use Rattle.encoding_rs.specs.Run.{DecodeRunState, DecodeRunAdvances, IsDecodeRun, decode_run_start}
-use Rattle.encoding_rs.specs.Run.{DecodeRunPart, sequences_of_parts}
-use Rattle.encoding_rs.specs.Run.{reported_faults_from, all_report_malformed, HasRunDecoding}
+use Rattle.encoding_rs.specs.Run.{all_report_malformed, HasRunDecoding}
 use Rattle.enc_decoder.proofs.SequenceLemmas.{sequence_bytes-append, sequence_bytes-one, sequence_text-append}
 use Rattle.enc_decoder.proofs.SequenceLemmas.{any_malformed-append, any_malformed-one, or_false, or_assoc}
 use Rattle.enc_decoder.proofs.SequenceLemmas.{units-append, units_of_text-append}
@@ -32,9 +31,10 @@ use Rattle.enc_stream.proofs.DecoderProgressLemmas.{ends_read}
 use Rattle.enc_stream.proofs.WholeEncodingLemmas.{encoding_ahead, still_ahead}
 use Rattle.encoding_rs.proofs.DecodeCallLemmas.{determined_by}
 use Rattle.enc_stream.specs.Faults.{faults_from, whole_faults}
-use Rattle.enc_stream.proofs.FaultLemmas.{no_faults, last_fault}
-use Rattle.encoding_rs.proofs.FaultPlaceLemmas.{all_reported}
-use Rattle.encoding_rs.proofs.RunLemmas.{IsRun}
+use Rattle.enc_stream.proofs.FaultLemmas.{no_faults, last_fault, faults-append}
+use Rattle.encoding_rs.specs.Runs.{done_of_parts, reported_from}
+use Rattle.encoding_rs.proofs.RunParts.{DoesParts, parts_of, modes_of, takes_parts, reports_parts}
+use Rattle.encoding_rs.proofs.RunParts.{adds_up, all_reported}
 
 -- the sequences still to come in a run
 abbrev pub remaining_in_run : List ℕ → DecodeRunState → List Sequence
@@ -262,94 +262,63 @@ module _ {handling : BomHandling} {e : Encoding} {bytes : List ℕ} {made : Deco
       ∙ ap (λ b. old.had_errors || (b || is_malformed_result advances.result)) decodes.call.flag
       ∙ ap (λ b. old.had_errors || b) (sym (flag_by advances.result decodes.call.stops))
 
--- A run does these parts of the sequences to come, one a call.
-pub record DoesParts (bytes : List ℕ) (calls : List DecodeCall)
-    (old new : DecodeRunState) : Type 0 where
-  pub parts : List DecodeRunPart
-  pub takes_first : remaining_in_run bytes old
-      ≡ sequences_of_parts parts ++ remaining_in_run bytes new
-  pub calls_are : map (λ (p : DecodeRunPart). p.replaces) parts
-      ≡ map (λ (c : DecodeCall). c.replace) calls
-  pub text : new.text
-      ≡ old.text ++ units_of_text encode_utf8 (sequence_text (sequences_of_parts parts))
-  pub faults : new.faults ≡ old.faults ++ reported_faults_from (next_offset bytes old) parts
-  pub flag : new.had_errors ≡ (old.had_errors || any_malformed (sequences_of_parts parts))
-
-pub does_parts : {handling : BomHandling} {e : Encoding} {bytes : List ℕ} (calls : List DecodeCall)
-    {old new : DecodeRunState} → IsInInput handling e bytes old
-    → IsRun (DecodeRunAdvances bytes) calls old new → DoesParts bytes calls old new
-does_parts {bytes = bytes} [] {old = old} in_input run =
-    subst (DoesParts bytes [] old) run (record {
-      parts = [];
-      takes_first = refl;
-      calls_are = refl;
-      text = sym (append-nil old.text);
-      faults = sym (append-nil old.faults);
-      flag = sym (or_false old.had_errors);
-    })
-does_parts {bytes = bytes} (call ∷ calls) {old = old} {new = new} in_input run =
-    let mid = run.0 in
-    let part : DecodeRunPart = record { replaces = call.replace; done = done in_input run.1 } in
-    let others = does_parts calls (stays_in_input in_input run.1) run.2 in
-    let later = sequences_of_parts others.parts in
-    record {
-      parts = part ∷ others.parts;
-      takes_first = takes_first in_input run.1 ∙ ap (λ ss. part.done ++ ss) others.takes_first
-          ∙ sym (append_assoc part.done later (remaining_in_run bytes new));
-      calls_are = ap (λ modes. call.replace ∷ modes) others.calls_are;
-      text = others.text
-          ∙ ap (λ t. t ++ units_of_text encode_utf8 (sequence_text later))
-          (text_after in_input run.1)
-          ∙ append_assoc old.text (units_of_text encode_utf8 (sequence_text part.done))
-          (units_of_text encode_utf8 (sequence_text later))
-          ∙ ap (λ t. old.text ++ t) (sym (units-append encode_utf8 part.done later));
-      faults = others.faults
-          ∙ ap (λ t. t ++ reported_faults_from (next_offset bytes mid) others.parts)
-          (run.1.faults ∙ ap (λ t. old.faults ++ t) (faults_by in_input run.1 call.replace refl))
-          ∙ append_assoc old.faults _ (reported_faults_from (next_offset bytes mid) others.parts)
-          ∙ ap (λ n. old.faults
-          ++ ((if call.replace then [] else faults_from (next_offset bytes old) part.done)
-          ++ reported_faults_from n others.parts)) (sym (offset_after in_input run.1));
-      flag = others.flag ∙ ap (λ b. b || any_malformed later) (flag_after in_input run.1)
-          ∙ or_assoc old.had_errors (any_malformed part.done) (any_malformed later)
-          ∙ ap (λ b. old.had_errors || b) (sym (any_malformed-append part.done later));
-    }
-
 -- a run from the start
 
-pub is_decode_run : (bytes : List ℕ) (calls : List DecodeCall) (old new : DecodeRunState)
-    → IsRun (DecodeRunAdvances bytes) calls old new → IsDecodeRun bytes calls old new
-is_decode_run bytes [] old new run = run
-is_decode_run bytes (call ∷ calls) old new run =
-    (run.0, run.1, is_decode_run bytes calls run.0 new run.2)
+abbrev replaces : DecodeCall → Bool
+replaces call = call.replace
+
+abbrev size : List Sequence → ℕ
+size ss = length (sequence_bytes ss)
+
+abbrev does_parts : (handling : BomHandling) (e : Encoding) (bytes : List ℕ)
+    → DoesParts (DecodeRunAdvances bytes) (IsInInput handling e bytes) (remaining_in_run bytes)
+    (next_offset bytes) size
+does_parts handling e bytes = record {
+  replaces = replaces;
+  keeps_on = λ call old new in_input advances. stays_in_input in_input advances;
+  done = λ call old new in_input advances. done in_input advances;
+  takes_first = λ call old new in_input advances. takes_first in_input advances;
+  offset = λ call old new in_input advances. offset_after in_input advances;
+}
 
 pub has_run : {handling : BomHandling} {e : Encoding} {bytes : List ℕ} (calls : List DecodeCall)
     (s : DecodeRunState) {ended : Bool}
-    → IsRun (DecodeRunAdvances bytes) calls (decode_run_start handling e) s
+    → IsDecodeRun bytes calls (decode_run_start handling e) s
     → has_finished s.decoder ≡ ended
     → HasRunDecoding handling e bytes calls s.text s.faults s.had_errors ended
 has_run {handling = handling} {e = e} {bytes = bytes} calls s run ends =
-    let does = does_parts calls (starts_in_input handling e bytes) run in
+    let start = decode_run_start handling e in
+    let starts = starts_in_input handling e bytes in
+    let does = does_parts handling e bytes in
     record {
-      parts = does.parts;
+      parts = parts_of does calls start s starts run;
       rest = remaining_in_run bytes s;
-      sequences = does.takes_first;
+      sequences = takes_parts does calls start s starts run;
       all = λ ended. none_left s.decoder (drop s.read bytes) (ends ∙ ended);
-      calls_are = does.calls_are;
-      text_of_done = does.text;
-      reported = does.faults
-          ∙ ap (λ n. reported_faults_from n does.parts) (starts_at handling e bytes);
-      flag = does.flag;
+      calls_are = modes_of does calls start s starts run;
+      text_of_done = adds_up does (λ a b. a ++ b)
+          (λ ss. units_of_text encode_utf8 (sequence_text ss)) (λ (x : DecodeRunState). x.text)
+          append-nil append_assoc (units-append encode_utf8)
+          (λ call old new in_input advances. text_after in_input advances) calls start s starts run;
+      reported = reports_parts does faults_from (λ (x : DecodeRunState). x.faults)
+          (λ call old new in_input advances. advances.faults
+          ∙ ap (λ t. old.faults ++ t) (faults_by in_input advances call.replace refl))
+          calls start s starts run
+          ∙ ap (λ n. reported_from faults_from size n
+          (parts_of does calls start s starts run)) (starts_at handling e bytes);
+      flag = adds_up does (λ a b. a || b) any_malformed
+          (λ (x : DecodeRunState). x.had_errors) or_false or_assoc any_malformed-append
+          (λ call old new in_input advances. flag_after in_input advances) calls start s starts run;
     }
 
 -- A run that has ended has done the sequences of the whole input.
 module _ {handling : BomHandling} {e : Encoding} {bytes : List ℕ} {calls : List DecodeCall}
     {text : List ℕ} {faults : List (ℕ × ℕ)} {had : Bool}
     (has_run : HasRunDecoding handling e bytes calls text faults had true) where
-  all_done : sequences_of_parts has_run.parts ≡ whole_sequences handling e bytes
+  all_done : done_of_parts has_run.parts ≡ whole_sequences handling e bytes
   all_done = sym (has_run.sequences
-      ∙ ap (λ ss. sequences_of_parts has_run.parts ++ ss) (has_run.all refl)
-      ∙ append-nil (sequences_of_parts has_run.parts))
+      ∙ ap (λ ss. done_of_parts has_run.parts ++ ss) (has_run.all refl)
+      ∙ append-nil (done_of_parts has_run.parts))
 
   pub whole_text : text ≡ whole_utf_8 handling e bytes
   whole_text = has_run.text_of_done
@@ -360,5 +329,6 @@ module _ {handling : BomHandling} {e : Encoding} {bytes : List ℕ} {calls : Lis
 
   pub whole_places : all_report_malformed calls ≡ true → faults ≡ whole_faults handling e bytes
   whole_places all_report = has_run.reported
-      ∙ all_reported 0 has_run.parts calls has_run.calls_are all_report
+      ∙ all_reported replaces faults_from size (λ at. refl) faults-append 0 has_run.parts calls
+      has_run.calls_are all_report
       ∙ ap (faults_from 0) all_done

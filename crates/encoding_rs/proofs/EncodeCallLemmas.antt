@@ -1,6 +1,6 @@
 -- What one call of a run of an encoder reports, and what it leaves.
-use Rattle.std.proofs.Common.{◌≡◌, ℕ, ◌≤◌, Bool, true, false, true≢false, ◌==◌, ◌↔◌, chars, List, [], ◌∷◌, ◌++◌}
-use Rattle.std.proofs.Common.{is_some, length, refl, ap, ◌∙◌, sym, arith, ◌||◌, ◌&&◌, nat_le, append-nil}
+use Rattle.std.proofs.Common.{◌≡◌, ℕ, ◌≤◌, Bool, true, false, true≢false, ◌==◌, ◌↔◌, chars, List, [], ◌∷◌}
+use Rattle.std.proofs.Common.{length, refl, ap, ◌∙◌, sym, arith, ◌||◌, ◌&&◌, nat_le}
 use Rattle.std.proofs.Common.{if◌then◌else◌}
 use Rattle.std.proofs.lemmas.Bool.{leb-true, le-leb}
 use Rattle.std.proofs.lemmas.Bool.Decides.{same_from_decides, Decides-eqb}

@@ -20,7 +20,8 @@ use Rattle.encoding_rs.specs.EncodeEnd.{least_room, CanEncodeMore}
 use Rattle.enc_stream.proofs.ReferenceLemmas.{lawful_of}
 use Rattle.encoding_rs.proofs.EncodeCallLemmas.{nothing_later, left_nothing}
 use Rattle.encoding_rs.proofs.EncodeRunLemmas.{IsInText, starts_in_text, stays_in_text, raw, rest_is}
-use Rattle.encoding_rs.proofs.RunLemmas.{IsRun, ends_within}
+use Rattle.encoding_rs.specs.Runs.{IsRun}
+use Rattle.encoding_rs.proofs.RunLemmas.{ends_within}
 
 room_for : (b : List ℕ) (e : Encoding) (v : EncoderState) (replace : Bool)
     → v.encoding ≡ output_encoding_of e → v.barred ≡ b

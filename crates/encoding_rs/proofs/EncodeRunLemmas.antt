@@ -1,8 +1,8 @@
 -- A run of an encoder reads the characters of the whole text, and writes their bytes.
-use Rattle.std.proofs.Common.{◌≡◌, ℕ, ◌+◌, ◌≤◌, Bool, true, false, true≢false, List, [], ◌∷◌, ◌++◌, map, length, take}
-use Rattle.std.proofs.Common.{drop, refl, ap, ◌∙◌, sym, arith, append_assoc, ◌||◌, subst, nat_le, append-nil}
+use Rattle.std.proofs.Common.{◌≡◌, ℕ, ◌+◌, ◌≤◌, Bool, true, true≢false, List, [], ◌++◌, length, take}
+use Rattle.std.proofs.Common.{drop, refl, ap, ◌∙◌, sym, arith, append_assoc, ◌||◌, nat_le, append-nil}
 use Rattle.std.proofs.Common.{if◌then◌else◌}
-use Rattle.std.proofs.lemmas.Bool.{and_parts, not-true}
+use Rattle.std.proofs.lemmas.Bool.{and_parts}
 use Rattle.std.proofs.lemmas.List.{take-append-drop, drop-drop, length-append, length-take}
 use Rattle.std.proofs.Math.ListN.{length-drop}
 use Rattle.std.proofs.Math.Seq.{drop-append_seam}
@@ -27,10 +27,12 @@ use Rattle.enc_stream.proofs.ReferenceLemmas.{lawful_of}
 use Rattle.enc_stream.proofs.EncoderProgressLemmas.{output_rule_is}
 use Rattle.encoding_rs.specs.EncodeRun.{encode_error_mode, reported_character, is_unmappable_result}
 use Rattle.encoding_rs.specs.EncodeRun.{MakesEncodeCall, EncodeRunState, encode_run_start}
-use Rattle.encoding_rs.specs.EncodeRun.{EncodeRunAdvances, IsEncodeRun, EncodeRunPart, chars_of_parts, reports_of_parts}
+use Rattle.encoding_rs.specs.EncodeRun.{EncodeRunAdvances, IsEncodeRun}
 use Rattle.encoding_rs.specs.EncodeRun.{all_report_unmappable, HasRunEncoding}
 use Rattle.encoding_rs.proofs.EncodeCallLemmas.{report_of_call, left_nothing, is_empty_is, nothing_later}
-use Rattle.encoding_rs.proofs.RunLemmas.{IsRun}
+use Rattle.encoding_rs.specs.Runs.{done_of_parts}
+use Rattle.encoding_rs.proofs.RunParts.{DoesParts, parts_of, modes_of, takes_parts, reports_parts}
+use Rattle.encoding_rs.proofs.RunParts.{adds_up, all_reported}
 
 -- A call of a run reads no more than is unread.
 pub read_within : {made : EncodeCall} {old new : EncoderState} {unread before after : List ℕ}
@@ -105,7 +107,7 @@ module _ {b : List ℕ} {e : Encoding} {text : List ℕ} {made : EncodeCall} {ol
       ∙ ap (drop (length (step_chars raw.done))) unread_is
       ∙ drop-append_seam (step_chars raw.done) (rest ++ later)
 
-  reads_first : unread ≡ step_chars raw.done ++ drop new.read text
+  pub reads_first : unread ≡ step_chars raw.done ++ drop new.read text
   reads_first = unread_is ∙ ap (λ t. step_chars raw.done ++ t) (sym rest_is)
 
   rule_is : (raw_state old.encoder).rule ≡ output_rule b e
@@ -154,7 +156,7 @@ module _ {b : List ℕ} {e : Encoding} {text : List ℕ} {made : EncodeCall} {ol
   report_holds = report_of_call made.replace old.encoder (raw_state new.encoder) rest last made.room
       raw.done advances.result advances.replaced raw.flag raw.stops
 
-  reports_after : new.unmappables ≡ old.unmappables
+  pub reports_after : new.unmappables ≡ old.unmappables
       ++ (if made.replace then [] else reports_of (output_rule b e) (step_chars raw.done))
   reports_after =
       let by_rule = reports_are (leaves_in_mode raw) in
@@ -163,7 +165,7 @@ module _ {b : List ℕ} {e : Encoding} {text : List ℕ} {made : EncodeCall} {ol
       ∙ ap (λ t. if made.replace then [] else t) (by_rule
       ∙ ap (λ r. reports_of r (step_chars raw.done)) rule_is))
 
-  flag_after : new.had_unmappables
+  pub flag_after : new.had_unmappables
       ≡ (old.had_unmappables || any_unmappable (output_rule b e) (step_chars raw.done))
   flag_after =
       let by_rule = any_reported_is (leaves_in_mode raw) in
@@ -171,105 +173,65 @@ module _ {b : List ℕ} {e : Encoding} {text : List ℕ} {made : EncodeCall} {ol
       ∙ ap (λ t. old.had_unmappables || t) (report_holds.1 ∙ by_rule
       ∙ ap (λ r. any_unmappable r (step_chars raw.done)) rule_is)
 
--- A run reads these parts of a text, one a call.
-pub record ReadsParts (rule : EncoderRule) (text : List ℕ) (calls : List EncodeCall)
-    (old new : EncodeRunState) : Type 0 where
-  pub parts : List EncodeRunPart
-  pub reads_first : drop old.read text ≡ chars_of_parts parts ++ drop new.read text
-  pub count : new.read ≡ old.read + length (chars_of_parts parts)
-  pub calls_are : map (λ (p : EncodeRunPart). p.replaces) parts
-      ≡ map (λ (c : EncodeCall). c.replace) calls
-  pub reported : new.unmappables ≡ old.unmappables ++ reports_of_parts rule parts
-  pub flag : new.had_unmappables
-      ≡ (old.had_unmappables || any_unmappable rule (chars_of_parts parts))
-
-pub reads_parts : {b : List ℕ} {e : Encoding} {text : List ℕ} (calls : List EncodeCall)
-    {old new : EncodeRunState} → IsInText b e text old
-    → IsRun (EncodeRunAdvances text) calls old new
-    → ReadsParts (output_rule b e) text calls old new
-reads_parts {b = b} {e = e} {text = text} [] {old = old} in_text run =
-    subst (ReadsParts (output_rule b e) text [] old) run (record {
-      parts = [];
-      reads_first = refl;
-      count = omega arith;
-      calls_are = refl;
-      reported = sym (append-nil old.unmappables);
-      flag = sym (or_false old.had_unmappables);
-    })
-reads_parts {b = b} {e = e} {text = text} (call ∷ calls) {old = old} {new = new} in_text run =
-    let rule = output_rule b e in
-    let part : EncodeRunPart = record {
-      replaces = call.replace;
-      chars = step_chars (raw in_text run.1).done;
-    } in
-    let others = reads_parts calls (stays_in_text in_text run.1) run.2 in
-    let later_chars = chars_of_parts others.parts in
-    record {
-      parts = part ∷ others.parts;
-      reads_first = reads_first in_text run.1 ∙ ap (λ t. part.chars ++ t) others.reads_first
-          ∙ sym (append_assoc part.chars later_chars (drop new.read text));
-      count = omega (arith, run.1.read, run.1.call.chars, length-append part.chars later_chars);
-      calls_are = ap (λ modes. call.replace ∷ modes) others.calls_are;
-      reported = others.reported
-          ∙ ap (λ t. t ++ reports_of_parts rule others.parts) (reports_after in_text run.1)
-          ∙ append_assoc old.unmappables _ (reports_of_parts rule others.parts);
-      flag = others.flag
-          ∙ ap (λ t. t || any_unmappable rule later_chars) (flag_after in_text run.1)
-          ∙ or_assoc old.had_unmappables (any_unmappable rule part.chars)
-          (any_unmappable rule later_chars)
-          ∙ ap (λ t. old.had_unmappables || t)
-          (sym (any_unmappable-append rule part.chars later_chars));
-    }
-
 -- a run from the start
 
-pub is_encode_run : (text : List ℕ) (calls : List EncodeCall) (old new : EncodeRunState)
-    → IsRun (EncodeRunAdvances text) calls old new → IsEncodeRun text calls old new
-is_encode_run text [] old new run = run
-is_encode_run text (call ∷ calls) old new run =
-    (run.0, run.1, is_encode_run text calls run.0 new run.2)
+abbrev replaces : EncodeCall → Bool
+replaces call = call.replace
 
--- if all calls report, all unmappable characters are reported
-all_reported : (rule : EncoderRule) (parts : List EncodeRunPart) (calls : List EncodeCall)
-    → map (λ (p : EncodeRunPart). p.replaces) parts ≡ map (λ (c : EncodeCall). c.replace) calls
-    → all_report_unmappable calls ≡ true
-    → reports_of_parts rule parts ≡ reports_of rule (chars_of_parts parts)
-all_reported rule [] calls same_modes all_report = refl
-all_reported rule (p ∷ ps) [] same_modes all_report = absurd (let no : ⊥ = cc in no)
-all_reported rule (p ∷ ps) (c ∷ cs) same_modes all_report =
-    let same_mode : p.replaces ≡ c.replace = cc in
-    let same_rest : map (λ (q : EncodeRunPart). q.replaces) ps
-    ≡ map (λ (d : EncodeCall). d.replace) cs = cc in
-    let both = and_parts _ _ all_report in
-    let reports : p.replaces ≡ false = same_mode ∙ not-true c.replace both.0 in
-    rw reports
-    (ap (λ x. reports_of rule p.chars ++ x) (all_reported rule ps cs same_rest both.1)
-    ∙ sym (reports_of-append rule p.chars (chars_of_parts ps)))
+abbrev size : List ℕ → ℕ
+size chars = length chars
+
+abbrev does_parts : (b : List ℕ) (e : Encoding) (text : List ℕ)
+    → DoesParts (EncodeRunAdvances text) (IsInText b e text)
+    (λ (a : EncodeRunState). drop a.read text) (λ (a : EncodeRunState). a.read) size
+does_parts b e text = record {
+  replaces = replaces;
+  keeps_on = λ call old new in_text advances. stays_in_text in_text advances;
+  done = λ call old new in_text advances. step_chars (raw in_text advances).done;
+  takes_first = λ call old new in_text advances. reads_first in_text advances;
+  offset = λ call old new in_text advances.
+      sym (advances.read ∙ ap (λ n. old.read + n) advances.call.chars);
+}
 
 module _ {b : List ℕ} {e : Encoding} {text : List ℕ} (calls : List EncodeCall)
     (s : EncodeRunState) (in_text : IsInText b e text s)
-    (run : IsRun (EncodeRunAdvances text) calls (encode_run_start b e) s) where
-  abbrev reads : ReadsParts (output_rule b e) text calls (encode_run_start b e) s
-  reads = reads_parts calls (starts_in_text b e text) run
-
-  pub has_encoded : HasRunEncoding b e text calls s.bytes s.read s.unmappables s.had_unmappables
-  has_encoded = record {
-    parts = reads.parts;
-    unread = drop s.read text;
-    more = bytes_to_come text s;
-    chars = reads.reads_first;
-    count = omega (arith, reads.count);
-    calls_are = reads.calls_are;
-    beginning = in_text.bytes;
-    reported = reads.reported;
-    flag = reads.flag;
-  }
+    (run : IsEncodeRun text calls (encode_run_start b e) s) where
+  abbrev pub has_encoded : HasRunEncoding b e text calls s.bytes s.read s.unmappables
+      s.had_unmappables
+  has_encoded =
+      let start = encode_run_start b e in
+      let starts = starts_in_text b e text in
+      let does = does_parts b e text in
+      let rule = output_rule b e in
+      record {
+        parts = parts_of does calls start s starts run;
+        unread = drop s.read text;
+        more = bytes_to_come text s;
+        chars = takes_parts does calls start s starts run;
+        count =
+            let count = adds_up does (λ m n. m + n) size (λ (a : EncodeRunState). a.read)
+            (λ n. let same : n + 0 ≡ n = omega arith in same)
+            (λ k m n. let same : k + m + n ≡ k + (m + n) = omega arith in same) length-append
+            (λ call old new in_text advances.
+            advances.read ∙ ap (λ n. old.read + n) advances.call.chars) calls start s starts run in
+            omega (arith, count);
+        calls_are = modes_of does calls start s starts run;
+        beginning = in_text.bytes;
+        reported = reports_parts does (λ _ chars. reports_of rule chars)
+            (λ (a : EncodeRunState). a.unmappables)
+            (λ call old new in_text advances. reports_after in_text advances)
+            calls start s starts run;
+        flag = adds_up does (λ x y. x || y) (any_unmappable rule)
+            (λ (a : EncodeRunState). a.had_unmappables) or_false or_assoc
+            (any_unmappable-append rule)
+            (λ call old new in_text advances. flag_after in_text advances) calls start s starts run;
+      }
 
   module _ (finished : s.finished ≡ true) where
-    all_chars : chars_of_parts reads.parts ≡ text
-    all_chars = sym (reads.reads_first
-        ∙ ap (λ t. chars_of_parts reads.parts ++ t) (in_text.ended finished).0
-        ∙ append-nil (chars_of_parts reads.parts))
+    all_chars : done_of_parts has_encoded.parts ≡ text
+    all_chars = sym (has_encoded.chars
+        ∙ ap (λ t. done_of_parts has_encoded.parts ++ t) (in_text.ended finished).0
+        ∙ append-nil (done_of_parts has_encoded.parts))
 
     none_to_come : bytes_to_come text s ≡ []
     none_to_come =
@@ -284,13 +246,15 @@ module _ {b : List ℕ} {e : Encoding} {text : List ℕ} (calls : List EncodeCal
     all_bytes = sym (in_text.bytes ∙ ap (λ t. s.bytes ++ t) none_to_come ∙ append-nil s.bytes)
 
     pub any_char : s.had_unmappables ≡ any_unmappable (output_rule b e) text
-    any_char = reads.flag ∙ ap (any_unmappable (output_rule b e)) all_chars
+    any_char = has_encoded.flag ∙ ap (any_unmappable (output_rule b e)) all_chars
 
     pub all_reports : all_report_unmappable calls ≡ true
         → s.unmappables ≡ reports_of (output_rule b e) text
-    all_reports all_report = reads.reported
-        ∙ all_reported (output_rule b e) reads.parts calls reads.calls_are all_report
+    all_reports all_report = has_encoded.reported
+        ∙ all_reported replaces (λ _ chars. reports_of (output_rule b e) chars)
+        (λ chars. length chars) (λ at. refl) (λ at. reports_of-append (output_rule b e)) 0
+        has_encoded.parts calls has_encoded.calls_are all_report
         ∙ ap (reports_of (output_rule b e)) all_chars
 
     pub all_read : s.read ≡ length text
-    all_read = omega (arith, reads.count, ap length all_chars)
+    all_read = omega (arith, has_encoded.count, ap length all_chars)

@@ -1,5 +1,6 @@
 pub mod BarringLemmas
 pub mod RunLemmas
+pub mod RunParts
 pub mod DecodeCallLemmas
 pub mod FaultPlaceLemmas
 pub mod DecodeRunLemmas

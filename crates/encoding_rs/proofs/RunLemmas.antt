@@ -3,15 +3,10 @@
 use Rattle.std.proofs.Common.{◌≡◌, ℕ, ◌+◌, ◌<◌, ◌≤◌, ◌⊎◌, inl, inr, Bool, true, false, List, [], ◌∷◌, ◌++◌, length}
 use Rattle.std.proofs.Common.{take, refl, ap, ◌∙◌, sym, subst, arith, get_or}
 use Rattle.std.specs.List.{All}
+use Rattle.encoding_rs.specs.Runs.{IsRun}
 use Rattle.std.proofs.lemmas.Bool.{false≢true}
 use Rattle.std.proofs.lemmas.List.{take_more, length-take}
 use Rattle.std.proofs.lemmas.List.Elements.{All-head, All-tail, All-take}
-
--- These calls, in turn, lead from one state to the other.
-abbrev pub IsRun : {C S : Type 0} → (C → S → S → Type 0) → List C → S → S → Type 0
-IsRun Advances [] old new = old ≡ new
-IsRun {S = S} Advances (call ∷ calls) old new = (mid : S) × Advances call old mid
-    × IsRun Advances calls mid new
 
 module _ {C S : Type 0} (Advances : C → S → S → Type 0) where
   run-one : (calls : List C) (a : S) {call : C} {b c : S} → IsRun Advances calls a b

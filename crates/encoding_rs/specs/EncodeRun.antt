@@ -1,6 +1,6 @@
 -- Runs of an encoder: lists of calls with any error mode, chunk and room (Encoding Standard 4.1,
 -- "process a queue", in parts).
-use Rattle.std.specs.Prelude.{◌≡◌, ℕ, ◌+◌, Bool, true, false, not, ◌&&◌, ◌||◌, nat_le, List, [], ◌∷◌, ◌++◌, map, length}
+use Rattle.std.specs.Prelude.{◌≡◌, ℕ, ◌+◌, Bool, true, false, ◌&&◌, ◌||◌, nat_le, List, [], ◌∷◌, ◌++◌, map, length}
 use Rattle.std.specs.Prelude.{take, drop, if◌then◌else◌}
 use Rattle.enc_stream.specs.declared.encoding.Encoding.{Encoding}
 use Rattle.encoding_rs.specs.declared.encode_run.EncodeCall.{EncodeCall}
@@ -14,6 +14,7 @@ use Rattle.enc_encoder.specs.Unmappable.{any_unmappable, reports_of}
 use Rattle.enc_stream.specs.Encodings.{output_rule}
 use Rattle.enc_stream.specs.Encoder.{EncoderState, fresh_encoder, html_mode, whole_bytes, EncodesChunk}
 use Rattle.encoding_rs.specs.Run.{units_of_call}
+use Rattle.encoding_rs.specs.Runs.{IsRun, all_report, RunPart, done_of_parts, reported_from}
 
 -- the error mode of a call
 abbrev pub encode_error_mode : Bool → EncoderState → EncodeErrorMode
@@ -98,43 +99,29 @@ pub record EncodeRunAdvances (text : List ℕ) (made : EncodeCall)
 
 -- these calls, in turn, lead from one state to the other
 abbrev pub IsEncodeRun : List ℕ → List EncodeCall → EncodeRunState → EncodeRunState → Type 0
-IsEncodeRun text [] old new = old ≡ new
-IsEncodeRun text (call ∷ calls) old new = (mid : EncodeRunState)
-    × EncodeRunAdvances text call old mid × IsEncodeRun text calls mid new
-
--- the characters that one call has read, and whether its error mode is html
-pub record EncodeRunPart : Type 0 where
-  pub replaces : Bool
-  pub chars : List ℕ
-
--- the characters of all parts
-abbrev pub chars_of_parts : List EncodeRunPart → List ℕ
-chars_of_parts [] = []
-chars_of_parts (p ∷ ps) = p.chars ++ chars_of_parts ps
-
--- the unmappable characters reported
-abbrev pub reports_of_parts : EncoderRule → List EncodeRunPart → List ℕ
-reports_of_parts rule [] = []
-reports_of_parts rule (p ∷ ps) =
-    (if p.replaces then [] else reports_of rule p.chars) ++ reports_of_parts rule ps
+IsEncodeRun text = IsRun (EncodeRunAdvances text)
 
 -- whether all calls report unmappable characters
 abbrev pub all_report_unmappable : List EncodeCall → Bool
-all_report_unmappable [] = true
-all_report_unmappable (call ∷ calls) = not call.replace && all_report_unmappable calls
+all_report_unmappable = all_report (λ (c : EncodeCall). c.replace)
+
+-- the unmappable characters that these parts of a text report
+abbrev pub reported_characters : EncoderRule → List (RunPart ℕ) → List ℕ
+reported_characters rule =
+    reported_from (λ _ chars. reports_of rule chars) (λ chars. length chars) 0
 
 -- The result of some calls: each has read a part of the text, and the bytes are a prefix of those
 -- of the whole text.
 pub record HasRunEncoding (b : List ℕ) (e : Encoding) (text : List ℕ) (calls : List EncodeCall)
     (bytes : List ℕ) (read : ℕ) (unmappables : List ℕ) (had_unmappables : Bool) : Type 0 where
-  pub parts : List EncodeRunPart
+  pub parts : List (RunPart ℕ)
   pub unread : List ℕ
   pub more : List ℕ
-  pub chars : text ≡ chars_of_parts parts ++ unread
-  pub count : read ≡ length (chars_of_parts parts)
-  pub calls_are : map (λ (p : EncodeRunPart). p.replaces) parts
+  pub chars : text ≡ done_of_parts parts ++ unread
+  pub count : read ≡ length (done_of_parts parts)
+  pub calls_are : map (λ (p : RunPart ℕ). p.replaces) parts
       ≡ map (λ (c : EncodeCall). c.replace) calls
   pub beginning : whole_bytes b e text ≡ bytes ++ more
   -- the unmappable characters met by calls that report them, in order, as reported
-  pub reported : unmappables ≡ reports_of_parts (output_rule b e) parts
-  pub flag : had_unmappables ≡ any_unmappable (output_rule b e) (chars_of_parts parts)
+  pub reported : unmappables ≡ reported_characters (output_rule b e) parts
+  pub flag : had_unmappables ≡ any_unmappable (output_rule b e) (done_of_parts parts)

@@ -1,3 +1,4 @@
+pub mod Runs
 pub mod Run
 pub mod EncodeRun
 pub mod EncodeEnd

@@ -1,7 +1,7 @@
 -- Runs of a decoder: lists of calls with any error mode, chunk and room (Encoding Standard 4.1,
 -- "process a queue", in parts).
-use Rattle.std.specs.Prelude.{◌≡◌, ℕ, ◌+◌, ◌-◌, Bool, true, false, not, ◌&&◌, ◌||◌, nat_le, List, [], ◌∷◌, ◌++◌, map}
-use Rattle.std.specs.Prelude.{length, take, drop, if◌then◌else◌}
+use Rattle.std.specs.Prelude.{◌≡◌, ℕ, ◌+◌, ◌-◌, Bool, true, false, ◌||◌, nat_le, List, [], ◌∷◌, ◌++◌, map}
+use Rattle.std.specs.Prelude.{length, take, drop}
 use Rattle.std.specs.Char.{encode_utf8}
 use Rattle.std.specs.Char.Escape.{encode_utf16}
 use Rattle.enc_stream.specs.declared.encoding.Encoding.{Encoding}
@@ -14,6 +14,7 @@ use Rattle.enc_decoder.specs.Sequence.{Sequence, sequence_bytes, sequence_text, 
 use Rattle.enc_decoder.specs.Call.{decode_error_mode}
 use Rattle.enc_stream.specs.Decoding.{DecoderState, fresh_decoder, has_finished, whole_sequences, DecodesChunk}
 use Rattle.enc_stream.specs.Faults.{faults_from}
+use Rattle.encoding_rs.specs.Runs.{IsRun, all_report, RunPart, done_of_parts, reported_from}
 
 -- the code units that a call decodes to
 abbrev pub units_of_call : Bool → ℕ → List ℕ
@@ -102,46 +103,29 @@ pub record DecodeRunAdvances (bytes : List ℕ) (made : DecodeCall)
 
 -- these calls, in turn, lead from one state to the other
 abbrev pub IsDecodeRun : List ℕ → List DecodeCall → DecodeRunState → DecodeRunState → Type 0
-IsDecodeRun bytes [] old new = old ≡ new
-IsDecodeRun bytes (call ∷ calls) old new = (mid : DecodeRunState)
-    × DecodeRunAdvances bytes call old mid
-    × IsDecodeRun bytes calls mid new
-
--- the sequences that one call has done, and whether it is with replacement
-pub record DecodeRunPart : Type 0 where
-  pub replaces : Bool
-  pub done : List Sequence
-
--- the sequences of all parts
-abbrev pub sequences_of_parts : List DecodeRunPart → List Sequence
-sequences_of_parts [] = []
-sequences_of_parts (p ∷ ps) = p.done ++ sequences_of_parts ps
-
--- the offset and length of each malformed sequence reported
-abbrev pub reported_faults_from : ℕ → List DecodeRunPart → List (ℕ × ℕ)
-reported_faults_from at [] = []
-reported_faults_from at (p ∷ ps) =
-    (if p.replaces then [] else faults_from at p.done)
-    ++ reported_faults_from (at + length (sequence_bytes p.done)) ps
+IsDecodeRun bytes = IsRun (DecodeRunAdvances bytes)
 
 -- whether all calls report malformed sequences
 abbrev pub all_report_malformed : List DecodeCall → Bool
-all_report_malformed [] = true
-all_report_malformed (call ∷ calls) = not call.replace && all_report_malformed calls
+all_report_malformed = all_report (λ (c : DecodeCall). c.replace)
+
+-- the offset and length of each malformed sequence that these parts report
+abbrev pub reported_faults : List (RunPart Sequence) → List (ℕ × ℕ)
+reported_faults = reported_from faults_from (λ ss. length (sequence_bytes ss)) 0
 
 -- The result of some calls: each has done a part of the sequences of the whole input, from the
 -- first on. A finished run has done all of them, skipped ones included.
 pub record HasRunDecoding (handling : BomHandling) (e : Encoding) (bytes : List ℕ)
     (calls : List DecodeCall) (text : List ℕ) (faults : List (ℕ × ℕ))
     (had_errors ended : Bool) : Type 0 where
-  pub parts : List DecodeRunPart
+  pub parts : List (RunPart Sequence)
   pub rest : List Sequence
-  pub sequences : whole_sequences handling e bytes ≡ sequences_of_parts parts ++ rest
+  pub sequences : whole_sequences handling e bytes ≡ done_of_parts parts ++ rest
   pub all : ended ≡ true → rest ≡ []
-  pub calls_are : map (λ (p : DecodeRunPart). p.replaces) parts
+  pub calls_are : map (λ (p : RunPart Sequence). p.replaces) parts
       ≡ map (λ (c : DecodeCall). c.replace) calls
-  pub text_of_done : text ≡ units_of_text encode_utf8 (sequence_text (sequences_of_parts parts))
+  pub text_of_done : text ≡ units_of_text encode_utf8 (sequence_text (done_of_parts parts))
   -- the malformed sequences met by calls that report them, in order and at their offsets in the
   -- whole input
-  pub reported : faults ≡ reported_faults_from 0 parts
-  pub flag : had_errors ≡ any_malformed (sequences_of_parts parts)
+  pub reported : faults ≡ reported_faults parts
+  pub flag : had_errors ≡ any_malformed (done_of_parts parts)

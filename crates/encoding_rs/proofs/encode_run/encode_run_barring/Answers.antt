@@ -3,7 +3,7 @@ use Rattle.std.proofs.lemmas.List.{drop-drop, length-drop}
 use Rattle.encoding_rs.specs.EncodeRun.{EncodeRunAdvances}
 use Rattle.encoding_rs.proofs.RunLemmas.{run-next}
 use Rattle.encoding_rs.proofs.EncodeCallLemmas.{few_chars}
-use Rattle.encoding_rs.proofs.EncodeRunLemmas.{starts_in_text, stays_in_text, is_encode_run, has_encoded, all_bytes}
+use Rattle.encoding_rs.proofs.EncodeRunLemmas.{starts_in_text, stays_in_text, has_encoded, all_bytes}
 use Rattle.encoding_rs.proofs.EncodeRunLemmas.{any_char, all_reports, all_read, read_within}
 use Rattle.encoding_rs.proofs.EncodeEndLemmas.{ends}
 use Rattle.encoding_rs.proofs.encode_run.encode_run_barring.Goals as goal
@@ -63,7 +63,7 @@ pub returns : goal.returns
 returns c =
     let invariant = c.loop-call.invariant in
     record {
-      run = (c.loop-call.encoder, is_encode_run _ _ _ _ invariant.run);
+      run = (c.loop-call.encoder, invariant.run);
       made = search rules;
       calls = search rules;
       end = λ further. ends _ _ _ _ c.loop-call.made _ (search rules) (search rules) further

@@ -3,7 +3,7 @@ use denote.Text.{Utf8}
 use Rattle.std.proofs.Common.{◌≡◌, chars, take, drop}
 use Rattle.encoding_rs.specs.EncodeRun.{EncodeRunState, EncodeRunAdvances, encode_run_start}
 use Rattle.encoding_rs.proofs.EncodeRunLemmas.{IsInText}
-use Rattle.encoding_rs.proofs.RunLemmas.{IsRun}
+use Rattle.encoding_rs.specs.Runs.{IsRun}
 use Rattle.encoding_rs.proofs.encode_run.encode_run_barring.Given as goal
 
 abbrev pub invariant-loop-call : goal.invariant-loop-call

@@ -2,7 +2,7 @@ use Rattle.std.proofs.Common.{drop, arith, refl, sym, ◌∙◌, rules}
 use Rattle.enc_stream.proofs.WholeEncodingLemmas.{settled}
 use Rattle.encoding_rs.specs.Run.{DecodeRunAdvances}
 use Rattle.encoding_rs.proofs.RunLemmas.{run-next}
-use Rattle.encoding_rs.proofs.DecodeRunLemmas.{starts_in_input, stays_in_input, is_decode_run, has_run, whole_text}
+use Rattle.encoding_rs.proofs.DecodeRunLemmas.{starts_in_input, stays_in_input, has_run, whole_text}
 use Rattle.encoding_rs.proofs.DecodeRunLemmas.{whole_flag, whole_places}
 use Rattle.enc_stream.proofs.DecoderCallLemmas.{reported_so_far}
 use Rattle.encoding_rs.proofs.DecodeEndLemmas.{ends}
@@ -59,7 +59,7 @@ returns-clause-run c = (
   c.loop-call.decoder,
   sym c.is_finished-finished.ensures,
   sym c.encoding-encoding.ensures,
-  is_decode_run _ _ _ _ c.loop-call.invariant.run,
+  c.loop-call.invariant.run,
 )
 
 pub returns-clause-beginning : goal.returns-clause-beginning

@@ -1,7 +1,7 @@
 use Rattle.std.proofs.Common.{◌≡◌, ◌≤◌, length, take}
 use Rattle.std.specs.String.{string_bytes}
 use Rattle.encoding_rs.specs.Run.{DecodeRunState, DecodeRunAdvances, decode_run_start}
-use Rattle.encoding_rs.proofs.RunLemmas.{IsRun}
+use Rattle.encoding_rs.specs.Runs.{IsRun}
 use Rattle.encoding_rs.proofs.DecodeRunLemmas.{IsInInput}
 use Rattle.encoding_rs.proofs.run.decode_run.Given as goal
 
