@@ -14,7 +14,7 @@ use Rattle.enc_decoder.proofs.EnoughLemmas.{thrice_is, same_some, basic_by, boun
 use Rattle.enc_decoder.specs.CodecState.{CodecState}
 use Rattle.enc_decoder.specs.Prefixes.{prefix_state}
 use Rattle.enc_decoder_single_byte.specs.OneByte.{one_byte_prefix, AreOneByteChars}
-use Rattle.enc_decoder_single_byte.proofs.OneByteLemmas.{one_byte_heads}
+use Rattle.enc_decoder_single_byte.proofs.OneByteLemmas.{no_more, one_byte_heads}
 use Rattle.enc_decoder_single_byte.specs.Replacement.{replacement_rule, replacement_state}
 
 -- A text is that of a byte's character, or U+FFFD.
@@ -27,10 +27,6 @@ module _ (character : ℕ → Option ℕ) (laws : AreOneByteChars character) whe
   head_is_basic set b None is_byte is_char = basic_by 0xFFFD (omega arith)
   head_is_basic set b (Some c) is_byte is_char = basic_by c (laws.basic b c is_byte is_char)
 
-  none_more : (set : ℕ) (found : Option ℕ) → (one_byte_head set found).more ≡ 0
-  none_more set None = refl
-  none_more set (Some c) = refl
-
   -- at most `each` code units for each byte
   bounded_bytes : (units_of : ℕ → List ℕ) (each : ℕ)
       → ((text : List ℕ) → IsBmpText text → length (units_of_text units_of text) ≤ each)
@@ -41,7 +37,7 @@ module _ (character : ℕ → Option ℕ) (laws : AreOneByteChars character) whe
   bounded_bytes units_of each most set (b ∷ z) are_bytes =
       let head = rule set b z in
       let rest_is = ap (λ k. units units_of (sequences_after rule head.set k z))
-      (none_more set (character b)) in
+      (no_more set (character b)) in
       grind (
         arith,
         most _ (head_is_basic set b (character b) are_bytes.0 refl),

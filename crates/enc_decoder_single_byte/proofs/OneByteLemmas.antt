@@ -3,11 +3,10 @@ use Rattle.std.proofs.Common.{◌≡◌, ◌≢◌, ℕ, ◌+◌, ◌-◌, ◌<�
 use Rattle.std.proofs.Common.{List, [], ◌∷◌, length, refl, ap, arith}
 use Rattle.std.proofs.lemmas.Bool.{cond-true, lt-ltb}
 use Rattle.std.proofs.lemmas.Bool.Decides.{nat_tests}
-use Rattle.std.proofs.Math.Seq.{drop-nil}
 use Rattle.enc_decoder.specs.declared.prefix.Prefix.TheVariants.{Incomplete}
 use Rattle.enc_decoder.specs.Segmentation.{one_byte_head}
 use Rattle.enc_decoder.specs.Taking.{IsWholeChar}
-use Rattle.enc_decoder.specs.Prefixes.{prefix_head, prefix_rule, AreIncomplete, LeavesIncomplete}
+use Rattle.enc_decoder.specs.Prefixes.{prefix_head, prefix_rule}
 use Rattle.enc_decoder.specs.Prefixes.{CanBeOther, ArePrefixes, HasAscii, AreSettledBelowDigits}
 use Rattle.enc_decoder.proofs.PrefixLaws.{one_is_text, IsLawfulPrefix, prefixes_by}
 use Rattle.enc_decoder.proofs.PrefixLemmas.{complete_one}
@@ -19,16 +18,16 @@ use Rattle.enc_index.specs.declared.table.Planes.TheVariants.{Basic}
 use Rattle.enc_decoder_single_byte.specs.OneByte.{alone_prefix, one_byte_prefix, one_byte_rule, AreOneByteChars}
 use Rattle.enc_decoder_single_byte.specs.OneByte.{single_byte_char, x_user_defined_char}
 
-module _ (character : ℕ → Option ℕ) where
-  -- no byte is incomplete, and so none is pending
+-- a byte has no more bytes after it
+pub no_more : (set : ℕ) (found : Option ℕ) → (one_byte_head set found).more ≡ 0
+no_more set None = refl
+no_more set (Some c) = refl
 
+module _ (character : ℕ → Option ℕ) where
+  -- no byte is incomplete
   decided : (found : Option ℕ) → alone_prefix found ≢ Incomplete
   decided None incomplete = cc
   decided (Some c) incomplete = cc
-
-  pub none_incomplete : (w : List ℕ) → AreIncomplete (one_byte_prefix character) [] w → w ≡ []
-  none_incomplete [] incomplete = refl
-  none_incomplete (b ∷ w) incomplete = absurd (decided (character b) incomplete.0)
 
   -- the laws of prefixes
 
@@ -50,10 +49,6 @@ module _ (character : ℕ → Option ℕ) where
       finished [] some incomplete = absurd (omega arith)
       finished (b ∷ z) some incomplete = absurd (decided (character b) incomplete)
 
-  pub one_byte_leaves : LeavesIncomplete (one_byte_prefix character)
-  one_byte_leaves front b n incomplete malformed =
-      rw (none_incomplete front incomplete, drop-nil n) tt
-
   pub one_byte_settled : AreSettledBelowDigits (one_byte_prefix character)
   one_byte_settled c low a front incomplete = decided (character a) incomplete
 
@@ -62,7 +57,7 @@ module _ (character : ℕ → Option ℕ) where
       → IsWholeChar (one_byte_rule character) 0 (b ∷ []) c
   one_byte_piece b c is_char = complete_one (one_byte_prefix character) b c (ap alone_prefix is_char)
 
-  -- the rule, by the character of the first byte
+  -- each byte by itself
   pub one_byte_heads : (λ set b z. one_byte_head set (character b)) ≡ one_byte_rule character
   unfolding prefix_rule
   one_byte_heads = λ i set b z. alone set b z (character b) i

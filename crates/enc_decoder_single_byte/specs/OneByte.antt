@@ -27,7 +27,7 @@ abbrev pub one_byte_prefix : (ℕ → Option ℕ) → List ℕ → Prefix
 one_byte_prefix character [] = Incomplete
 one_byte_prefix character (b ∷ z) = alone_prefix (character b)
 
--- each byte by itself (`one_byte_heads`)
+-- The rule. Each byte is a sequence by itself (`one_byte_heads`).
 abbrev pub one_byte_rule : (ℕ → Option ℕ) → Rule
 one_byte_rule character = prefix_rule (one_byte_prefix character)
 
