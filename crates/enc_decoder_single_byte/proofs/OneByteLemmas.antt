@@ -1,6 +1,6 @@
 -- Encodings in which each byte stands alone: the laws of their prefixes, and of their characters.
-use Rattle.std.proofs.Common.{◌≡◌, ◌≢◌, ℕ, ◌+◌, ◌-◌, ◌<◌, Bool, true, false, cond, ◌&&◌, nat_lt, nat_le, Option, Some, None}
-use Rattle.std.proofs.Common.{List, [], ◌∷◌, length, refl, ap, arith}
+use Rattle.std.proofs.Common.{◌≡◌, ◌≢◌, ℕ, ◌+◌, ◌-◌, ◌<◌, Bool, true, false, cond, ◌&&◌, nat_lt, nat_le, Option, Some}
+use Rattle.std.proofs.Common.{None, List, [], ◌∷◌, length, refl, ap, arith}
 use Rattle.std.proofs.lemmas.Bool.{cond-true, lt-ltb}
 use Rattle.std.proofs.lemmas.Bool.Decides.{nat_tests}
 use Rattle.enc_decoder.specs.declared.prefix.Prefix.TheVariants.{Incomplete}
@@ -24,12 +24,11 @@ no_more set None = refl
 no_more set (Some c) = refl
 
 module _ (character : ℕ → Option ℕ) where
-  -- no byte is incomplete
+  -- The laws of prefixes. No byte is incomplete.
+
   decided : (found : Option ℕ) → alone_prefix found ≢ Incomplete
   decided None incomplete = cc
   decided (Some c) incomplete = cc
-
-  -- the laws of prefixes
 
   lawful : (front : List ℕ)
       → IsLawfulPrefix 0 (length front) (one_byte_prefix character front)
@@ -55,7 +54,8 @@ module _ (character : ℕ → Option ℕ) where
   -- a byte that has a character
   pub one_byte_piece : (b c : ℕ) → character b ≡ Some c
       → IsWholeChar (one_byte_rule character) 0 (b ∷ []) c
-  one_byte_piece b c is_char = complete_one (one_byte_prefix character) b c (ap alone_prefix is_char)
+  one_byte_piece b c is_char =
+      complete_one (one_byte_prefix character) b c (ap alone_prefix is_char)
 
   -- each byte by itself
   pub one_byte_heads : (λ set b z. one_byte_head set (character b)) ≡ one_byte_rule character
