@@ -1,21 +1,21 @@
 -- Encodings in which each byte stands alone: the laws of their prefixes, and of their characters.
-use Rattle.std.proofs.Common.{◌≡◌, ◌≢◌, ℕ, ◌+◌, ◌-◌, ◌<◌, Bool, true, false, cond, ◌&&◌, nat_lt, nat_le, Option, Some}
+use Rattle.std.proofs.Common.{◌≡◌, ℕ, ◌+◌, ◌-◌, ◌<◌, Bool, true, false, cond, ◌&&◌, nat_lt, nat_le, Option, Some}
 use Rattle.std.proofs.Common.{None, List, [], ◌∷◌, length, refl, ap, arith}
 use Rattle.std.proofs.lemmas.Bool.{cond-true, lt-ltb}
 use Rattle.std.proofs.lemmas.Bool.Decides.{nat_tests}
 use Rattle.enc_decoder.specs.declared.prefix.Prefix.TheVariants.{Incomplete}
 use Rattle.enc_decoder.specs.Segmentation.{one_byte_head}
 use Rattle.enc_decoder.specs.Taking.{IsWholeChar}
-use Rattle.enc_decoder.specs.Prefixes.{prefix_head, prefix_rule}
+use Rattle.enc_decoder.specs.Prefixes.{single_prefix, prefix_head, prefix_rule}
 use Rattle.enc_decoder.specs.Prefixes.{CanBeOther, ArePrefixes, HasAscii, AreSettledBelowDigits}
-use Rattle.enc_decoder.proofs.PrefixLaws.{one_is_text, IsLawfulPrefix, prefixes_by}
+use Rattle.enc_decoder.proofs.PrefixLaws.{IsLawfulPrefix, single_lawful, single_finished, prefixes_by}
 use Rattle.enc_decoder.proofs.PrefixLemmas.{complete_one}
 use Rattle.enc_decoder.proofs.PrefixRule.{prefixes_have_bytes}
 use Rattle.enc_decoder.specs.Latin1.{HasNoByteSequences}
 use Rattle.enc_decoder.proofs.EnoughLemmas.{same_some}
 use Rattle.enc_index.specs.Index.{Run, index_at, entry_character, is_entry_code_point}
 use Rattle.enc_index.specs.declared.table.Planes.TheVariants.{Basic}
-use Rattle.enc_decoder_single_byte.specs.OneByte.{alone_prefix, one_byte_prefix, one_byte_rule, AreOneByteChars}
+use Rattle.enc_decoder_single_byte.specs.OneByte.{one_byte_prefix, one_byte_rule, AreOneByteChars}
 use Rattle.enc_decoder_single_byte.specs.OneByte.{single_byte_char, x_user_defined_char}
 
 -- a byte has no more bytes after it
@@ -24,20 +24,12 @@ no_more set None = refl
 no_more set (Some c) = refl
 
 module _ (character : ℕ → Option ℕ) where
-  -- The laws of prefixes. No byte is incomplete.
-
-  decided : (found : Option ℕ) → alone_prefix found ≢ Incomplete
-  decided None incomplete = cc
-  decided (Some c) incomplete = cc
+  -- the laws of prefixes
 
   lawful : (front : List ℕ)
       → IsLawfulPrefix 0 (length front) (one_byte_prefix character front)
   lawful [] = omega arith
-  lawful (b ∷ z) = alone (character b)
-    where
-      alone : (found : Option ℕ) → IsLawfulPrefix 0 (length (b ∷ z)) (alone_prefix found)
-      alone None = (omega arith, omega arith)
-      alone (Some c) = one_is_text c
+  lawful (b ∷ z) = single_lawful 0 (length (b ∷ z)) (character b) (omega arith)
 
   pub one_byte_prefixes : ArePrefixes (one_byte_prefix character)
   one_byte_prefixes = prefixes_by (one_byte_prefix character) 0 (omega arith) refl lawful finished
@@ -46,16 +38,16 @@ module _ (character : ℕ → Option ℕ) where
           → one_byte_prefix character front ≡ Incomplete
           → CanBeOther (one_byte_prefix character) front
       finished [] some incomplete = absurd (omega arith)
-      finished (b ∷ z) some incomplete = absurd (decided (character b) incomplete)
+      finished (b ∷ z) some incomplete = absurd (single_finished (character b) incomplete)
 
   pub one_byte_settled : AreSettledBelowDigits (one_byte_prefix character)
-  one_byte_settled c low a front incomplete = decided (character a) incomplete
+  one_byte_settled c low a front incomplete = single_finished (character a) incomplete
 
   -- a byte that has a character
   pub one_byte_piece : (b c : ℕ) → character b ≡ Some c
       → IsWholeChar (one_byte_rule character) 0 (b ∷ []) c
   one_byte_piece b c is_char =
-      complete_one (one_byte_prefix character) b c (ap alone_prefix is_char)
+      complete_one (one_byte_prefix character) b c (ap single_prefix is_char)
 
   -- each byte by itself
   pub one_byte_heads : (λ set b z. one_byte_head set (character b)) ≡ one_byte_rule character
@@ -63,7 +55,7 @@ module _ (character : ℕ → Option ℕ) where
   one_byte_heads = λ i set b z. alone set b z (character b) i
     where
       alone : (set b : ℕ) (z : List ℕ) (found : Option ℕ) → one_byte_head set found
-          ≡ prefix_head (one_byte_prefix character) set (b ∷ []) (alone_prefix found) z
+          ≡ prefix_head (one_byte_prefix character) set (b ∷ []) (single_prefix found) z
       alone set b z None = refl
       alone set b z (Some c) = refl
 
@@ -71,7 +63,7 @@ module _ (character : ℕ → Option ℕ) where
 
 pub one_byte_ascii : (character : ℕ → Option ℕ) → AreOneByteChars character
     → HasAscii (one_byte_prefix character)
-one_byte_ascii character laws b low = ap alone_prefix (laws.ascii b low)
+one_byte_ascii character laws b low = ap single_prefix (laws.ascii b low)
 
 pub one_byte_has_bytes : (character : ℕ → Option ℕ) → AreOneByteChars character
     → ¬ (HasNoByteSequences (one_byte_rule character))

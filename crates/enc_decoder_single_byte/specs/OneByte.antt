@@ -1,11 +1,10 @@
 -- The rules of encodings in which each byte stands alone: the legacy single-byte encodings
 -- (Encoding Standard 9.1, "single-byte decoder") and x-user-defined (14.5.1).
-use Rattle.std.specs.Prelude.{◌≡◌, ℕ, ◌+◌, ◌-◌, ◌<◌, nat_lt, Option, Some, None, List, [], ◌∷◌, if◌then◌else◌}
-use Rattle.enc_decoder.specs.declared.byte_codec.Text.TheVariants.{One}
+use Rattle.std.specs.Prelude.{◌≡◌, ℕ, ◌+◌, ◌-◌, ◌<◌, nat_lt, Option, Some, List, [], ◌∷◌, if◌then◌else◌}
 use Rattle.enc_decoder.specs.declared.prefix.Prefix.{Prefix}
-use Rattle.enc_decoder.specs.declared.prefix.Prefix.TheVariants.{Complete, Malformed, Incomplete}
+use Rattle.enc_decoder.specs.declared.prefix.Prefix.TheVariants.{Incomplete}
 use Rattle.enc_decoder.specs.Segmentation.{Rule}
-use Rattle.enc_decoder.specs.Prefixes.{prefix_rule}
+use Rattle.enc_decoder.specs.Prefixes.{single_prefix, prefix_rule}
 use Rattle.enc_index.specs.declared.table.Planes.TheVariants.{Basic}
 use Rattle.enc_index.specs.Index.{index_at}
 
@@ -17,15 +16,10 @@ single_byte_char runs b = if nat_lt b 0x80 then Some b else index_at Basic runs 
 abbrev pub x_user_defined_char : ℕ → Option ℕ
 x_user_defined_char b = if nat_lt b 0x80 then Some b else Some (0xF780 + (b - 0x80))
 
--- a byte with a character is valid, and any other is malformed
-abbrev pub alone_prefix : Option ℕ → Prefix
-alone_prefix (Some c) = Complete (One c)
-alone_prefix None = Malformed 1
-
 -- The kind of a prefix, by the characters of bytes. The first byte decides by itself.
 abbrev pub one_byte_prefix : (ℕ → Option ℕ) → List ℕ → Prefix
 one_byte_prefix character [] = Incomplete
-one_byte_prefix character (b ∷ z) = alone_prefix (character b)
+one_byte_prefix character (b ∷ z) = single_prefix (character b)
 
 -- The rule. Each byte is a sequence by itself (`one_byte_heads`).
 abbrev pub one_byte_rule : (ℕ → Option ℕ) → Rule
