@@ -46,10 +46,8 @@ impl<E: OneByte> Pieces for OneByteDecoder<E> {
 
     #[inline(always)]
     fn piece(self, src: &[u8], at: usize) -> Option<(char, usize)> {
-        match self.encoding.character_of(src[at]) {
-            Some(character) => Some((character, 1)),
-            None => None,
-        }
+        let character = self.encoding.character_of(src[at])?;
+        Some((character, 1))
     }
 
     fn has_ascii(self) -> bool {
