@@ -28,10 +28,12 @@ module _ (character : ℕ → Option ℕ) where
 
   lawful : (front : List ℕ)
       → IsLawfulPrefix 0 (length front) (one_byte_prefix character front)
+  unfolding one_byte_prefix
   lawful [] = omega arith
   lawful (b ∷ z) = single_lawful 0 (length (b ∷ z)) (character b) (omega arith)
 
   pub one_byte_prefixes : ArePrefixes (one_byte_prefix character)
+  unfolding one_byte_prefix
   one_byte_prefixes = prefixes_by (one_byte_prefix character) 0 (omega arith) refl lawful finished
     where
       finished : (front : List ℕ) → 0 < length front
@@ -41,17 +43,19 @@ module _ (character : ℕ → Option ℕ) where
       finished (b ∷ z) some incomplete = absurd (single_finished (character b) incomplete)
 
   pub one_byte_settled : AreSettledBelowDigits (one_byte_prefix character)
+  unfolding one_byte_prefix
   one_byte_settled c low a front incomplete = single_finished (character a) incomplete
 
   -- a byte that has a character
   pub one_byte_piece : (b c : ℕ) → character b ≡ Some c
       → IsWholeChar (one_byte_rule character) 0 (b ∷ []) c
+  unfolding one_byte_prefix
   one_byte_piece b c is_char =
       complete_one (one_byte_prefix character) b c (ap single_prefix is_char)
 
   -- each byte by itself
   pub one_byte_heads : (λ set b z. one_byte_head set (character b)) ≡ one_byte_rule character
-  unfolding prefix_rule
+  unfolding prefix_rule one_byte_prefix
   one_byte_heads = λ i set b z. alone set b z (character b) i
     where
       alone : (set b : ℕ) (z : List ℕ) (found : Option ℕ) → one_byte_head set found
@@ -63,6 +67,7 @@ module _ (character : ℕ → Option ℕ) where
 
 pub one_byte_ascii : (character : ℕ → Option ℕ) → AreOneByteChars character
     → HasAscii (one_byte_prefix character)
+unfolding one_byte_prefix
 one_byte_ascii character laws b low = ap single_prefix (laws.ascii b low)
 
 pub one_byte_has_bytes : (character : ℕ → Option ℕ) → AreOneByteChars character

@@ -17,7 +17,7 @@ abbrev pub x_user_defined_char : ℕ → Option ℕ
 x_user_defined_char b = if nat_lt b 0x80 then Some b else Some (0xF780 + (b - 0x80))
 
 -- The kind of a prefix, by the characters of bytes. The first byte decides by itself.
-abbrev pub one_byte_prefix : (ℕ → Option ℕ) → List ℕ → Prefix
+unfoldable pub one_byte_prefix : (ℕ → Option ℕ) → List ℕ → Prefix
 one_byte_prefix character [] = Incomplete
 one_byte_prefix character (b ∷ z) = single_prefix (character b)
 

@@ -83,6 +83,7 @@ impl<E: OneByte> PrefixCodec for OneByteDecoder<E> {
     ghost lengths = { lengths.OneByte };
 
     #[inline(always)]
+    #[tactic(auto, unfolding(crate::specs::OneByte::one_byte_prefix))]
     fn laws(self) {
         let _encoding = self.encoding;
     }
@@ -99,12 +100,14 @@ impl<E: OneByte> PrefixCodec for OneByteDecoder<E> {
     }
 
     #[inline(always)]
+    #[tactic(auto, unfolding(crate::specs::OneByte::one_byte_prefix))]
     fn with_waiting(self, pending: Pending) -> OneByteDecoder<E> {
         let _nothing = pending;
         self
     }
 
     #[inline(always)]
+    #[tactic(auto, unfolding(crate::specs::OneByte::one_byte_prefix))]
     fn classify(self, front: Pending, byte: u8) -> Prefix {
         let _nothing = front;
         match self.encoding.character_of(byte) {

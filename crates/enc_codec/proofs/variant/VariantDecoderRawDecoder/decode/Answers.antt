@@ -15,12 +15,3 @@ returns-in-Utf16-clause-call g c = rw c.in-Utf16.is c.decode-in-Utf16.ensures.ca
 
 pub returns-in-Utf16-clause-lawful : goal.returns-in-Utf16-clause-lawful
 returns-in-Utf16-clause-lawful g c = rw c.in-Utf16.is c.decode-in-Utf16.ensures.lawful
-
-pub returns-in-SingleByte-clause-call : goal.returns-in-SingleByte-clause-call
-returns-in-SingleByte-clause-call g c = rw c.in-SingleByte.is c.decode-in-SingleByte.ensures.call
-
-pub returns-in-SingleByte-clause-lawful : goal.returns-in-SingleByte-clause-lawful
-returns-in-SingleByte-clause-lawful g c = rw c.in-SingleByte.is c.decode-in-SingleByte.ensures.lawful
-
-pub returns-in-XUserDefined-clause-lawful : goal.returns-in-XUserDefined-clause-lawful
-returns-in-XUserDefined-clause-lawful g c = rw c.in-XUserDefined.is c.decode-in-XUserDefined.ensures.lawful

@@ -12,9 +12,3 @@ returns-in-ShiftJis-clause-enough c = rw c.in-ShiftJis.is c.text_lengths-in-Shif
 
 pub returns-in-Utf16-clause-enough : goal.returns-in-Utf16-clause-enough
 returns-in-Utf16-clause-enough c = rw c.in-Utf16.is c.text_lengths-in-Utf16.ensures.enough
-
-pub returns-in-SingleByte-clause-enough : goal.returns-in-SingleByte-clause-enough
-returns-in-SingleByte-clause-enough c = rw c.in-SingleByte.is c.text_lengths-in-SingleByte.ensures.enough
-
-pub returns-in-XUserDefined-clause-enough : goal.returns-in-XUserDefined-clause-enough
-returns-in-XUserDefined-clause-enough c = rw c.in-XUserDefined.is c.text_lengths-in-XUserDefined.ensures.enough
