@@ -1,6 +1,6 @@
 -- Every codec keeps its laws: the one proof that goes through all decoders.
 -- Written by scripts/make-sources from data/templates: change the text there, and not this file.
-use Rattle.std.proofs.Common.{◌≡◌, ℕ, ◌<◌, Bool, true, false, Option, Some, List, [], refl, arith}
+use Rattle.std.proofs.Common.{ℕ, Bool, true, false, Option, List, [], refl, arith}
 use Rattle.enc_index.specs.Runs.{single_byte_runs}
 use Rattle.enc_index.specs.declared.codec.Codec.{Codec}
 use Rattle.enc_index.specs.declared.codec.Codec.TheVariants as codec
@@ -13,11 +13,10 @@ use Rattle.enc_decoder_utf.proofs.Utf8Rule.{utf_8_has_texts, utf_8_is_lawful, ut
 use Rattle.enc_decoder_utf.proofs.Utf8Enough.{utf_8_enough}
 use Rattle.enc_decoder_utf.proofs.Utf16Rule.{utf_16_has_texts, utf_16_is_lawful, utf_16_has_no_bytes}
 use Rattle.enc_decoder_utf.proofs.Utf16Enough.{utf_16_enough}
-use Rattle.enc_decoder_single_byte.specs.OneByte.{one_byte_rule, x_user_defined_char}
-use Rattle.enc_decoder_single_byte.proofs.OneByteLemmas.{one_byte_has_texts, one_byte_is_lawful, one_byte_has_bytes}
-use Rattle.enc_decoder_single_byte.proofs.OneByteLemmas.{single_byte_ascii, x_user_defined_ascii}
-use Rattle.enc_decoder_single_byte.proofs.OneByteDivision.{one_byte_is_divided}
-use Rattle.enc_decoder_single_byte.proofs.EnoughLemmas.{single_byte_enough, x_user_defined_enough, replacement_enough}
+use Rattle.enc_decoder_single_byte.specs.OneByte.{one_byte_prefix, one_byte_rule, AreOneByteChars}
+use Rattle.enc_decoder_single_byte.proofs.OneByteLemmas.{one_byte_prefixes, one_byte_settled, one_byte_ascii}
+use Rattle.enc_decoder_single_byte.proofs.OneByteLemmas.{one_byte_has_bytes, single_byte_laws, x_user_defined_laws}
+use Rattle.enc_decoder_single_byte.proofs.EnoughLemmas.{one_byte_enough, replacement_enough}
 use Rattle.enc_decoder_single_byte.proofs.ReplacementLemmas.{replacement_is_lawful, replacement_has_no_bytes}
 use Rattle.enc_decoder.specs.declared.prefix.Prefix.{Prefix}
 use Rattle.enc_decoder.specs.Prefixes.{prefix_rule}
@@ -43,8 +42,7 @@ use Rattle.enc_codec.specs.CodecLaws.{KeepsCodecLaws}
 use Rattle.enc_codec.specs.Properties.{DeterminesBbByItself}
 use Rattle.enc_codec.proofs.PropertyLemmas.{utf_8_is_ascii_compatible, utf_8_is_not_single_byte}
 use Rattle.enc_codec.proofs.PropertyLemmas.{utf_16_is_not_ascii_compatible, utf_16_is_not_single_byte}
-use Rattle.enc_codec.proofs.PropertyLemmas.{one_byte_is_ascii_compatible}
-use Rattle.enc_codec.proofs.PropertyLemmas.{one_byte_is_single_byte, multi_byte_is_ascii_compatible}
+use Rattle.enc_codec.proofs.PropertyLemmas.{prefixes_are_ascii_compatible, one_byte_is_single_byte}
 use Rattle.enc_codec.proofs.PropertyLemmas.{multi_byte_is_not_single_byte}
 use Rattle.enc_codec.proofs.PropertyLemmas.{iso_2022_jp_lacks_texts, iso_2022_jp_is_not_ascii_compatible}
 use Rattle.enc_codec.proofs.PropertyLemmas.{iso_2022_jp_is_not_single_byte, replacement_lacks_texts}
@@ -70,19 +68,22 @@ utf_16_keeps_laws big enough = record {
   bb = utf_16_shows_bb big;
 }
 
-one_byte_keeps_laws : (character : ℕ → Option ℕ) → ((b : ℕ) → b < 0x80 → character b ≡ Some b)
-    → AreEnoughForCodec lengths.OneByte (initial_state (one_byte_rule character))
+one_byte_keeps_laws : (character : ℕ → Option ℕ) → AreOneByteChars character
     → KeepsCodecLaws (one_byte_rule character) one_byte_facts
-one_byte_keeps_laws character has_ascii enough = record {
-  lawful = one_byte_is_lawful character;
-  enough = enough;
-  texts = one_byte_has_texts character;
-  bytes = one_byte_has_bytes character 0x61 0x61 (has_ascii 0x61 (omega arith));
-  ascii = one_byte_is_ascii_compatible character has_ascii;
-  single = one_byte_is_single_byte character;
-  divided = λ c low. one_byte_is_divided c character;
-  bb = one_byte_shows_bb character;
-}
+one_byte_keeps_laws character laws =
+    let prefix = one_byte_prefix character in
+    let prefixes = one_byte_prefixes character in
+    let has_ascii = one_byte_ascii character laws in
+    record {
+      lawful = prefixes_are_lawful prefix prefixes;
+      enough = one_byte_enough character laws;
+      texts = prefixes_have_texts prefix prefixes;
+      bytes = one_byte_has_bytes character laws;
+      ascii = prefixes_are_ascii_compatible prefix has_ascii;
+      single = one_byte_is_single_byte character;
+      divided = prefixes_are_divided prefix prefixes has_ascii (one_byte_settled character);
+      bb = one_byte_shows_bb character;
+    }
 
 multi_byte_keeps_laws : (prefix : List ℕ → Prefix) → AreMultiBytePrefixes prefix
     → DeterminesBbByItself (prefix_rule prefix)
@@ -92,7 +93,7 @@ multi_byte_keeps_laws prefix laws bb = record {
   enough = multi_bytes_enough prefix laws [];
   texts = prefixes_have_texts prefix laws.prefixes;
   bytes = prefixes_have_bytes prefix 0x61 (One 0x61) (laws.ascii 0x61 (omega arith));
-  ascii = multi_byte_is_ascii_compatible prefix laws.ascii;
+  ascii = prefixes_are_ascii_compatible prefix laws.ascii;
   single = multi_byte_is_not_single_byte prefix laws;
   divided = prefixes_are_divided prefix laws.prefixes laws.ascii laws.settled;
   bb = bb;
@@ -114,7 +115,7 @@ codec_laws codec.Utf16Be =
 codec_laws codec.Utf16Le =
     utf_16_keeps_laws false (utf_16_enough (record { big_endian = false; pending = Nothing }) tt)
 codec_laws (codec.SingleByte index) =
-    one_byte_keeps_laws _ (single_byte_ascii _) (single_byte_enough (single_byte_runs index))
+    one_byte_keeps_laws _ (single_byte_laws (single_byte_runs index))
 codec_laws codec.Big5 =
     multi_byte_keeps_laws big5_prefix big5.laws
     (multi_byte_shows_bb big5_prefix _ refl refl)
@@ -134,7 +135,7 @@ codec_laws codec.Gb18030 =
     multi_byte_keeps_laws gb18030_prefix gb18030.laws
     (multi_byte_shows_bb gb18030_prefix _ refl refl)
 codec_laws codec.XUserDefined =
-    one_byte_keeps_laws x_user_defined_char x_user_defined_ascii x_user_defined_enough
+    one_byte_keeps_laws _ x_user_defined_laws
 codec_laws codec.Replacement = record {
   lawful = replacement_is_lawful;
   enough = replacement_enough false;

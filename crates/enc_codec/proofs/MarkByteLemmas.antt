@@ -1,13 +1,13 @@
 -- A pending BB needs no lookahead, by the rule of each codec.
 use Rattle.std.proofs.Common.{◌≡◌, ℕ, Bool, true, false, Option, Some, None, List, [], ◌∷◌, refl, ap}
-use Rattle.std.proofs.Common.{◌∙◌, sym, arith}
+use Rattle.std.proofs.Common.{◌∙◌, sym, arith, subst}
 use Rattle.enc_decoder.specs.declared.byte_codec.Text.{Text}
 use Rattle.enc_decoder.specs.Segmentation.{one_byte_head}
 use Rattle.enc_decoder_utf.specs.Utf8.{utf_8_rule}
 use Rattle.enc_decoder_utf.proofs.Utf8Rule.{bb_goes_on}
 use Rattle.enc_decoder_utf.specs.Utf16.{code_unit, is_lead_surrogate as is_lead_unit, is_trail_surrogate, utf_16_rule}
 use Rattle.enc_decoder_single_byte.specs.OneByte.{one_byte_rule}
-use Rattle.enc_decoder_single_byte.proofs.OneByteLemmas.{no_more}
+use Rattle.enc_decoder_single_byte.proofs.OneByteLemmas.{no_more, one_byte_heads}
 use Rattle.enc_decoder_single_byte.specs.Replacement.{replacement_rule}
 use Rattle.enc_decoder.specs.declared.prefix.Prefix.{Prefix}
 use Rattle.enc_decoder.specs.declared.prefix.Prefix.TheVariants.{Incomplete}
@@ -27,10 +27,9 @@ utf_16_shows_bb true z e y = absurd (cc)
 utf_16_shows_bb false z e y = absurd (cc)
 
 pub one_byte_shows_bb : (character : ℕ → Option ℕ) → DeterminesBbByItself (one_byte_rule character)
-unfolding one_byte_rule
-one_byte_shows_bb character z e y =
-    let none_more = no_more character (one_byte_head 0 (character 0xEF)).set (character 0xBB) in
-    (none_more, record { there = omega arith; same = λ x. refl })
+one_byte_shows_bb character = subst DeterminesBbByItself (one_byte_heads character) (λ z e y.
+    let none_more = no_more (one_byte_head 0 (character 0xEF)).set (character 0xBB) in
+    (none_more, record { there = omega arith; same = λ x. refl }))
 
 -- where EF leads, BB is its trail, or is malformed with it
 pub multi_byte_shows_bb : (prefix : List ℕ → Prefix) (text : Option Text)

@@ -13,7 +13,7 @@ use Rattle.enc_decoder_utf.proofs.Utf8Prefixes.{utf_8_ascii}
 use Rattle.enc_decoder_utf.proofs.Utf8Rule.{utf_8_by_prefixes, two_bytes}
 use Rattle.enc_decoder_single_byte.specs.OneByte.{one_byte_rule}
 use Rattle.enc_decoder_single_byte.specs.Replacement.{replacement_rule}
-use Rattle.enc_decoder_single_byte.proofs.OneByteLemmas.{one_byte_piece}
+use Rattle.enc_decoder_single_byte.proofs.OneByteLemmas.{one_byte_heads}
 use Rattle.enc_decoder.specs.declared.prefix.Prefix.{Prefix}
 use Rattle.enc_decoder.specs.declared.prefix.Prefix.TheVariants.{Malformed, Incomplete}
 use Rattle.enc_decoder.specs.Prefixes.{prefix_rule, prefix_head, HasAscii}
@@ -39,11 +39,16 @@ more_bytes : (rule : Rule) (b : ℕ) (z : List ℕ) → AreBytes (b ∷ z)
 more_bytes rule b z a n h =
     n (subst (AllByRecursion IsByteWithText) (sequences_of-cons rule 0 b z) (h (b ∷ z) a)).0.one
 
+-- encodings by prefixes that have ASCII
+pub prefixes_are_ascii_compatible : (prefix : List ℕ → Prefix) → HasAscii prefix
+    → IsAsciiCompatible (prefix_rule prefix)
+prefixes_are_ascii_compatible prefix has_ascii b low = complete_one prefix b b (has_ascii b low)
+
 -- UTF-8
 
 pub utf_8_is_ascii_compatible : IsAsciiCompatible utf_8_rule
 utf_8_is_ascii_compatible = subst IsAsciiCompatible utf_8_by_prefixes
-    (λ b low. complete_one utf_8_prefix b b (utf_8_ascii b low))
+    (prefixes_are_ascii_compatible utf_8_prefix utf_8_ascii)
 
 pub utf_8_is_not_single_byte : ¬ (IsSingleByte utf_8_rule)
 utf_8_is_not_single_byte =
@@ -64,34 +69,26 @@ utf_16_is_not_single_byte false =
     more_bytes (utf_16_rule false) 0 (0x61 ∷ []) (omega arith, (omega arith, tt)) (λ e. cc)
 
 -- encodings of one byte
+module _ (character : ℕ → Option ℕ) where
+  abbrev rule : Rule
+  rule = λ set b z. one_byte_head set (character b)
 
-pub one_byte_is_ascii_compatible : (character : ℕ → Option ℕ)
-    → ((b : ℕ) → b < 0x80 → character b ≡ Some b) → IsAsciiCompatible (one_byte_rule character)
-one_byte_is_ascii_compatible character h b l = one_byte_piece character b b (h b l)
+  first : (set b : ℕ) (z : List ℕ) (c : Option ℕ)
+      → ((set : ℕ) → AllByRecursion IsByteWithText (sequences_of rule set z))
+      → AllByRecursion IsByteWithText (head_sequence (one_byte_head set c) b z
+      ∷ sequences_after rule (one_byte_head set c).set (one_byte_head set c).more z)
+  first set b z None rest_holds = (record { one = refl; text = λ e. cc }, rest_holds set)
+  first set b z (Some c) rest_holds = (record { one = refl; text = λ e. cc }, rest_holds set)
 
-pub one_byte_is_single_byte : (character : ℕ → Option ℕ) → IsSingleByte (one_byte_rule character)
-unfolding one_byte_rule sequences_after
-one_byte_is_single_byte character bytes a = each 0 bytes
-  where
-    first : (set b : ℕ) (z : List ℕ) (c : Option ℕ)
-        → ((set : ℕ) → AllByRecursion IsByteWithText (sequences_of (one_byte_rule character) set z))
-        → AllByRecursion IsByteWithText
-        (head_sequence (one_byte_head set c) b z
-        ∷ sequences_after (one_byte_rule character) (one_byte_head set c).set
-        (one_byte_head set c).more z)
-    first set b z None rest_holds = (record { one = refl; text = λ e. cc }, rest_holds set)
-    first set b z (Some c) rest_holds = (record { one = refl; text = λ e. cc }, rest_holds set)
+  each : (set : ℕ) (bytes : List ℕ) → AllByRecursion IsByteWithText (sequences_of rule set bytes)
+  unfolding sequences_after
+  each set [] = tt
+  each set (b ∷ z) = first set b z (character b) (λ s. each s z)
 
-    each : (set : ℕ) (bytes : List ℕ)
-        → AllByRecursion IsByteWithText (sequences_of (one_byte_rule character) set bytes)
-    each set [] = tt
-    each set (b ∷ z) = first set b z (character b) (λ s. each s z)
+  pub one_byte_is_single_byte : IsSingleByte (one_byte_rule character)
+  one_byte_is_single_byte = subst IsSingleByte (one_byte_heads character) (λ bytes _. each 0 bytes)
 
 -- legacy multi-byte encodings
-
-pub multi_byte_is_ascii_compatible : (prefix : List ℕ → Prefix) → HasAscii prefix
-    → IsAsciiCompatible (prefix_rule prefix)
-multi_byte_is_ascii_compatible prefix h b l = complete_one prefix b b (h b l)
 
 -- by a lead, and a byte that is malformed with it
 

@@ -1,11 +1,11 @@
 -- How an encoding shows the laws of prefixes.
-use Rattle.std.proofs.Common.{◌≡◌, ◌≢◌, ℕ, ◌<◌, ◌≤◌, Bool, true, false, cond, List, [], ◌∷◌, ◌++◌, length, subst, sym}
-use Rattle.std.proofs.Common.{ap, ◌∙◌, arith}
+use Rattle.std.proofs.Common.{◌≡◌, ◌≢◌, ℕ, ◌<◌, ◌≤◌, Bool, true, false, cond, Option, Some, None, List, [], ◌∷◌}
+use Rattle.std.proofs.Common.{◌++◌, length, subst, sym, ap, ◌∙◌, arith}
 use Rattle.enc_decoder.specs.declared.byte_codec.Text.TheVariants.{One}
 use Rattle.enc_decoder.specs.declared.prefix.Prefix.{Prefix}
 use Rattle.enc_decoder.specs.declared.prefix.Prefix.TheVariants.{Complete, Malformed, Incomplete}
 use Rattle.enc_decoder.specs.Segmentation.{Head}
-use Rattle.enc_decoder.specs.Prefixes.{prefix_head, IsPrefixText, CanBeOther, ArePrefixes}
+use Rattle.enc_decoder.specs.Prefixes.{single_prefix, prefix_head, IsPrefixText, CanBeOther, ArePrefixes}
 use Rattle.enc_decoder.proofs.RuleLemmas.{one_small}
 
 pub one_is_text : (c : ℕ) → IsPrefixText (One c)
@@ -16,6 +16,17 @@ abbrev pub IsLawfulPrefix : ℕ → ℕ → Prefix → Type 0
 IsLawfulPrefix most len (Complete text) = IsPrefixText text
 IsLawfulPrefix most len (Malformed n) = (0 < n) × (n ≤ len)
 IsLawfulPrefix most len Incomplete = len ≤ most
+
+-- a byte that stands alone
+
+pub single_lawful : (most len : ℕ) (found : Option ℕ) → 0 < len
+    → IsLawfulPrefix most len (single_prefix found)
+single_lawful most len None some = (omega arith, some)
+single_lawful most len (Some c) some = one_is_text c
+
+pub single_finished : (found : Option ℕ) → single_prefix found ≢ Incomplete
+single_finished None incomplete = cc
+single_finished (Some c) incomplete = cc
 
 pub either_lawful : (most len : ℕ) (t : Bool) (r s : Prefix) → IsLawfulPrefix most len r
     → IsLawfulPrefix most len s → IsLawfulPrefix most len (cond t r s)

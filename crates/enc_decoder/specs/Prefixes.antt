@@ -1,7 +1,7 @@
 -- Encodings by the kinds of prefixes: the first bytes of an input are a valid sequence, malformed
 -- from the first on, or incomplete.
-use Rattle.std.specs.Prelude.{◌≡◌, ◌≢◌, ℕ, ◌-◌, ◌<◌, ◌≤◌, Bool, true, false, ◌&&◌, ◌||◌, List, [], ◌∷◌, ◌++◌}
-use Rattle.std.specs.Prelude.{length, drop}
+use Rattle.std.specs.Prelude.{◌≡◌, ◌≢◌, ℕ, ◌-◌, ◌<◌, ◌≤◌, Bool, true, false, ◌&&◌, ◌||◌, Option, Some, None, List, []}
+use Rattle.std.specs.Prelude.{◌∷◌, ◌++◌, length, drop}
 use Rattle.enc_decoder.specs.declared.byte_codec.Text.{Text}
 use Rattle.enc_decoder.specs.declared.byte_codec.Text.TheVariants.{One}
 use Rattle.enc_decoder.specs.declared.byte_codec.Kind.TheVariants.{Valid}
@@ -12,6 +12,11 @@ use Rattle.enc_decoder.specs.CodecLaw.{text_chars}
 use Rattle.enc_decoder.specs.CodecState.{CodecState}
 use Rattle.enc_decoder.specs.Remainder.{AreBytes}
 use Rattle.enc_decoder.specs.RuleLaws.{IsSmallText}
+
+-- a byte that stands alone: its character, or malformed
+abbrev pub single_prefix : Option ℕ → Prefix
+single_prefix (Some c) = Complete (One c)
+single_prefix None = Malformed 1
 
 -- the first n bytes are malformed
 abbrev pub malformed_prefix_head : ℕ → ℕ → Head

@@ -5,11 +5,11 @@ use Rattle.enc_decoder.specs.declared.byte_codec.Text.{Text}
 use Rattle.enc_decoder.specs.declared.byte_codec.Text.TheVariants.{One}
 use Rattle.enc_decoder.specs.declared.prefix.Prefix.{Prefix}
 use Rattle.enc_decoder.specs.declared.prefix.Prefix.TheVariants.{Complete, Malformed, Incomplete}
-use Rattle.enc_decoder_multi_byte.specs.DoubleByte.{text_of_char, single_prefix, first_prefix, trail_prefix}
+use Rattle.enc_decoder_multi_byte.specs.DoubleByte.{text_of_char, first_prefix, trail_prefix}
 use Rattle.enc_decoder_multi_byte.specs.DoubleByte.{double_byte_prefix, ArePairs}
 use Rattle.enc_decoder_multi_byte.specs.MultiByte.{AreMultiBytePrefixes}
-use Rattle.enc_decoder.specs.Prefixes.{IsPrefixText, CanBeOther, AreSettledBelowDigits}
-use Rattle.enc_decoder.proofs.PrefixLaws.{one_is_text, IsLawfulPrefix, prefixes_by, malformed_with_ff}
+use Rattle.enc_decoder.specs.Prefixes.{single_prefix, IsPrefixText, CanBeOther, AreSettledBelowDigits}
+use Rattle.enc_decoder.proofs.PrefixLaws.{one_is_text, IsLawfulPrefix, single_lawful, prefixes_by, malformed_with_ff}
 use Rattle.enc_decoder.specs.CodecLaw.{text_chars}
 use Rattle.enc_decoder.specs.Need.{IsBmpText}
 use Rattle.enc_decoder.proofs.EnoughLemmas.{basic_by}
@@ -24,8 +24,7 @@ char_is_text (Some c) text is_char =
 pub first_lawful : (most : ℕ) (leads : Bool) (c : Option ℕ) → 1 ≤ most
     → IsLawfulPrefix most 1 (first_prefix leads c)
 first_lawful most true c some = some
-first_lawful most false None some = (omega arith, omega arith)
-first_lawful most false (Some c) some = one_is_text c
+first_lawful most false c some = single_lawful most 1 c (omega arith)
 
 -- a byte that is no lead is the character that it has, and a lead needs another byte
 

@@ -6,17 +6,12 @@ use Rattle.enc_decoder.specs.declared.byte_codec.Text.{Text}
 use Rattle.enc_decoder.specs.declared.byte_codec.Text.TheVariants.{One}
 use Rattle.enc_decoder.specs.declared.prefix.Prefix.{Prefix}
 use Rattle.enc_decoder.specs.declared.prefix.Prefix.TheVariants.{Complete, Malformed, Incomplete}
-use Rattle.enc_decoder.specs.Prefixes.{IsPrefixText}
+use Rattle.enc_decoder.specs.Prefixes.{single_prefix, IsPrefixText}
 
 -- the text of a character
 abbrev pub text_of_char : Option ℕ → Option Text
 text_of_char (Some c) = Some (One c)
 text_of_char None = None
-
--- a byte that stands alone: its character, or malformed
-abbrev pub single_prefix : Option ℕ → Prefix
-single_prefix (Some c) = Complete (One c)
-single_prefix None = Malformed 1
 
 -- the first byte: a lead byte, or a byte that stands alone
 abbrev pub first_prefix : Bool → Option ℕ → Prefix

@@ -1,5 +1,4 @@
 pub mod OneByteLemmas
-pub mod OneByteDivision
 pub mod ReplacementLemmas
 pub mod EnoughLemmas
 mod WordLemmas

@@ -1,33 +1,14 @@
 -- The words and the code units of bytes that stand alone.
-use Rattle.std.proofs.Common.{◌≡◌, ℕ, ◌+◌, ◌-◌, ◌<◌, Bool, true, false, cond, nat_lt, Option, Some, None, [], ◌∷◌}
+use Rattle.std.proofs.Common.{◌≡◌, ℕ, ◌+◌, ◌-◌, ◌<◌, Bool, true, false, cond, nat_lt, Some, None}
 use Rattle.std.proofs.Common.{length}
 use Rattle.std.proofs.Common.{get_or, refl, arith}
 use Rattle.std.specs.Char.{IsScalar}
 use Rattle.enc_index.specs.Grid.{HasWord}
 use Rattle.enc_index.proofs.ByteEntries.{fits, bytes_fit, word_at, unit_at}
 use Rattle.enc_index.proofs.GridEntries.{grid_tests, is_word, is_unit}
-use Rattle.enc_output.specs.Pairs.{MeansWord, MeansUnit}
-use Rattle.enc_decoder.specs.Taking.{IsWholeChar}
 use Rattle.enc_decoder_single_byte.specs.declared.user_defined_words.TheConstants.{USER_DEFINED_WORDS}
 use Rattle.enc_decoder_single_byte.specs.declared.user_defined_words.TheConstants.{USER_DEFINED_UNITS}
-use Rattle.enc_decoder_single_byte.specs.OneByte.{one_byte_rule, x_user_defined_char}
-use Rattle.enc_decoder_single_byte.proofs.OneByteLemmas.{one_byte_piece}
-
-module _ (character : ℕ → Option ℕ) (b : ℕ) where
-  pub means_word : (word : ℕ) → HasWord (character b) word
-      → MeansWord (IsWholeChar (one_byte_rule character) 0) (b ∷ []) word
-  means_word word has_word = record {
-    char = has_word.c;
-    scalar = has_word.utf8.scalar;
-    means = one_byte_piece character b has_word.c has_word.is;
-    bound = omega (arith, has_word.utf8.bound);
-    utf8 = has_word.utf8.bytes;
-  }
-
-  pub means_unit : (unit : ℕ) → character b ≡ Some unit → IsScalar unit
-      → MeansUnit (IsWholeChar (one_byte_rule character) 0) (b ∷ []) unit
-  means_unit unit is_char is_scalar =
-      record { scalar = is_scalar; means = one_byte_piece character b unit is_char }
+use Rattle.enc_decoder_single_byte.specs.OneByte.{x_user_defined_char}
 
 -- x-user-defined: the entries of all bytes, by a test
 

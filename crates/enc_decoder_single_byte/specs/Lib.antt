@@ -1,3 +1,2 @@
 pub mod OneByte
-pub mod OneByteState
 pub mod Replacement

@@ -1,11 +1,10 @@
 -- The rules of encodings in which each byte stands alone: the legacy single-byte encodings
 -- (Encoding Standard 9.1, "single-byte decoder") and x-user-defined (14.5.1).
-use Rattle.std.specs.Prelude.{ℕ, ◌+◌, ◌-◌, true, nat_lt, Option, Some, None, List, if◌then◌else◌}
-use Rattle.enc_decoder.specs.declared.byte_codec.Kind.TheVariants.{Valid, Malformed}
-use Rattle.enc_decoder.specs.declared.byte_codec.Text.TheVariants.{One}
-use Rattle.enc_decoder.specs.declared.byte_codec.HandlerResult.{HandlerResult}
-use Rattle.enc_decoder.specs.declared.byte_codec.HandlerResult.TheVariants.{Emit}
-use Rattle.enc_decoder.specs.Segmentation.{Rule, one_byte_head}
+use Rattle.std.specs.Prelude.{◌≡◌, ℕ, ◌+◌, ◌-◌, ◌<◌, nat_lt, Option, Some, List, [], ◌∷◌, if◌then◌else◌}
+use Rattle.enc_decoder.specs.declared.prefix.Prefix.{Prefix}
+use Rattle.enc_decoder.specs.declared.prefix.Prefix.TheVariants.{Incomplete}
+use Rattle.enc_decoder.specs.Segmentation.{Rule}
+use Rattle.enc_decoder.specs.Prefixes.{single_prefix, prefix_rule}
 use Rattle.enc_index.specs.declared.table.Planes.TheVariants.{Basic}
 use Rattle.enc_index.specs.Index.{index_at}
 
@@ -17,13 +16,17 @@ single_byte_char runs b = if nat_lt b 0x80 then Some b else index_at Basic runs 
 abbrev pub x_user_defined_char : ℕ → Option ℕ
 x_user_defined_char b = if nat_lt b 0x80 then Some b else Some (0xF780 + (b - 0x80))
 
--- A byte with a character is valid, and any other is malformed, each by itself.
-unfoldable pub one_byte_rule : (ℕ → Option ℕ) → Rule
-one_byte_rule character set b z = one_byte_head set (character b)
+-- The kind of a prefix, by the characters of bytes. The first byte decides by itself.
+unfoldable pub one_byte_prefix : (ℕ → Option ℕ) → List ℕ → Prefix
+one_byte_prefix character [] = Incomplete
+one_byte_prefix character (b ∷ z) = single_prefix (character b)
 
--- the effect of such a byte
-abbrev pub one_byte_step : {C : Type 0} → C → Option ℕ → HandlerResult C
-one_byte_step c (Some a) =
-    Emit (record { text = One a; kind = Valid; len = 1; takes_byte = true; next = c })
-one_byte_step c None =
-    Emit (record { text = One 0xFFFD; kind = Malformed; len = 1; takes_byte = true; next = c })
+-- The rule. Each byte is a sequence by itself (`one_byte_heads`).
+abbrev pub one_byte_rule : (ℕ → Option ℕ) → Rule
+one_byte_rule character = prefix_rule (one_byte_prefix character)
+
+-- The laws of the characters of bytes: an ASCII byte is the character with its number, and each is
+-- of the Basic Multilingual Plane.
+pub record AreOneByteChars (character : ℕ → Option ℕ) : Type 0 where
+  pub ascii : (b : ℕ) → b < 0x80 → character b ≡ Some b
+  pub basic : (b c : ℕ) → b < 256 → character b ≡ Some c → c < 0x1_0000

@@ -5,8 +5,8 @@ use Rattle.std.proofs.lemmas.Bool.{lt-ltb, le-leb, cond-true, and_from}
 use Rattle.enc_decoder.specs.declared.byte_codec.Text.{Text}
 use Rattle.enc_decoder.specs.declared.byte_codec.Text.TheVariants.{One}
 use Rattle.enc_decoder.specs.Taking.{IsWholeChar}
-use Rattle.enc_decoder_multi_byte.specs.DoubleByte.{single_prefix, first_prefix, trail_prefix, double_byte_prefix}
-use Rattle.enc_decoder.specs.Prefixes.{prefix_rule}
+use Rattle.enc_decoder_multi_byte.specs.DoubleByte.{first_prefix, trail_prefix, double_byte_prefix}
+use Rattle.enc_decoder.specs.Prefixes.{single_prefix, prefix_rule}
 use Rattle.enc_decoder.proofs.PrefixLemmas.{complete_one, complete_two}
 use Rattle.enc_encoder.specs.Stateless.{with_ascii, bytes_of_pointer}
 use Rattle.enc_round_trip.proofs.ReadBackLemmas.{IsReadBack, with_ascii_is_read}

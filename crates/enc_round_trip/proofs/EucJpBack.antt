@@ -6,8 +6,8 @@ use Rattle.std.proofs.lemmas.Bool.Decides.{nat_tests}
 use Rattle.enc_index.specs.Runs.{jis0208_at}
 use Rattle.enc_index_pointers.specs.Pointers.{jis0208_pointer, any_pointer}
 use Rattle.enc_decoder.specs.Taking.{IsWholeChar}
-use Rattle.enc_decoder_multi_byte.specs.DoubleByte.{text_of_char, first_prefix, single_prefix, trail_prefix}
-use Rattle.enc_decoder.specs.Prefixes.{prefix_rule}
+use Rattle.enc_decoder_multi_byte.specs.DoubleByte.{text_of_char, first_prefix, trail_prefix}
+use Rattle.enc_decoder.specs.Prefixes.{single_prefix, prefix_rule}
 use Rattle.enc_decoder_multi_byte.specs.EucJp.{euc_pair_pointer, is_euc_jp_lead, euc_jp_single_char}
 use Rattle.enc_decoder_multi_byte.specs.EucJp.{euc_jp_pair_char as read_pair, euc_jp_prefix}
 use Rattle.enc_decoder.proofs.PrefixLemmas.{complete_one, complete_two}

@@ -12,8 +12,8 @@ use Rattle.enc_decoder.specs.declared.byte_codec.Kind.TheVariants.{Valid}
 use Rattle.enc_decoder.specs.declared.byte_codec.Text.TheVariants.{One}
 use Rattle.enc_decoder.specs.Taking.{IsWholeChar}
 use Rattle.enc_decoder.specs.declared.prefix.Prefix.TheVariants.{Complete, Incomplete}
-use Rattle.enc_decoder_multi_byte.specs.DoubleByte.{text_of_char, first_prefix, single_prefix, trail_prefix}
-use Rattle.enc_decoder.specs.Prefixes.{prefix_rule}
+use Rattle.enc_decoder_multi_byte.specs.DoubleByte.{text_of_char, first_prefix, trail_prefix}
+use Rattle.enc_decoder.specs.Prefixes.{single_prefix, prefix_rule}
 use Rattle.enc_decoder_multi_byte.specs.Gb18030 as decoder
 use Rattle.enc_decoder.proofs.PrefixLemmas.{settled_first, settles_complete}
 use Rattle.enc_decoder.proofs.PrefixLemmas.{complete_one, complete_two}
