@@ -23,7 +23,7 @@ use Rattle.enc_decoder.specs.Taking.{TakesRun, TakesSequences}
 use Rattle.enc_decoder.proofs.TakenRunLemmas.{reaches_run}
 use Rattle.enc_decoder.proofs.OutputStageLemmas.{Reaches, Progress, progress_at, room_at, call_to, call_over}
 use Rattle.enc_decoder.proofs.OutputStageLemmas.{reaches_state}
-use Rattle.enc_decoder.proofs.NextEventLemmas.{EndsAt, end_is}
+use Rattle.enc_decoder.proofs.NextEventLemmas.{end_after, end_is}
 use Rattle.enc_decoder.proofs.EventLeavesLemmas as event
 
 -- in error mode "fatal" what is not reported is not malformed
@@ -77,8 +77,7 @@ module _ {C : Type 0} {units_of : ℕ → List ℕ} (state : C → CodecState) {
           (not_malformed stage.mode s.kind not_reported) full) (λ e. cc) unchanged (omega arith)
 
       -- the sequence is put out
-      module _ {end : ℕ} {then : Output} (ends : EndsAt s.takes_byte stage.read end)
-          (not_reported : reports stage.mode s.kind ≡ false)
+      module _ {then : Output} (not_reported : reports stage.mode s.kind ≡ false)
           (scalars : AreScalars (text_chars s.text))
           (fits : nat_le (length (units_of_text units_of (text_chars s.text))) at.room ≡ true)
           (onto : then ≡ with_appended at (units_of_text units_of (text_chars s.text))) where
@@ -101,18 +100,18 @@ module _ {C : Type 0} {units_of : ℕ → List ℕ} (state : C → CodecState) {
 
         pub puts : is_malformed s.kind ≡ false
             → Progress units_of old (remainder_of (state s.next)) stage.src stage.last stage.mode
-            before then end stage.replaced
-        puts valid = progress_at reaches_next (end_is _ ends)
+            before then (end_after s.takes_byte stage.read) stage.replaced
+        puts valid = progress_at reaches_next (end_is s.takes_byte stage.read _)
             (ap (λ b. stage.replaced || b) valid ∙ or_false stage.replaced)
 
         -- it is malformed, and whole sequences are put out after it
         pub replaces : {after : Output} {m : ℕ} {rest : List ℕ} → is_malformed s.kind ≡ true
-            → rest ≡ drop end stage.src
+            → rest ≡ drop (end_after s.takes_byte stage.read) stage.src
             → TakesSequences units_of (state s.next) (state s.next) rest m then after
             → Progress units_of old (remainder_of (state s.next)) stage.src stage.last stage.mode
-            before after (end + m) true
+            before after (end_after s.takes_byte stage.read + m) true
         replaces {after} {m} malformed is_rest given =
-            let same_end = end_is _ ends in
+            let same_end = end_is s.takes_byte stage.read _ in
             let run = subst (λ x. TakesSequences units_of (state s.next) (state s.next) x m then
             after) (is_rest ∙ ap (λ k. drop k stage.src) (sym same_end)) given in
             progress_at (reaches_run then_at run reaches_next
@@ -122,11 +121,10 @@ module _ {C : Type 0} {units_of : ℕ → List ℕ} (state : C → CodecState) {
             malformed ∙ ap (λ b. b || any_malformed run.taken) (or_true stage.replaced))
 
       -- the sequence is malformed, and is reported
-      pub stops_at : {end a : ℕ} → EndsAt s.takes_byte stage.read end
-          → reports stage.mode s.kind ≡ true → a ≡ length (state s.next).pending
+      pub stops_at : {a : ℕ} → reports stage.mode s.kind ≡ true → a ≡ length (state s.next).pending
           → IsCallInto units_of old (remainder_of (state s.next))
-          (call_to stage before at (Malformed s.len a) end)
-      stops_at ends reported is_pending =
+          (call_to stage before at (Malformed s.len a) (end_after s.takes_byte stage.read))
+      stops_at reported is_pending =
           let fatal = reported_in stage.mode s.kind reported in
           call_over reaches
           (event.reported state c stage emits reaches.bytes fatal.0 fatal.1 is_pending)
@@ -135,4 +133,4 @@ module _ {C : Type 0} {units_of : ℕ → List ℕ} (state : C → CodecState) {
             reaches.leaves.soon,
             ap (λ t. length (taken_bytes t (get_or stage.src stage.read 0))) (emits.0.late escape),
           ))
-          refl (end_is _ ends)
+          refl (end_is s.takes_byte stage.read _)

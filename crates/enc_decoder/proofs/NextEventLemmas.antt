@@ -1,7 +1,8 @@
 -- What comes next, as the loop takes it.
-use Rattle.std.proofs.Common.{◌*◌, ◌-◌}
+use Rattle.std.proofs.Common.{◌*◌, ◌-◌, refl}
+use Rattle.std.specs.Int.{from_bool}
 use Rattle.std.proofs.Common.{◌≡◌, ℕ, ◌<◌, Bool, true, false, List, [], ◌∷◌, ◌++◌, length, ap, ◌∙◌}
-use Rattle.std.proofs.Common.{sym, append_assoc, inl, inr, ◌+◌, length-append, ◌⊎◌, arith, ◌≤◌}
+use Rattle.std.proofs.Common.{sym, append_assoc, ◌+◌, length-append, arith, ◌≤◌}
 use Rattle.enc_decoder.specs.declared.byte_codec.Emission.{Emission}
 use Rattle.enc_decoder.specs.Sequence.{Sequence}
 use Rattle.enc_decoder.specs.Segmentation.{sequences_of}
@@ -26,30 +27,35 @@ module _ {C : Type 0} {state : C → CodecState} {c : C} {may_follow : List ℕ 
   }
 
 -- Where reading stands after a sequence: past the next byte if that is read with it.
-abbrev pub EndsAt : Bool → ℕ → ℕ → Type 0
-EndsAt takes read end = ((takes ≡ true) × (end ≡ read + 1)) ⊎ ((takes ≡ false) × (end ≡ read))
+abbrev pub end_after : Bool → ℕ → ℕ
+end_after takes read = read + from_bool takes
 
-pub end_is : {takes : Bool} {read end : ℕ} (b : ℕ) → EndsAt takes read end
-    → read + length (taken_bytes takes b) ≡ end
-end_is b ends = elim ends [
-  | inl takes ↦ omega (arith, takes.1, ap (λ t. length (taken_bytes t b)) takes.0)
-  | inr keeps_off ↦ omega (arith, keeps_off.1, ap (λ t. length (taken_bytes t b)) keeps_off.0)
-]
+pub end_is : (takes : Bool) (read b : ℕ)
+    → read + length (taken_bytes takes b) ≡ end_after takes read
+end_is true read b = refl
+end_is false read b = refl
+
+taken_within : (takes : Bool) (read len b : ℕ) → (takes ≡ true → read < len) → read ≤ len
+    → read + length (taken_bytes takes b) ≤ len
+taken_within true read len b has_next within = omega (arith, has_next refl)
+taken_within false read len b has_next within = omega (arith, within)
 
 -- After a sequence fewer bytes are pending or unread, if an unread byte counts twice.
 pub fewer_left : {C : Type 0} {state : C → CodecState} {c : C} {may_follow : List ℕ → Type 0}
-    {len : ℕ} {s : Emission C} (b read end : ℕ)
+    {len : ℕ} {s : Emission C} (b read : ℕ)
     → IsNextSequence state c may_follow (taken_bytes s.takes_byte b) s
-    → (s.takes_byte ≡ true → read < len) → read ≤ len → EndsAt s.takes_byte read end
-    → 2 * (len - end) + length (state s.next).pending < 2 * (len - read) + length (state c).pending
-fewer_left {state = state} {c} {s = s} b read end next has_next within ends =
+    → (s.takes_byte ≡ true → read < len) → read ≤ len
+    → 2 * (len - end_after s.takes_byte read) + length (state s.next).pending < 2 * (len - read) + length (state c).pending
+fewer_left {state = state} {c} {len = len} {s = s} b read next has_next within =
     let took : ℕ = length (taken_bytes s.takes_byte b) in
     let pending : length (state c).pending + took
     ≡ length next.bytes + length (state s.next).pending =
     sym (length-append (state c).pending (taken_bytes s.takes_byte b)) ∙ ap length next.parts
     ∙ length-append next.bytes (state s.next).pending in
-    let same_end = end_is b ends in
-    elim ends [
-      | inl takes ↦ omega (arith, next.some, pending, same_end, has_next takes.0, takes.1, within)
-      | inr keeps_off ↦ omega (arith, next.some, pending, same_end, keeps_off.1, within)
-    ]
+    omega (
+      arith,
+      next.some,
+      pending,
+      end_is s.takes_byte read b,
+      taken_within s.takes_byte read len b has_next within,
+    )

@@ -25,7 +25,7 @@ use Rattle.enc_output.specs.declared.decoder_result.DecoderResult.TheVariants as
 use Rattle.enc_decoder.specs.declared.error_mode.ErrorMode.{ErrorMode}
 use Rattle.enc_decoder.specs.declared.error_mode.ErrorMode.TheVariants.{Replacement, Fatal}
 use Rattle.enc_decoder.specs.declared.byte_codec.Kind.{Kind}
-use Rattle.enc_decoder.specs.declared.byte_codec.Kind.TheVariants.{Valid, Skipped, Malformed, RepeatedEscape}
+use Rattle.enc_decoder.specs.declared.byte_codec.Kind.TheVariants.{RepeatedEscape}
 use Rattle.enc_output.specs.Output.{with_appended}
 use Rattle.enc_utf8.specs.Text.{AreScalars, units_of_text}
 use Rattle.enc_decoder.specs.Sequence.{Sequence, is_malformed, is_repeated_escape, sequence_bytes, sequence_text}
@@ -73,10 +73,8 @@ pub record ReadsThroughEscape (remaining : List ℕ → List Sequence) (src : Li
 -- the bytes read if a sequence is reported, by whether it is a repeated escape
 abbrev pub ReadsToReported : Bool → (List ℕ → List Sequence) → List ℕ → List Sequence → ℕ → List ℕ
     → Type 0
-ReadsToReported true remaining src sequences read pending =
-    ReadsThroughEscape remaining src sequences read
-ReadsToReported false remaining src sequences read pending =
-    ReadsToMalformed remaining src sequences read pending
+ReadsToReported true remaining src ss read pending = ReadsThroughEscape remaining src ss read
+ReadsToReported false remaining src ss read pending = ReadsToMalformed remaining src ss read pending
 
 -- bounds of the length of a malformed sequence, and of the number of bytes read after it
 abbrev pub AreMalformedLens : ℕ → ℕ → Type 0
@@ -84,10 +82,8 @@ AreMalformedLens l a = (l ≤ 4) × (a ≤ 3) × (l + a ≤ 6)
 
 -- the same, and the exact lengths of a repeated escape
 abbrev pub AreReportedLens : Kind → ℕ → ℕ → Type 0
-AreReportedLens Valid l a = AreMalformedLens l a
-AreReportedLens Skipped l a = AreMalformedLens l a
-AreReportedLens Malformed l a = AreMalformedLens l a
 AreReportedLens RepeatedEscape l a = (l ≡ 3) × (a ≡ 3)
+AreReportedLens _ l a = AreMalformedLens l a
 
 -- All input is read, and no determined sequence is left.
 pub record DecoderAtInputEmpty (old new : Remainder) (c : Call)
@@ -141,8 +137,7 @@ DecoderStops units_of old new c put done (stop.Malformed l a) = AtMalformed old 
 -- whether a call has reached the end of the input
 abbrev pub reaches_end : Bool → DecoderResult → Bool
 reaches_end last InputEmpty = last
-reaches_end last OutputFull = false
-reaches_end last (stop.Malformed l a) = false
+reaches_end last _ = false
 
 -- the same result, if `held` bytes more are held after those of a codec
 abbrev pub shifted_result : DecoderResult → ℕ → DecoderResult

@@ -2,7 +2,7 @@
 -- "handler").
 use Rattle.std.specs.Prelude.{ℕ, Bool, true, false, ◌||◌, List, [], ◌∷◌, ◌++◌}
 use Rattle.enc_decoder.specs.declared.byte_codec.Kind.{Kind}
-use Rattle.enc_decoder.specs.declared.byte_codec.Kind.TheVariants.{Valid, Skipped, Malformed, RepeatedEscape}
+use Rattle.enc_decoder.specs.declared.byte_codec.Kind.TheVariants.{Malformed, RepeatedEscape}
 
 -- A sequence: its bytes, its text (the characters of a valid one, nothing for a skipped one, U+FFFD
 -- for a malformed one), its kind, and the character set designated after it.
@@ -14,19 +14,16 @@ pub record Sequence : Type 0 where
 
 -- whether a sequence of this kind is malformed
 abbrev pub is_malformed : Kind → Bool
-is_malformed Valid = false
-is_malformed Skipped = false
 is_malformed Malformed = true
 is_malformed RepeatedEscape = true
+is_malformed _ = false
 
 -- An escape sequence that another one directly follows is malformed. The last byte of the other
 -- determines it, and is read when it is reported. The byte that determines any other malformed
 -- sequence stays unread, unless it is its own.
 abbrev pub is_repeated_escape : Kind → Bool
-is_repeated_escape Valid = false
-is_repeated_escape Skipped = false
-is_repeated_escape Malformed = false
 is_repeated_escape RepeatedEscape = true
+is_repeated_escape _ = false
 
 -- the bytes of the sequences, joined
 abbrev pub sequence_bytes : List Sequence → List ℕ

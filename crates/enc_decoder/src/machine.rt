@@ -141,7 +141,7 @@ pub fn run<C: ByteCodec, U: Units>(
             }
             NextEvent::Emits(shown) => shown,
         };
-        let end = if shown.takes_byte { read + 1 } else { read };
+        let end = read + shown.takes_byte as usize;
         if is_reported(shown.kind, options.mode) {
             state = shown.next;
             read = end;

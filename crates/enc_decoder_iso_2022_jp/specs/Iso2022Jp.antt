@@ -32,10 +32,8 @@ set_of_escape_bytes b c =
 
 -- the character set that an escape sequence at the front designates, if there is one
 abbrev pub designated_set : List ℕ → Option CharacterSet
-designated_set [] = None
-designated_set (a ∷ []) = None
-designated_set (a ∷ b ∷ []) = None
 designated_set (a ∷ b ∷ c ∷ z) = if a == 0x1B then set_of_escape_bytes b c else None
+designated_set _ = None
 
 -- An escape sequence is skipped, or malformed if another one directly follows. A byte 1B that
 -- begins none is malformed by itself, and the bytes after it are read in the designated character
@@ -70,10 +68,8 @@ is_jis0208_byte b = nat_le 0x21 b && nat_le b 0x7E
 
 -- whether a byte begins a character of two bytes
 unfoldable pub is_lead_byte : CharacterSet → ℕ → Bool
-is_lead_byte Ascii b = false
-is_lead_byte Roman b = false
-is_lead_byte Katakana b = false
 is_lead_byte Jis0208 b = is_jis0208_byte b
+is_lead_byte _ b = false
 
 -- the character of a lead byte and the byte after it
 unfoldable pub two_byte_char : ℕ → ℕ → Option ℕ

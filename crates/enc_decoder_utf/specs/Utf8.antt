@@ -3,25 +3,20 @@
 -- `enc_utf8` has both in the words of the Unicode Standard.
 use Rattle.std.specs.Prelude.{ℕ, ◌+◌, ◌==◌, List, [], ◌∷◌, take, if◌then◌else◌}
 use Rattle.enc_utf8.specs.Utf8Sequences.{sequence_len, is_second_byte, is_continuation, well_formed_tail_len, scalar_of}
-use Rattle.enc_decoder.specs.declared.byte_codec.Kind.TheVariants.{Valid, Malformed}
 use Rattle.enc_decoder.specs.declared.byte_codec.Text.TheVariants.{One}
 use Rattle.enc_decoder.specs.declared.prefix.Prefix.{Prefix}
 use Rattle.enc_decoder.specs.declared.prefix.Prefix.TheVariants.{Complete, Incomplete}
 use Rattle.enc_decoder.specs.declared.prefix.Prefix.TheVariants as kind
-use Rattle.enc_decoder.specs.Segmentation.{Rule}
+use Rattle.enc_decoder.specs.Segmentation.{Rule, character_head, malformed_head}
 
 -- A whole well-formed sequence is valid. Otherwise the longest prefix that begins one is malformed,
 -- and at least one byte.
 unfoldable pub utf_8_rule : Rule
 utf_8_rule set b z =
     if well_formed_tail_len b z + 1 == sequence_len b
-    then record {
-      more = well_formed_tail_len b z;
-      text = scalar_of (b ∷ take (well_formed_tail_len b z) z) ∷ [];
-      kind = Valid;
-      set = set;
-    }
-    else record { more = well_formed_tail_len b z; text = 0xFFFD ∷ []; kind = Malformed; set = set }
+    then character_head set (well_formed_tail_len b z)
+    (scalar_of (b ∷ take (well_formed_tail_len b z) z))
+    else malformed_head set (well_formed_tail_len b z)
 
 -- The same by the kinds of prefixes (`utf_8_by_prefixes`).
 

@@ -67,15 +67,11 @@ fresh_decoder handling e = record {
   finished = false;
 }
 
--- The sequences of these bytes and no more: a byte order mark that may come is the first of them.
--- After the end there are none.
-abbrev pub sequences_from : DecoderState → List ℕ → List Sequence
-sequences_from d bytes =
-    if d.finished then [] else sequences_by_mark (find_mark d.marks bytes) d.encoding d.set bytes
-
--- the sequences still to come out if exactly the bytes y follow
+-- The sequences still to come out if exactly the bytes y follow: those of the pending bytes and y. A
+-- byte order mark that may come is the first of them. After the end there are none.
 abbrev pub remaining_sequences : DecoderState → List ℕ → List Sequence
-remaining_sequences d y = sequences_from d (d.pending ++ y)
+remaining_sequences d y = if d.finished then []
+    else sequences_by_mark (find_mark d.marks (d.pending ++ y)) d.encoding d.set (d.pending ++ y)
 
 -- the remainder of a decoder
 abbrev pub decoder_remainder : DecoderState → Remainder
@@ -84,9 +80,8 @@ decoder_remainder d = record { pending = d.pending; set = d.set; sequences = rem
 -- The byte order marks that may still come after a call: none at the end, or once a sequence is
 -- done, and else those that the pending bytes begin.
 abbrev pub marks_after : List Mark → Bool → List Sequence → List ℕ → List Mark
-marks_after marks true done pending = []
 marks_after marks false [] pending = marks_begun marks pending
-marks_after marks false (s ∷ ss) pending = []
+marks_after marks end done pending = []
 
 -- Whether the bytes left pending by a call are held as those of a byte order mark: all bytes so far
 -- begin one, or they were held before and the call has read nothing.

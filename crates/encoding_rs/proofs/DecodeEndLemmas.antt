@@ -10,14 +10,14 @@ use Rattle.enc_stream.specs.declared.encoding.Encoding.{Encoding}
 use Rattle.encoding_rs.specs.declared.run.DecodeCall.{DecodeCall}
 use Rattle.enc_stream.specs.Decoding.{has_finished, TakesSmallTexts}
 use Rattle.encoding_rs.specs.Run.{units_of_call, DecodeRunState, DecodeRunAdvances, decode_run_start}
-use Rattle.encoding_rs.specs.DecodeEnd.{most_units, CanDecodeMore}
+use Rattle.encoding_rs.specs.DecodeEnd.{CanDecodeMore}
 use Rattle.enc_decoder.specs.Call.{decode_error_mode}
 use Rattle.enc_stream.proofs.DecoderProgressLemmas.{nearer}
 use Rattle.enc_stream.proofs.OutputFullLemmas.{four_bytes, two_units}
 use Rattle.encoding_rs.specs.Runs.{IsRun}
 use Rattle.encoding_rs.proofs.RunLemmas.{ends_within}
 
-small_by : (utf16 : Bool) → TakesSmallTexts (units_of_call utf16) (most_units utf16)
+small_by : (utf16 : Bool) → TakesSmallTexts (units_of_call utf16) (if utf16 then 2 else 4)
 small_by true = two_units
 small_by false = four_bytes
 

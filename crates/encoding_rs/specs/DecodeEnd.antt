@@ -2,11 +2,8 @@
 use Rattle.std.specs.Prelude.{ℕ, ◌≤◌, Bool, if◌then◌else◌}
 use Rattle.encoding_rs.specs.declared.run.DecodeCall.{DecodeCall}
 
--- the greatest number of code units of a character
-abbrev pub most_units : Bool → ℕ
-most_units utf16 = if utf16 then 2 else 4
-
--- a call that gets a byte and has room for any character
+-- A call that gets a byte and has room for any character: four code units of UTF-8, or two of
+-- UTF-16.
 pub record CanDecodeMore (call : DecodeCall) : Type 0 where
   pub offered : 1 ≤ call.offer
-  pub roomy : most_units call.utf16 ≤ call.room
+  pub roomy : (if call.utf16 then 2 else 4) ≤ call.room

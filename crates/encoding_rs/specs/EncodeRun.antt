@@ -5,7 +5,7 @@ use Rattle.std.specs.Prelude.{take, drop, if◌then◌else◌}
 use Rattle.enc_stream.specs.declared.encoding.Encoding.{Encoding}
 use Rattle.encoding_rs.specs.declared.encode_run.EncodeCall.{EncodeCall}
 use Rattle.enc_input.specs.declared.encoder_result.EncoderResult.{EncoderResult}
-use Rattle.enc_input.specs.declared.encoder_result.EncoderResult.TheVariants.{InputEmpty, OutputFull, Unmappable}
+use Rattle.enc_input.specs.declared.encoder_result.EncoderResult.TheVariants.{InputEmpty, Unmappable}
 use Rattle.enc_encoder.specs.EncoderRule.{EncoderRule}
 use Rattle.enc_encoder.specs.Steps.{step_chars}
 use Rattle.enc_encoder.specs.Text.{reference_after}
@@ -22,21 +22,18 @@ encode_error_mode replace v = if replace then html_mode v else Fatal
 
 -- the character that a call has reported
 abbrev pub reported_character : EncoderResult → List ℕ
-reported_character InputEmpty = []
-reported_character OutputFull = []
 reported_character (Unmappable c) = c ∷ []
+reported_character _ = []
 
 -- whether a call has reported an unmappable character
 abbrev pub is_unmappable_result : EncoderResult → Bool
-is_unmappable_result InputEmpty = false
-is_unmappable_result OutputFull = false
 is_unmappable_result (Unmappable c) = true
+is_unmappable_result _ = false
 
 -- whether a call has read all of its input
 abbrev pub is_input_empty_result : EncoderResult → Bool
 is_input_empty_result InputEmpty = true
-is_input_empty_result OutputFull = false
-is_input_empty_result (Unmappable c) = false
+is_input_empty_result _ = false
 
 -- A call of a run: it gets the unread characters, at most `offer` of them, and `last` exactly if
 -- that is all of them. Its bytes are appended, and the reference to a character that it has

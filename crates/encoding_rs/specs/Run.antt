@@ -1,14 +1,14 @@
 -- Runs of a decoder: lists of calls with any error mode, chunk and room (Encoding Standard 4.1,
 -- "process a queue", in parts).
 use Rattle.std.specs.Prelude.{◌≡◌, ℕ, ◌+◌, ◌-◌, Bool, true, false, ◌||◌, nat_le, List, [], ◌∷◌, ◌++◌, map}
-use Rattle.std.specs.Prelude.{length, take, drop}
+use Rattle.std.specs.Prelude.{length, take, drop, if◌then◌else◌}
 use Rattle.std.specs.Char.{encode_utf8}
 use Rattle.std.specs.Char.Escape.{encode_utf16}
 use Rattle.enc_stream.specs.declared.encoding.Encoding.{Encoding}
 use Rattle.enc_stream.specs.declared.bom.BomHandling.{BomHandling}
 use Rattle.encoding_rs.specs.declared.run.DecodeCall.{DecodeCall}
 use Rattle.enc_output.specs.declared.decoder_result.DecoderResult.{DecoderResult}
-use Rattle.enc_output.specs.declared.decoder_result.DecoderResult.TheVariants.{InputEmpty, OutputFull, Malformed}
+use Rattle.enc_output.specs.declared.decoder_result.DecoderResult.TheVariants.{Malformed}
 use Rattle.enc_utf8.specs.Text.{AreScalars, units_of_text}
 use Rattle.enc_decoder.specs.Sequence.{Sequence, sequence_bytes, sequence_text, any_malformed}
 use Rattle.enc_decoder.specs.Call.{decode_error_mode}
@@ -18,27 +18,23 @@ use Rattle.encoding_rs.specs.Runs.{IsRun, all_report, RunPart, done_of_parts, re
 
 -- the code units that a call decodes to
 abbrev pub units_of_call : Bool → ℕ → List ℕ
-units_of_call true = encode_utf16
-units_of_call false = encode_utf8
+units_of_call utf16 = if utf16 then encode_utf16 else encode_utf8
 
 -- whether a call has reported a malformed sequence
 abbrev pub is_malformed_result : DecoderResult → Bool
-is_malformed_result InputEmpty = false
-is_malformed_result OutputFull = false
 is_malformed_result (Malformed l a) = true
+is_malformed_result _ = false
 
 -- the text that a run puts in the place of a malformed sequence
 abbrev pub replacement_text : DecoderResult → List ℕ
-replacement_text InputEmpty = []
-replacement_text OutputFull = []
 replacement_text (Malformed l a) = 0xFFFD ∷ []
+replacement_text _ = []
 
 -- The offset in the whole input, and the length, of a malformed sequence reported when `read` bytes
 -- are read: the l bytes before the last a.
 abbrev pub fault_of_result : DecoderResult → ℕ → List (ℕ × ℕ)
-fault_of_result InputEmpty read = []
-fault_of_result OutputFull read = []
 fault_of_result (Malformed l a) read = (read - a - l, l) ∷ []
+fault_of_result _ read = []
 
 -- A call with these bytes, and the text that it has written, in UTF-8.
 pub record AnswersDecodeCall (units_of : ℕ → List ℕ) (call : DecodeCall) (old new : DecoderState)

@@ -1,11 +1,10 @@
-use Rattle.std.proofs.Common.{refl, ap, ◌∙◌, sym, arith, length, inl, inr}
+use Rattle.std.proofs.Common.{refl, ap, ◌∙◌, sym, arith, length}
 use Rattle.enc_decoder.specs.CodecState.{CodecState}
 use Rattle.enc_decoder.proofs.ByteLemmas.{bytes_of_slice}
 use Rattle.enc_decoder.proofs.NextEventLemmas.{fewer_left}
 use Rattle.enc_decoder.proofs.OutputStageLemmas.{start}
 use Rattle.enc_decoder.proofs.MachineLemmas.{after_run, stays, holds, stops_full, puts, replaces, stops_at}
 use Rattle.enc_decoder.proofs.machine.run.Goals as goal
-use Rattle.enc_decoder.proofs.machine.run.Goals.{then-shown, else-shown}
 
 pub events-init : goal.events-init
 events-init g c = record { progress = start (bytes_of_slice _ c.type_inv.src); rule = refl }
@@ -40,10 +39,7 @@ returns-then-is_reported g c =
     record {
       call = stops_at g.C.ByteCodec.state c.take_run-ahead.result.0 progress.reaches
           c.in-Emits.ensures
-          (elim c.if-shown.branch [
-            | then-shown shown ↦ inl (shown.if-shown.true, shown.end-is)
-            | else-shown shown ↦ inr (shown.if-shown.false, shown.end-is)
-          ]) (sym c.if-is_reported.ensures) c.held.ensures;
+          (sym c.if-is_reported.ensures) c.held.ensures;
       rule = c.in-Emits.ensures.0.same_rule
           ∙ ap (λ (s : CodecState). s.rule) c.take_run-ahead.ensures.run.next_state
           ∙ c.events.invariant.rule;
@@ -68,10 +64,7 @@ events-preserved g c =
     record {
       progress = puts g.C.ByteCodec.state c.take_run-ahead.result.0 progress.reaches
           c.in-Emits.ensures
-          (elim c.if-shown.branch [
-            | then-shown shown ↦ inl (shown.if-shown.true, shown.end-is)
-            | else-shown shown ↦ inr (shown.if-shown.false, shown.end-is)
-          ]) (sym c.if-is_reported.ensures) (c.put_text.ensures.scalars c.if-not-put_text.false)
+          (sym c.if-is_reported.ensures) (c.put_text.ensures.scalars c.if-not-put_text.false)
           (sym c.if-not-put_text.ensures.fits) (c.put_text.ensures.written c.if-not-put_text.false)
           (sym c.if-is_malformed.ensures);
       rule = c.in-Emits.ensures.0.same_rule
@@ -86,10 +79,7 @@ events-preserved-then-is_malformed g c =
     record {
       progress = replaces g.C.ByteCodec.state c.take_run-ahead.result.0 progress.reaches
           c.in-Emits.ensures
-          (elim c.if-shown.branch [
-            | then-shown shown ↦ inl (shown.if-shown.true, shown.end-is)
-            | else-shown shown ↦ inr (shown.if-shown.false, shown.end-is)
-          ]) (sym c.if-is_reported.ensures) (c.put_text.ensures.scalars c.if-not-put_text.false)
+          (sym c.if-is_reported.ensures) (c.put_text.ensures.scalars c.if-not-put_text.false)
           (sym c.if-not-put_text.ensures.fits) (c.put_text.ensures.written c.if-not-put_text.false)
           (sym c.if-is_malformed.ensures) c.split_at-then-is_malformed.ensures.back
           c.replace_more-read.ensures;
@@ -105,11 +95,8 @@ events-smaller g c =
     let next_state = c.take_run-ahead.ensures.run.next_state in
     let same_pending = ap (λ (s : CodecState). length s.pending) next_state in
     let within = progress.reaches.leaves.within in
-    let fewer = fewer_left _ _ c.if-shown.end c.in-Emits.ensures.0
-    (λ takes. (c.in-Emits.ensures.1 takes).0) within (elim c.if-shown.branch [
-      | then-shown shown ↦ inl (shown.if-shown.true, shown.end-is)
-      | else-shown shown ↦ inr (shown.if-shown.false, shown.end-is)
-    ]) in
+    let fewer = fewer_left _ _ c.in-Emits.ensures.0
+    (λ takes. (c.in-Emits.ensures.1 takes).0) within in
     omega (arith, fewer, same_pending)
 
 pub events-smaller-then-is_malformed : goal.events-smaller-then-is_malformed
@@ -119,9 +106,6 @@ events-smaller-then-is_malformed g c =
     let next_state = c.take_run-ahead.ensures.run.next_state in
     let same_pending = ap (λ (s : CodecState). length s.pending) next_state in
     let within = progress.reaches.leaves.within in
-    let fewer = fewer_left _ _ c.if-shown.end c.in-Emits.ensures.0
-    (λ takes. (c.in-Emits.ensures.1 takes).0) within (elim c.if-shown.branch [
-      | then-shown shown ↦ inl (shown.if-shown.true, shown.end-is)
-      | else-shown shown ↦ inr (shown.if-shown.false, shown.end-is)
-    ]) in
+    let fewer = fewer_left _ _ c.in-Emits.ensures.0
+    (λ takes. (c.in-Emits.ensures.1 takes).0) within in
     omega (arith, fewer, same_pending)
