@@ -45,7 +45,8 @@ pub fewer_left : {C : Type 0} {state : C → CodecState} {c : C} {may_follow : L
     {len : ℕ} {s : Emission C} (b read : ℕ)
     → IsNextSequence state c may_follow (taken_bytes s.takes_byte b) s
     → (s.takes_byte ≡ true → read < len) → read ≤ len
-    → 2 * (len - end_after s.takes_byte read) + length (state s.next).pending < 2 * (len - read) + length (state c).pending
+    → 2 * (len - end_after s.takes_byte read) + length (state s.next).pending
+    < 2 * (len - read) + length (state c).pending
 fewer_left {state = state} {c} {len = len} {s = s} b read next has_next within =
     let took : ℕ = length (taken_bytes s.takes_byte b) in
     let pending : length (state c).pending + took

@@ -67,8 +67,8 @@ fresh_decoder handling e = record {
   finished = false;
 }
 
--- The sequences still to come out if exactly the bytes y follow: those of the pending bytes and y. A
--- byte order mark that may come is the first of them. After the end there are none.
+-- The sequences still to come out if exactly the bytes y follow: those of the pending bytes and y.
+-- A byte order mark that may come is the first of them. After the end there are none.
 abbrev pub remaining_sequences : DecoderState → List ℕ → List Sequence
 remaining_sequences d y = if d.finished then []
     else sequences_by_mark (find_mark d.marks (d.pending ++ y)) d.encoding d.set (d.pending ++ y)
