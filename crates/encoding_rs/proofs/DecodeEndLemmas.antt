@@ -1,6 +1,6 @@
 -- Each call of a run of a decoder takes it nearer to its end, or ends it.
 use Rattle.std.proofs.Common.{◌≡◌, ℕ, ◌+◌, ◌-◌, ◌*◌, ◌<◌, ◌≤◌, ◌⊎◌, inl, inr, Bool, true, false, List, length, take}
-use Rattle.std.proofs.Common.{drop, nat_le, arith}
+use Rattle.std.proofs.Common.{drop, nat_le, arith, if◌then◌else◌}
 use Rattle.std.specs.List.{All}
 use Rattle.std.proofs.lemmas.Bool.{leb-false}
 use Rattle.std.proofs.lemmas.List.{length-take}
