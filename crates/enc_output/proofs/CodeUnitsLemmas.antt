@@ -1,16 +1,16 @@
 -- Characters of one code unit of UTF-16.
 use Rattle.std.proofs.Common.{◌≡◌, ℕ, zero, suc, ◌+◌, ◌*◌, ◌≤◌, Bool, List, [], ◌∷◌, ◌++◌, length, take, refl, ap, ◌∙◌}
-use Rattle.std.proofs.Common.{sym, subst, arith}
+use Rattle.std.proofs.Common.{sym, subst, arith, take-add, drop, drop-drop}
+use Rattle.std.proofs.lemmas.List.{take_all}
 use Rattle.std.proofs.lemmas.Bool.{and_parts}
 use Rattle.std.specs.Char.Escape.{encode_utf16}
 use Rattle.enc_utf8.proofs.LengthLemmas.{lengths}
 use Rattle.enc_output.specs.CodeUnits.{unit_of, units_of_bytes, AreCodeUnits}
-use Rattle.enc_output.specs.Gathering.{GathersChars}
+use Rattle.enc_output.specs.Output.{Output, with_appended}
 use Rattle.enc_utf8.specs.Text.{AreScalars, units_of_text}
-use Rattle.enc_output.specs.PieceRuns.{ReadsPieces}
-use Rattle.enc_utf8.proofs.PutLemmas.{stored_lanes}
+use Rattle.enc_output.specs.PieceRuns.{ReadsPieces, PutsPieces}
+use Rattle.enc_utf8.proofs.UnitsLemmas.{units-append}
 use Rattle.enc_output.proofs.PiecesLemmas.{reads_none, reads_one, reads_then, reads_wider}
-use lib.Lanes.{put_chunk}
 
 -- characters of one code unit each
 
@@ -38,32 +38,58 @@ module _ {Means : List ℕ → ℕ → Type 0} (big : Bool) (mean : AreCodeUnits
       (mean a b (and_parts _ _ are_scalars).0))
       (reads_units n bs (omega arith) (and_parts _ _ are_scalars).1))
 
-  pub gathers_units : {units_of : ℕ → List ℕ} (n : ℕ) {src units before after : List ℕ} → n ≤ 8
-      → 16 ≤ length src
-      → units ≡ units_of_bytes big (take 16 src) → AreScalars (take n units)
-      → after ≡ before ++ units_of_text units_of (take n units)
-      → GathersChars units_of Means src (2 * n) before after
-  gathers_units {units_of} n {src} {units} {before} {after} h l are_units are_scalars w =
+  -- the characters of code units that were stored
+  pub units_put : {units_of : ℕ → List ℕ} (m n : ℕ) {before after : Output} {src units : List ℕ}
+      → m ≤ length src → n + n ≤ length (take m src) → units ≡ units_of_bytes big (take m src)
+      → AreScalars (take n units) → length (units_of_text units_of (take n units)) ≤ before.room
+      → after ≡ with_appended before (units_of_text units_of (take n units))
+      → PutsPieces units_of Means before after src (2 * n)
+  units_put {units_of} m n {before} {after} {src} {units} within few are_units are_scalars fits
+      stored =
       let twice : n + n ≡ 2 * n = omega arith in
-      subst (λ k. GathersChars units_of Means src k before after) twice (record {
+      subst (λ k. PutsPieces units_of Means before after src k) twice (record {
         text = take n units;
         scalars = are_scalars;
         reads = subst (λ us. ReadsPieces Means src (n + n) (take n us)) (sym are_units)
-            (reads_wider 16 (reads_units n (take 16 src) (omega (arith, lengths))
+            (reads_wider m (reads_units n (take m src) few
             (subst (λ us. AreScalars (take n us)) are_units are_scalars)));
-        written = w;
+        fits = fits;
+        written = stored;
       })
 
-  -- the same in UTF-16, where all eight are stored as they are
-  pub gathers_lanes : (n at : ℕ) {src units : List ℕ} (buffer : List ℕ) → n ≤ 8
-      → 16 ≤ length src → at + 8 ≤ length buffer
-      → units ≡ units_of_bytes big (take 16 src) → AreScalars (take n units)
-      → units_of_text encode_utf16 (take n units) ≡ take n units
-      → GathersChars encode_utf16 Means src (2 * n) (take at buffer)
-      (take (at + n) (put_chunk at buffer units))
-  gathers_lanes n at {src} {units} buffer few long room are_units are_scalars alone =
-      let bytes : length (take 16 src) ≡ 16 = omega (arith, lengths) in
-      let eight = ap length are_units ∙ units_long big 8 (take 16 src) bytes in
-      gathers_units n few long are_units are_scalars
-      (stored_lanes at n buffer units (omega (arith, eight)) (omega (arith, eight))
-      ∙ ap (λ z. take at buffer ++ z) (sym alone))
+-- code units of sixteen bytes, and of sixteen after them
+
+units_of_both : (big : Bool) (n : ℕ) (bytes more : List ℕ) → length bytes ≡ n + n
+    → units_of_bytes big (bytes ++ more) ≡ units_of_bytes big bytes ++ units_of_bytes big more
+units_of_both big zero [] more e = refl
+units_of_both big zero (a ∷ bs) more e = absurd (omega arith)
+units_of_both big (suc n) [] more e = absurd (omega arith)
+units_of_both big (suc n) (a ∷ []) more e = absurd (omega arith)
+units_of_both big (suc n) (a ∷ b ∷ bs) more e =
+    ap (λ us. unit_of big a b ∷ us) (units_of_both big n bs more (omega arith))
+
+pub both_units : (big : Bool) (src : List ℕ) (at : ℕ) {units more : List ℕ} → at + 32 ≤ length src
+    → units ≡ units_of_bytes big (take 16 (drop at src))
+    → more ≡ units_of_bytes big (take 16 (drop (at + 16) src))
+    → units ++ more ≡ units_of_bytes big (take 32 (drop at src))
+both_units big src at long are_units are_more =
+    let rest = drop at src in
+    rw (are_units, are_more, ← drop-drop 16 at src)
+    (sym (ap (units_of_bytes big) (take-add 16 16 rest)
+    ∙ units_of_both big 8 (take 16 rest) (take 16 (drop 16 rest)) (omega (arith, lengths))))
+
+-- eight code units, and eight after them
+pub sixteen_of : (units more : List ℕ) → length units ≡ 8 → length more ≡ 8
+    → take 16 (units ++ more) ≡ take 8 units ++ take 8 more
+sixteen_of units more eight then_eight =
+    take_all 16 (units ++ more) (omega (arith, lengths))
+    ∙ sym (rw (take_all 8 units (omega arith), take_all 8 more (omega arith)) refl)
+
+-- and their code units, where each is its own
+pub both_alone : (units more : List ℕ) → length units ≡ 8 → length more ≡ 8
+    → ((n : ℕ) → units_of_text encode_utf16 (take n units) ≡ take n units)
+    → ((n : ℕ) → units_of_text encode_utf16 (take n more) ≡ take n more)
+    → units_of_text encode_utf16 (take 16 (units ++ more)) ≡ take 8 units ++ take 8 more
+both_alone units more eight then_eight alone alone_too =
+    ap (units_of_text encode_utf16) (sixteen_of units more eight then_eight)
+    ∙ units-append encode_utf16 (take 8 units) (take 8 more) ∙ rw (alone 8, alone_too 8) refl

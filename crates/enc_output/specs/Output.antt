@@ -36,3 +36,8 @@ borrowed_output len dst = slice_output len dst.now dst.ghost_name
 abbrev pub string_output : List ℕ → ℕ → GName → Output
 string_output text room borrow =
     record { written = text; room = room; unwritten = []; borrow = borrow }
+
+-- the front of a buffer as an output: its first `len` elements are the text, and any may come after
+abbrev pub buffer_output : ℕ → MutBor (List ℕ) → Output
+buffer_output len buffer =
+    string_output (take len buffer.now) (length buffer.now - len) buffer.ghost_name
