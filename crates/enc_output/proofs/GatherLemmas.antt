@@ -44,17 +44,19 @@ lanes_put len n old lanes borrow within room few =
     let rest = take (length old - len) (drop len old) in
     let count = length lanes in
     let whole = take_all count lanes (omega arith) in
-    let chunk : put_chunk 0 rest lanes ≡ take count lanes ++ drop count rest =
-    put_chunk_is 0 rest lanes (omega (arith, lengths)) ∙ ap (λ z. z ++ drop count rest) (sym whole) in
-    let put = put_copied len count old lanes (put_chunk 0 rest lanes) within (omega arith) room chunk
-    in
+    let stores : put_chunk 0 rest lanes ≡ take count lanes ++ drop count rest =
+    put_chunk_is 0 rest lanes (omega (arith, lengths))
+    ∙ ap (λ z. z ++ drop count rest) (sym whole) in
+    let put = put_copied len count old lanes (put_chunk 0 rest lanes) within (omega arith) room
+    stores in
     let front = put_front put ∙ ap (λ z. take len old ++ z) whole in
     let shorter : take (len + n) (put_mid len (length old - len) old (put_chunk 0 rest lanes))
     ≡ take len old ++ take n lanes =
     sym (take-take (len + n) (len + count) _ (omega arith)) ∙ ap (take (len + n)) front
     ∙ ap (λ m. take m (take len old ++ lanes)) (omega (arith, lengths))
     ∙ take-append-add (take len old) lanes n in
-    stored old _ (take n lanes) borrow within (omega (arith, put_length put)) (put_length put) shorter
+    stored old _ (take n lanes) borrow within (omega (arith, put_length put)) (put_length put)
+    shorter
 
 -- units that are copied there
 pub part_put : {len n : ℕ} {old units new : List ℕ} (borrow : GName) → Put len n old units new
@@ -78,8 +80,8 @@ pub gathered_none : {units_of : ℕ → List ℕ} {Means : List ℕ → ℕ → 
 gathered_none ends = record { ends = ends; puts = start }
 
 -- and goes on
-pub gathered_then : {units_of : ℕ → List ℕ} {Means : List ℕ → ℕ → Type 0} {before mid after : Output}
-    {src : List ℕ} {capacity read n : ℕ}
+pub gathered_then : {units_of : ℕ → List ℕ} {Means : List ℕ → ℕ → Type 0}
+    {before mid after : Output} {src : List ℕ} {capacity read n : ℕ}
     → Gathered units_of Means before mid src capacity read
     → PutsPieces units_of Means mid after (drop read src) n
     → Gathered units_of Means before after src capacity (read + n)
@@ -99,7 +101,8 @@ byte_front from read src inside =
 
 -- a character by its word
 pub word_put : {Means : List ℕ → ℕ → Type 0} {before after : Output} {src bytes : List ℕ}
-    {n word : ℕ} → take n src ≡ bytes → MeansWord Means bytes word → 0 < n → n ≤ length src → 4 ≤ before.room
+    {n word : ℕ} → take n src ≡ bytes → MeansWord Means bytes word → 0 < n → n ≤ length src
+    → 4 ≤ before.room
     → after ≡ with_appended before (take (word / 0x100_0000) (to_le_bytes w32 word))
     → PutsPieces encode_utf8 Means before after src n
 word_put {Means} {before} front is_word some within room appended =
@@ -110,7 +113,8 @@ word_put {Means} {before} front is_word some within room appended =
 
 -- and by its code unit
 pub unit_put : {Means : List ℕ → ℕ → Type 0} {before after : Output} {src bytes : List ℕ}
-    {n unit : ℕ} → unit < 0x1_0000 → take n src ≡ bytes → MeansUnit Means bytes unit → 0 < n → n ≤ length src
+    {n unit : ℕ} → unit < 0x1_0000 → take n src ≡ bytes → MeansUnit Means bytes unit → 0 < n
+    → n ≤ length src
     → 1 ≤ before.room → after ≡ with_appended before (unit ∷ [])
     → PutsPieces encode_utf16 Means before after src n
 unit_put {Means} {before} {unit = unit} fits front is_unit some within room appended =

@@ -1,10 +1,10 @@
 //! Buffers in which the code units of characters are collected.
 
-ghost use Rattle.std.specs.Prelude.{◌≡◌, ℕ, ◌+◌, ◌-◌, ◌*◌, ◌/◌, ◌≤◌, ◌<◌, List, [], ◌∷◌, ◌++◌, length, take, IsTrue, IsFalse};
+ghost use Rattle.std.specs.Prelude.{◌≡◌, ℕ, ◌+◌, ◌/◌, ◌≤◌, ◌<◌, List, [], ◌∷◌, ◌++◌, length, take, IsTrue, IsFalse};
 ghost use Rattle.std.specs.Char.{IsScalar, encode_utf8};
 ghost use Rattle.std.specs.Char.Escape.{encode_utf16};
 ghost use Rattle.std.specs.Int.{w32, to_le_bytes};
-ghost use Rattle.enc_output.specs.Output.{Output, with_appended, buffer_output};
+ghost use Rattle.enc_output.specs.Output.{Output, with_appended, buffer_output, room_in};
 ghost use Rattle.enc_output.specs.AsciiRun.{PutsAscii};
 ghost use Rattle.enc_output.specs.PieceRuns.{PutsPieces};
 ghost use Rattle.enc_output.specs.Places.{IsPlace};
@@ -96,9 +96,10 @@ impl<'a> Buffer<'a, u8> {
     /// byte.
     #[inline(always)]
     pub(crate) fn store_word(&mut self, word: u32)
-        requires room { 4 ≤ (buffer_output self.old.len self.old.units).room }
+        requires room { 4 ≤ room_in self.old.len self.old.units }
         requires bound { word / 0x1000000 ≤ 4 }
-        ensures bound { (buffer_output self.old.len self.old.units).room ≤ (buffer_output self.new.len self.new.units).room + 4 }
+        ensures bound { room_in self.old.len self.old.units
+            ≤ room_in self.new.len self.new.units + 4 }
         ensures stored { buffer_output self.new.len self.new.units
             ≡ with_appended (buffer_output self.old.len self.old.units)
             (take (word / 0x1000000) (to_le_bytes w32 word)) }
@@ -109,9 +110,10 @@ impl<'a> Buffer<'a, u8> {
     /// Stores the first `len` of sixteen bytes.
     #[inline(always)]
     pub(crate) fn store_front(&mut self, bytes: u8x16, len: usize)
-        requires room { 16 ≤ (buffer_output self.old.len self.old.units).room }
+        requires room { 16 ≤ room_in self.old.len self.old.units }
         requires len { len ≤ 16 }
-        ensures bound { (buffer_output self.old.len self.old.units).room ≤ (buffer_output self.new.len self.new.units).room + len }
+        ensures bound { room_in self.old.len self.old.units
+            ≤ room_in self.new.len self.new.units + len }
         ensures stored { buffer_output self.new.len self.new.units
             ≡ with_appended (buffer_output self.old.len self.old.units) (take len bytes) }
     {
@@ -122,9 +124,10 @@ impl<'a> Buffer<'a, u8> {
     /// Stores the first `len` of 64 bytes.
     #[inline(always)]
     pub(crate) fn store_long(&mut self, bytes: u8x64, len: usize)
-        requires room { 64 ≤ (buffer_output self.old.len self.old.units).room }
+        requires room { 64 ≤ room_in self.old.len self.old.units }
         requires len { len ≤ 64 }
-        ensures bound { (buffer_output self.old.len self.old.units).room ≤ (buffer_output self.new.len self.new.units).room + len }
+        ensures bound { room_in self.old.len self.old.units
+            ≤ room_in self.new.len self.new.units + len }
         ensures stored { buffer_output self.new.len self.new.units
             ≡ with_appended (buffer_output self.old.len self.old.units) (take len bytes) }
     {
@@ -135,11 +138,12 @@ impl<'a> Buffer<'a, u8> {
     /// Stores the UTF-8 of the code units before the first surrogate. Returns their number.
     #[inline(always)]
     pub(crate) fn store_scalars(&mut self, units: u16x8) -> usize
-        requires room { 32 ≤ (buffer_output self.old.len self.old.units).room }
+        requires room { 32 ≤ room_in self.old.len self.old.units }
         ensures few { result ≤ 8 }
-        ensures bound { (buffer_output self.old.len self.old.units).room ≤ (buffer_output self.new.len self.new.units).room + 32 }
+        ensures bound { room_in self.old.len self.old.units
+            ≤ room_in self.new.len self.new.units + 32 }
         ensures fits { length (units_of_text encode_utf8 (take result units))
-            ≤ (buffer_output self.old.len self.old.units).room }
+            ≤ room_in self.old.len self.old.units }
         ensures scalars { AreScalars (take result units) }
         ensures stored { buffer_output self.new.len self.new.units
             ≡ with_appended (buffer_output self.old.len self.old.units)
@@ -191,8 +195,9 @@ impl<'a> Buffer<'a, u16> {
     /// Stores a code unit.
     #[inline(always)]
     pub(crate) fn store_unit(&mut self, unit: u16)
-        requires room { 1 ≤ (buffer_output self.old.len self.old.units).room }
-        ensures bound { (buffer_output self.old.len self.old.units).room ≤ (buffer_output self.new.len self.new.units).room + 1 }
+        requires room { 1 ≤ room_in self.old.len self.old.units }
+        ensures bound { room_in self.old.len self.old.units
+            ≤ room_in self.new.len self.new.units + 1 }
         ensures stored { buffer_output self.new.len self.new.units
             ≡ with_appended (buffer_output self.old.len self.old.units) (unit ∷ []) }
     {
@@ -204,11 +209,12 @@ impl<'a> Buffer<'a, u16> {
     /// none. Returns their number.
     #[inline(always)]
     pub(crate) fn store_scalars(&mut self, units: u16x8, more: u16x8) -> usize
-        requires room { 16 ≤ (buffer_output self.old.len self.old.units).room }
+        requires room { 16 ≤ room_in self.old.len self.old.units }
         ensures few { result ≤ 16 }
-        ensures bound { (buffer_output self.old.len self.old.units).room ≤ (buffer_output self.new.len self.new.units).room + result }
+        ensures bound { room_in self.old.len self.old.units
+            ≤ room_in self.new.len self.new.units + result }
         ensures fits { length (units_of_text encode_utf16 (take result (units ++ more)))
-            ≤ (buffer_output self.old.len self.old.units).room }
+            ≤ room_in self.old.len self.old.units }
         ensures scalars { AreScalars (take result (units ++ more)) }
         ensures stored { buffer_output self.new.len self.new.units
             ≡ with_appended (buffer_output self.old.len self.old.units)

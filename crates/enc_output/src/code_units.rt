@@ -1,9 +1,7 @@
 //! Characters of one code unit of UTF-16, eight at a time, with no branch on their lengths.
 
-ghost use Rattle.std.specs.Prelude.{◌≡◌, ℕ, ◌+◌, ◌*◌, ◌<◌, IsTrue, take};
-ghost use Rattle.std.specs.Char.Escape.{encode_utf16};
+ghost use Rattle.std.specs.Prelude.{◌≡◌, ◌+◌, ◌*◌, ◌<◌};
 ghost use Rattle.enc_output.specs.CodeUnits.{units_of_bytes};
-ghost use Rattle.enc_utf8.specs.Text.{AreScalars, units_of_text};
 
 use crate::buffer::{Buffer, UnitBuffer};
 use crate::gather::Gather;

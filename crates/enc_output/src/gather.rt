@@ -1,11 +1,10 @@
 //! Characters collected in a buffer: the ways to do so, and one by one.
 
-ghost use Rattle.std.specs.Prelude.{◌≡◌, ℕ, ◌+◌, ◌<◌, ◌≤◌, List, [], ◌∷◌, ◌++◌, length, take, drop, IsTrue};
-ghost use Rattle.std.specs.Char.{IsScalar, encode_utf8};
+ghost use Rattle.std.specs.Prelude.{ℕ, ◌+◌, ◌<◌, ◌≤◌, List, [], ◌∷◌, length, IsTrue};
+ghost use Rattle.std.specs.Char.{encode_utf8};
 ghost use Rattle.std.specs.Char.Escape.{encode_utf16};
-ghost use Rattle.enc_output.specs.Output.{buffer_output};
+ghost use Rattle.enc_output.specs.Output.{buffer_output, room_in};
 ghost use Rattle.enc_output.specs.PieceRuns.{PutsPieces};
-ghost use Rattle.enc_utf8.specs.Pieces.{AreWrittenAsThemselves};
 
 use crate::buffer::{Buffer, UnitBuffer};
 use crate::pieces::Pieces;
@@ -30,9 +29,10 @@ const STEP: usize = 16;
 #[inline(always)]
 fn store_own<P: Pieces>(out: &mut Buffer<'_, u8>, pieces: P, src: &[u8]) -> usize
     requires long { 16 ≤ length src.now }
-    requires room { 16 ≤ (buffer_output out.old.len out.old.units).room }
-    ensures bound { (buffer_output out.old.len out.old.units).room ≤ (buffer_output out.new.len out.new.units).room + result }
-    ensures puts { PutsPieces encode_utf8 (P.means pieces) (buffer_output out.old.len out.old.units)
+    requires room { 16 ≤ room_in out.old.len out.old.units }
+    ensures bound { room_in out.old.len out.old.units ≤ room_in out.new.len out.new.units + result }
+    ensures puts { PutsPieces encode_utf8 (P.means pieces)
+        (buffer_output out.old.len out.old.units)
         (buffer_output out.new.len out.new.units) src.now result }
 {
     let lanes = u8x16::from_slice(src);

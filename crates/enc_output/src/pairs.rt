@@ -1,6 +1,6 @@
 //! Characters of one byte or two, eight at a time, with no branch on their lengths.
 
-ghost use Rattle.std.specs.Prelude.{◌≡◌, ℕ, ◌+◌, ◌<◌, ◌≤◌, List, [], length, take, drop};
+ghost use Rattle.std.specs.Prelude.{ℕ, ◌+◌, ◌<◌, ◌≤◌, List, length, drop};
 ghost use Rattle.std.specs.Char.{encode_utf8};
 ghost use Rattle.enc_output.specs.Output.{borrowed_output};
 ghost use Rattle.enc_output.specs.PieceRuns.{PutsPieces};

@@ -3,7 +3,7 @@
 ghost use Rattle.std.specs.Prelude.{◌≡◌, ℕ, ◌+◌, ◌<◌, ◌≤◌, [], ◌∷◌, length, take, drop, IsTrue};
 ghost use Rattle.std.specs.Char.{encode_utf8};
 ghost use Rattle.std.specs.Char.Escape.{encode_utf16};
-ghost use Rattle.enc_output.specs.Output.{borrowed_output, buffer_output};
+ghost use Rattle.enc_output.specs.Output.{borrowed_output, buffer_output, room_in};
 ghost use Rattle.enc_output.specs.PieceRuns.{PutsPieces};
 ghost use Rattle.enc_utf8.specs.Validity.{AreAscii};
 
@@ -39,9 +39,10 @@ const TURN: usize = 144;
 #[inline(always)]
 fn store_bytes<P: BytePieces>(out: &mut Buffer<'_, u8>, pieces: P, src: &[u8], from: usize) -> usize
     requires from { from + 16 ≤ length src.now }
-    requires room { 64 ≤ (buffer_output out.old.len out.old.units).room }
+    requires room { 64 ≤ room_in out.old.len out.old.units }
     ensures read { result ≤ 16 }
-    ensures puts { PutsPieces encode_utf8 (P.means pieces) (buffer_output out.old.len out.old.units)
+    ensures puts { PutsPieces encode_utf8 (P.means pieces)
+        (buffer_output out.old.len out.old.units)
         (buffer_output out.new.len out.new.units) (drop from src.now) result }
 {
     let mut read = 0;
@@ -73,15 +74,16 @@ fn store_hop<P: BytePieces>(
     ascii: usize,
 ) -> (usize, bool)
     requires long { 64 ≤ length src.now }
-    requires room { 68 ≤ (buffer_output out.old.len out.old.units).room }
+    requires room { 68 ≤ room_in out.old.len out.old.units }
     requires ascii { ascii < 64 }
     requires are_ascii { AreAscii (take ascii src.now) }
     requires means { (b : ℕ) → b < 0x80 → P.means pieces (b ∷ []) b }
     ensures read { result.0 ≤ ascii + 1 }
     ensures some { IsTrue result.1 → 0 < result.0 }
-    ensures bound { (buffer_output out.old.len out.old.units).room
-        ≤ (buffer_output out.new.len out.new.units).room + result.0 + 3 }
-    ensures puts { PutsPieces encode_utf8 (P.means pieces) (buffer_output out.old.len out.old.units)
+    ensures bound { room_in out.old.len out.old.units
+        ≤ room_in out.new.len out.new.units + result.0 + 3 }
+    ensures puts { PutsPieces encode_utf8 (P.means pieces)
+        (buffer_output out.old.len out.old.units)
         (buffer_output out.new.len out.new.units) src.now result.0 }
 {
     out.store_long(u8x64::from_slice(src), ascii);
@@ -103,12 +105,13 @@ fn store_hops<P: BytePieces>(
     lanes: u8x64,
 ) -> (usize, bool)
     requires long { 128 ≤ length src.now }
-    requires room { 144 ≤ (buffer_output out.old.len out.old.units).room }
+    requires room { 144 ≤ room_in out.old.len out.old.units }
     requires lanes { lanes ≡ take 64 src.now }
     requires means { (b : ℕ) → b < 0x80 → P.means pieces (b ∷ []) b }
     ensures read { result.0 ≤ 64 }
     ensures some { IsTrue result.1 → 0 < result.0 }
-    ensures puts { PutsPieces encode_utf8 (P.means pieces) (buffer_output out.old.len out.old.units)
+    ensures puts { PutsPieces encode_utf8 (P.means pieces)
+        (buffer_output out.old.len out.old.units)
         (buffer_output out.new.len out.new.units) src.now result.0 }
 {
     let ascii = ascii_from(lanes, 0, 62);
@@ -134,9 +137,10 @@ fn store_turn<P: BytePieces>(
     from: usize,
 ) -> (usize, bool)
     requires from { from + 128 ≤ length src.now }
-    requires room { 144 ≤ (buffer_output out.old.len out.old.units).room }
+    requires room { 144 ≤ room_in out.old.len out.old.units }
     ensures some { IsTrue result.1 → 0 < result.0 }
-    ensures puts { PutsPieces encode_utf8 (P.means pieces) (buffer_output out.old.len out.old.units)
+    ensures puts { PutsPieces encode_utf8 (P.means pieces)
+        (buffer_output out.old.len out.old.units)
         (buffer_output out.new.len out.new.units) (drop from src.now) result.0 }
 {
     let (_, rest) = src.split_at(from);
@@ -157,9 +161,10 @@ fn store_units_step<P: BytePieces>(
     from: usize,
 ) -> usize
     requires from { from + 16 ≤ length src.now }
-    requires room { 16 ≤ (buffer_output out.old.len out.old.units).room }
+    requires room { 16 ≤ room_in out.old.len out.old.units }
     ensures bound { result ≤ 16 }
-    ensures puts { PutsPieces encode_utf16 (P.means pieces) (buffer_output out.old.len out.old.units)
+    ensures puts { PutsPieces encode_utf16 (P.means pieces)
+        (buffer_output out.old.len out.old.units)
         (buffer_output out.new.len out.new.units) (drop from src.now) result }
 {
     let mut read = 0;

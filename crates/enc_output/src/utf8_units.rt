@@ -1,10 +1,8 @@
 //! Well-formed UTF-8 as UTF-16, sixteen bytes at a time, with no branch on whether characters have
 //! one, two or three bytes.
 
-ghost use Rattle.std.specs.Prelude.{◌≡◌, ℕ, ◌+◌, ◌-◌, ◌/◌, ◌%◌, ◌^◌, ◌<◌, ◌≤◌, ◌++◌, [], length, take, drop};
+ghost use Rattle.std.specs.Prelude.{◌≡◌, ℕ, ◌+◌, ◌-◌, ◌/◌, ◌%◌, ◌^◌, ◌<◌, ◌≤◌, ◌++◌, length, take, drop};
 ghost use Rattle.std.specs.Prelude.{slice_index, IsTrue, if◌then◌else◌};
-ghost use Rattle.std.specs.Char.Escape.{encode_utf16};
-ghost use Rattle.enc_utf8.specs.Pieces.{IsUtf8Char};
 ghost use Rattle.enc_output.specs.Utf8Units.{gives_unit, code_unit_of_byte, byte_two_before, units_from};
 ghost use Rattle.enc_output.specs.Utf8Units.{marked_code_units};
 ghost use Rattle.enc_utf8.specs.Validity.{IsWellFormedUtf8};

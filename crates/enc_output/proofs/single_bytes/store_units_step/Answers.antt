@@ -12,6 +12,7 @@ loop-read-preserved g c =
       omega arith,
       omega (arith, invariant.1, stored.bound),
       then_rest refl invariant.2
-          (unit_put (omega arith) (byte_front c.args.from c.loop-read.read c.args.src.now (omega arith))
-          is_unit (omega arith) (omega (arith, lengths)) (omega (arith, invariant.1)) stored.stored),
+          (unit_put (omega arith)
+          (byte_front c.args.from c.loop-read.read c.args.src.now (omega arith)) is_unit
+          (omega arith) (omega (arith, lengths)) (omega (arith, invariant.1)) stored.stored),
     )

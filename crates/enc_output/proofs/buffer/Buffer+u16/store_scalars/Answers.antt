@@ -18,8 +18,8 @@ returns-then-are_scalars-clause-scalars c =
     let both = and_parts _ _ c.if-are_scalars.true in
     let sixteen = sixteen_of c.args.units c.args.more c.fits-units.0 c.fits-more.0 in
     subst AreScalars (sym sixteen)
-    (scalars-append (take 8 c.args.units) (take 8 c.args.more) (c.are_scalars.ensures.scalars both.0)
-    (c.are_scalars-2.ensures.scalars both.1))
+    (scalars-append (take 8 c.args.units) (take 8 c.args.more)
+    (c.are_scalars.ensures.scalars both.0) (c.are_scalars-2.ensures.scalars both.1))
 
 pub returns-then-are_scalars-clause-fits : goal.returns-then-are_scalars-clause-fits
 returns-then-are_scalars-clause-fits c =

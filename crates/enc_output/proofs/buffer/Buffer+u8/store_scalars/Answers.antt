@@ -11,5 +11,6 @@ returns-clause-fits c =
 pub returns-clause-stored : goal.returns-clause-stored
 returns-clause-stored c =
     let units = c.store_scalars-count.ensures in
-    stored c.args.self.now.units.now _ _ c.args.self.now.units.ghost_name (omega arith) (omega (arith, units.bound, units.len))
+    stored c.args.self.now.units.now _ _ c.args.self.now.units.ghost_name (omega arith)
+    (omega (arith, units.bound, units.len))
     units.len units.stored

@@ -4,7 +4,8 @@ use Rattle.enc_output.proofs.gather.OneByOneGather.gather.Goals as goal
 
 pub loop-pieces-preserved-then-own-gt0 : goal.loop-pieces-preserved-then-own-gt0
 loop-pieces-preserved-then-own-gt0 g c =
-    gathered_then c.loop-pieces.invariant (rw c.split_at.ensures.back at c.store_own-own.ensures.puts)
+    gathered_then c.loop-pieces.invariant
+    (rw c.split_at.ensures.back at c.store_own-own.ensures.puts)
 
 pub loop-pieces-preserved : goal.loop-pieces-preserved
 loop-pieces-preserved g c =

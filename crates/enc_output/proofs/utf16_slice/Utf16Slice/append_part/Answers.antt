@@ -29,4 +29,5 @@ returns c =
     (omega (arith, lengths, written.bound, ap length written.written))
     (subst IsWellFormedUtf8 (take-take taken most src few) valid.utf8)
     (grown slice.dst.ghost_name (put_copied slice.len count slice.dst.now new new (omega arith) read
-    (omega (arith, written.bound, room)) copied) ∙ ap (with_appended (borrowed_output slice.len slice.dst)) written.written)
+    (omega (arith, written.bound, room)) copied)
+    ∙ ap (with_appended (borrowed_output slice.len slice.dst)) written.written)
