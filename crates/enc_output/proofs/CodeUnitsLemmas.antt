@@ -1,12 +1,16 @@
 -- Characters of one code unit of UTF-16.
 use Rattle.std.proofs.Common.{◌≡◌, ℕ, zero, suc, ◌+◌, ◌*◌, ◌≤◌, Bool, List, [], ◌∷◌, ◌++◌, length, take, refl, ap, ◌∙◌}
-use Rattle.std.proofs.Common.{sym, subst, arith, take-add, drop, drop-drop}
+use Rattle.std.proofs.Common.{◌-◌, sym, subst, arith, take-add, drop, drop-drop}
 use Rattle.std.proofs.lemmas.List.{take_all}
 use Rattle.std.proofs.lemmas.Bool.{and_parts}
 use Rattle.std.specs.Char.Escape.{encode_utf16}
 use Rattle.enc_utf8.proofs.LengthLemmas.{lengths}
 use Rattle.enc_output.specs.CodeUnits.{unit_of, units_of_bytes, AreCodeUnits}
-use Rattle.enc_output.specs.Output.{Output, with_appended}
+use Rattle.enc_output.specs.Output.{Output, with_appended, string_output}
+use Rattle.std.specs.Borrow.{GName}
+use lib.Lanes.{put_chunk}
+use borrow.Rule.Slice.PartMut.{put_mid}
+use Rattle.enc_output.proofs.GatherLemmas.{lanes_put}
 use Rattle.enc_utf8.specs.Text.{AreScalars, units_of_text}
 use Rattle.enc_output.specs.PieceRuns.{ReadsPieces, PutsPieces}
 use Rattle.enc_utf8.proofs.UnitsLemmas.{units-append}
@@ -39,57 +43,35 @@ module _ {Means : List ℕ → ℕ → Type 0} (big : Bool) (mean : AreCodeUnits
       (reads_units n bs (omega arith) (and_parts _ _ are_scalars).1))
 
   -- the characters of code units that were stored
-  pub units_put : {units_of : ℕ → List ℕ} (m n : ℕ) {before after : Output} {src units : List ℕ}
-      → m ≤ length src → n + n ≤ length (take m src) → units ≡ units_of_bytes big (take m src)
+  pub units_put : {units_of : ℕ → List ℕ} (n : ℕ) {before after : Output} {src units : List ℕ}
+      → n ≤ 8 → 16 ≤ length src → units ≡ units_of_bytes big (take 16 src)
       → AreScalars (take n units) → length (units_of_text units_of (take n units)) ≤ before.room
       → after ≡ with_appended before (units_of_text units_of (take n units))
       → PutsPieces units_of Means before after src (2 * n)
-  units_put {units_of} m n {before} {after} {src} {units} within few are_units are_scalars fits
-      stored =
+  units_put {units_of} n {before} {after} {src} few long are_units are_scalars fits stored =
       let twice : n + n ≡ 2 * n = omega arith in
+      let text = subst (λ us. AreScalars (take n us)) are_units are_scalars in
       subst (λ k. PutsPieces units_of Means before after src k) twice (record {
-        text = take n units;
+        text = _;
         scalars = are_scalars;
         reads = subst (λ us. ReadsPieces Means src (n + n) (take n us)) (sym are_units)
-            (reads_wider m (reads_units n (take m src) few
-            (subst (λ us. AreScalars (take n us)) are_units are_scalars)));
+            (reads_wider 16 (reads_units n (take 16 src) (omega (arith, lengths)) text));
         fits = fits;
         written = stored;
       })
 
--- code units of sixteen bytes, and of sixteen after them
-
-units_of_both : (big : Bool) (n : ℕ) (bytes more : List ℕ) → length bytes ≡ n + n
-    → units_of_bytes big (bytes ++ more) ≡ units_of_bytes big bytes ++ units_of_bytes big more
-units_of_both big zero [] more e = refl
-units_of_both big zero (a ∷ bs) more e = absurd (omega arith)
-units_of_both big (suc n) [] more e = absurd (omega arith)
-units_of_both big (suc n) (a ∷ []) more e = absurd (omega arith)
-units_of_both big (suc n) (a ∷ b ∷ bs) more e =
-    ap (λ us. unit_of big a b ∷ us) (units_of_both big n bs more (omega arith))
-
-pub both_units : (big : Bool) (src : List ℕ) (at : ℕ) {units more : List ℕ} → at + 32 ≤ length src
-    → units ≡ units_of_bytes big (take 16 (drop at src))
-    → more ≡ units_of_bytes big (take 16 (drop (at + 16) src))
-    → units ++ more ≡ units_of_bytes big (take 32 (drop at src))
-both_units big src at long are_units are_more =
-    let rest = drop at src in
-    rw (are_units, are_more, ← drop-drop 16 at src)
-    (sym (ap (units_of_bytes big) (take-add 16 16 rest)
-    ∙ units_of_both big 8 (take 16 rest) (take 16 (drop 16 rest)) (omega (arith, lengths))))
-
--- eight code units, and eight after them
-pub sixteen_of : (units more : List ℕ) → length units ≡ 8 → length more ≡ 8
-    → take 16 (units ++ more) ≡ take 8 units ++ take 8 more
-sixteen_of units more eight then_eight =
-    take_all 16 (units ++ more) (omega (arith, lengths))
-    ∙ sym (rw (take_all 8 units (omega arith), take_all 8 more (omega arith)) refl)
-
--- and their code units, where each is its own
-pub both_alone : (units more : List ℕ) → length units ≡ 8 → length more ≡ 8
-    → ((n : ℕ) → units_of_text encode_utf16 (take n units) ≡ take n units)
-    → ((n : ℕ) → units_of_text encode_utf16 (take n more) ≡ take n more)
-    → units_of_text encode_utf16 (take 16 (units ++ more)) ≡ take 8 units ++ take 8 more
-both_alone units more eight then_eight alone alone_too =
-    ap (units_of_text encode_utf16) (sixteen_of units more eight then_eight)
-    ∙ units-append encode_utf16 (take 8 units) (take 8 more) ∙ rw (alone 8, alone_too 8) refl
+  -- those of eight lanes in UTF-16, of which the first n are kept
+  pub lanes_units : (len n : ℕ) (old units : List ℕ) {src : List ℕ} (borrow : GName)
+      → len ≤ length old → 8 ≤ length old - len → n ≤ 8 → 16 ≤ length src
+      → units ≡ units_of_bytes big (take 16 src) → AreScalars (take n units)
+      → units_of_text encode_utf16 (take n units) ≡ take n units
+      → (let rest = take (length old - len) (drop len old) in
+      let new = put_mid len (length old - len) old (put_chunk 0 rest units) in
+      PutsPieces encode_utf16 Means (string_output (take len old) (length old - len) borrow)
+      (string_output (take (len + n) new) (length new - (len + n)) borrow) src (2 * n))
+  lanes_units len n old units {src} borrow within room few long are_units are_scalars alone =
+      let eight = ap length are_units
+      ∙ units_long big 8 (take 16 src) (omega (arith, lengths)) in
+      units_put n few long are_units are_scalars (omega (arith, lengths, ap length alone, room))
+      (lanes_put len n old units borrow within (omega (arith, eight)) (omega (arith, eight))
+      ∙ ap (with_appended (string_output (take len old) (length old - len) borrow)) (sym alone))

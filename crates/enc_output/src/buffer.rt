@@ -1,6 +1,7 @@
 //! Buffers in which the code units of characters are collected.
 
-ghost use Rattle.std.specs.Prelude.{◌≡◌, ℕ, ◌+◌, ◌/◌, ◌≤◌, ◌<◌, List, [], ◌∷◌, ◌++◌, length, take, IsTrue, IsFalse};
+ghost use Rattle.std.specs.Prelude.{◌≡◌, ℕ, ◌+◌, ◌*◌, ◌/◌, ◌≤◌, ◌<◌, List, [], ◌∷◌, length, take};
+ghost use Rattle.std.specs.Prelude.{drop, IsTrue, IsFalse};
 ghost use Rattle.std.specs.Char.{IsScalar, encode_utf8};
 ghost use Rattle.std.specs.Char.Escape.{encode_utf16};
 ghost use Rattle.std.specs.Int.{w32, to_le_bytes};
@@ -8,28 +9,16 @@ ghost use Rattle.enc_output.specs.Output.{Output, with_appended, buffer_output, 
 ghost use Rattle.enc_output.specs.AsciiRun.{PutsAscii};
 ghost use Rattle.enc_output.specs.PieceRuns.{PutsPieces};
 ghost use Rattle.enc_output.specs.Places.{IsPlace};
-ghost use Rattle.enc_utf8.specs.Text.{AreScalars, units_of_text};
 ghost use Rattle.enc_utf8.specs.Validity.{AreAscii};
 
-use crate::pieces::PairPieces;
+use crate::code_units::{are_scalars, units_in};
+use crate::pieces::{PairPieces, UnitPieces};
 use enc_utf8::{store_scalars, store_text, store_word, units_before_surrogate, utf8_of};
 use std::simd::prelude::*;
 
-/// Returns whether none of eight code units is a surrogate.
-#[inline(always)]
-fn are_scalars(units: u16x8) -> bool
-    ensures scalars { IsTrue result → AreScalars (take 8 units) }
-    ensures alone { (n : ℕ) → units_of_text encode_utf16 (take n units) ≡ take n units }
-{
-    (units >> u16x8::splat(11))
-        .simd_eq(u16x8::splat(27))
-        .to_bitmask()
-        == 0
-}
-
 /// A buffer that takes the code units of characters from its start on.
 ///
-/// A store may overwrite what is after them, as far as it says.
+/// A store may overwrite what is after them.
 pub(crate) trait UnitBuffer {
     // the code units of a character
     ghost units_of: { ℕ → List ℕ };
@@ -135,20 +124,19 @@ impl<'a> Buffer<'a, u8> {
         self.len += len;
     }
 
-    /// Stores the UTF-8 of the code units before the first surrogate. Returns their number.
+    /// Stores the characters of sixteen bytes, two bytes each, up to the first that is of more.
+    /// Returns their number.
     #[inline(always)]
-    pub(crate) fn store_scalars(&mut self, units: u16x8) -> usize
+    pub(crate) fn store_pairs<P: UnitPieces>(&mut self, pieces: P, bytes: u8x16) -> usize
         requires room { 32 ≤ room_in self.old.len self.old.units }
         ensures few { result ≤ 8 }
         ensures bound { room_in self.old.len self.old.units
             ≤ room_in self.new.len self.new.units + 32 }
-        ensures fits { length (units_of_text encode_utf8 (take result units))
-            ≤ room_in self.old.len self.old.units }
-        ensures scalars { AreScalars (take result units) }
-        ensures stored { buffer_output self.new.len self.new.units
-            ≡ with_appended (buffer_output self.old.len self.old.units)
-            (units_of_text encode_utf8 (take result units)) }
+        ensures puts { (src : List ℕ) → 16 ≤ length src → bytes ≡ take 16 src
+            → PutsPieces encode_utf8 (P.means pieces) (buffer_output self.old.len self.old.units)
+            (buffer_output self.new.len self.new.units) src (2 * result) }
     {
+        let units = units_in(bytes, pieces.is_big_endian());
         let (count, end) = store_scalars(&mut *self.units, self.len, units);
         self.len = end;
         count
@@ -205,24 +193,30 @@ impl<'a> Buffer<'a, u16> {
         self.len += 1;
     }
 
-    /// Stores the code units before the first surrogate among eight, or those of both if there is
-    /// none. Returns their number.
+    /// Stores the characters of sixteen bytes and of sixteen more, two bytes each, up to the first
+    /// that is of more. Returns their number: sixteen, or at most eight.
     #[inline(always)]
-    pub(crate) fn store_scalars(&mut self, units: u16x8, more: u16x8) -> usize
+    pub(crate) fn store_pairs<P: UnitPieces>(
+        &mut self,
+        pieces: P,
+        bytes: u8x16,
+        more: u8x16,
+    ) -> usize
         requires room { 16 ≤ room_in self.old.len self.old.units }
         ensures few { result ≤ 16 }
         ensures bound { room_in self.old.len self.old.units
             ≤ room_in self.new.len self.new.units + result }
-        ensures fits { length (units_of_text encode_utf16 (take result (units ++ more)))
-            ≤ room_in self.old.len self.old.units }
-        ensures scalars { AreScalars (take result (units ++ more)) }
-        ensures stored { buffer_output self.new.len self.new.units
-            ≡ with_appended (buffer_output self.old.len self.old.units)
-            (units_of_text encode_utf16 (take result (units ++ more))) }
+        ensures puts { (src : List ℕ) → 32 ≤ length src → bytes ≡ take 16 src
+            → more ≡ take 16 (drop 16 src)
+            → PutsPieces encode_utf16 (P.means pieces) (buffer_output self.old.len self.old.units)
+            (buffer_output self.new.len self.new.units) src (2 * result) }
     {
+        let big_endian = pieces.is_big_endian();
+        let units = units_in(bytes, big_endian);
+        let next = units_in(more, big_endian);
         units.copy_to_slice(&mut self.units[self.len..]);
-        if are_scalars(units) & are_scalars(more) {
-            more.copy_to_slice(&mut self.units[self.len + 8..]);
+        if are_scalars(units) & are_scalars(next) {
+            next.copy_to_slice(&mut self.units[self.len + 8..]);
             self.len += 16;
             return 16;
         }

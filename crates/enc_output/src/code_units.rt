@@ -1,7 +1,9 @@
 //! Characters of one code unit of UTF-16, eight at a time, with no branch on their lengths.
 
-ghost use Rattle.std.specs.Prelude.{◌≡◌, ◌+◌, ◌*◌, ◌<◌};
+ghost use Rattle.std.specs.Prelude.{◌≡◌, ℕ, ◌+◌, ◌*◌, ◌<◌, IsTrue, take};
+ghost use Rattle.std.specs.Char.Escape.{encode_utf16};
 ghost use Rattle.enc_output.specs.CodeUnits.{units_of_bytes};
+ghost use Rattle.enc_utf8.specs.Text.{AreScalars, units_of_text};
 
 use crate::buffer::{Buffer, UnitBuffer};
 use crate::gather::Gather;
@@ -16,7 +18,7 @@ const UNITS_STEP: usize = 16;
 
 /// Returns the eight code units of sixteen bytes.
 #[inline(always)]
-fn units_in(bytes: u8x16, big_endian: bool) -> u16x8
+pub(crate) fn units_in(bytes: u8x16, big_endian: bool) -> u16x8
     ensures { result ≡ units_of_bytes big_endian bytes }
 {
     let units = u16x8::from_le_bytes(bytes);
@@ -24,6 +26,18 @@ fn units_in(bytes: u8x16, big_endian: bool) -> u16x8
         return (units << u16x8::splat(8)) + (units >> u16x8::splat(8));
     }
     units
+}
+
+/// Returns whether none of eight code units is a surrogate.
+#[inline(always)]
+pub(crate) fn are_scalars(units: u16x8) -> bool
+    ensures scalars { IsTrue result → AreScalars (take 8 units) }
+    ensures alone { (n : ℕ) → units_of_text encode_utf16 (take n units) ≡ take n units }
+{
+    (units >> u16x8::splat(11))
+        .simd_eq(u16x8::splat(27))
+        .to_bitmask()
+        == 0
 }
 
 /// Characters of one code unit, and others one by one.
@@ -52,15 +66,13 @@ impl<P: UnitPieces> Gather for CodeUnits<P> {
     #[inline(always)]
     fn gather(self, out: &mut Buffer<'_, u8>, src: &[u8]) -> usize {
         let pieces = self.pieces;
-        let big_endian = pieces.is_big_endian();
         if out.capacity() < SCALARS_STEP {
             return 0;
         }
         let most = out.capacity() - SCALARS_STEP;
         let mut read = 0;
         while out.len() <= most && 32 <= src.len() - read {
-            let units = units_in(u8x16::from_slice(&src[read..]), big_endian);
-            let count = out.store_scalars(units);
+            let count = out.store_pairs(pieces, u8x16::from_slice(&src[read..]));
             read += 2 * count;
             if count == 8 {
                 continue;
@@ -78,16 +90,15 @@ impl<P: UnitPieces> Gather for CodeUnits<P> {
     #[inline(always)]
     fn gather_units(self, out: &mut Buffer<'_, u16>, src: &[u8]) -> usize {
         let pieces = self.pieces;
-        let big_endian = pieces.is_big_endian();
         if out.capacity() < UNITS_STEP {
             return 0;
         }
         let most = out.capacity() - UNITS_STEP;
         let mut read = 0;
         while out.len() <= most && 32 <= src.len() - read {
-            let units = units_in(u8x16::from_slice(&src[read..]), big_endian);
-            let more = units_in(u8x16::from_slice(&src[read + 16..]), big_endian);
-            let count = out.store_scalars(units, more);
+            let bytes = u8x16::from_slice(&src[read..]);
+            let more = u8x16::from_slice(&src[read + 16..]);
+            let count = out.store_pairs(pieces, bytes, more);
             read += 2 * count;
             if 8 <= count {
                 continue;

@@ -1,39 +1,29 @@
-use Rattle.std.proofs.Common.{arith, refl}
+use Rattle.std.proofs.Common.{arith, drop, refl, ap, take, sym, drop-drop}
 use Rattle.enc_utf8.proofs.LengthLemmas.{lengths}
-use Rattle.enc_output.proofs.CodeUnitsLemmas.{units_put, both_units}
 use Rattle.enc_output.proofs.GatherLemmas.{gathered_then}
 use Rattle.enc_output.proofs.PiecesLemmas.{then_rest, one_char}
 use Rattle.enc_output.proofs.code_units.CodeUnitsGather.gather_units.Goals as goal
 
 pub loop-pieces-preserved-then-count-ge8 : goal.loop-pieces-preserved-then-count-ge8
 loop-pieces-preserved-then-count-ge8 g c =
-    let order = c.is_big_endian-big_endian in
-    let stored = c.store_scalars-count.ensures in
-    let units = both_units order.result c.args.src.now c.loop-pieces.read (omega arith)
-    c.units_in-units.ensures c.units_in-more.ensures in
     gathered_then c.loop-pieces.invariant
-    (units_put order.result order.ensures 32 _ (omega (arith, lengths))
-    (omega (arith, lengths, stored.few)) units stored.scalars stored.fits stored.stored)
+    (c.store_pairs-count.ensures.puts (drop c.loop-pieces.read c.args.src.now)
+    (omega (arith, lengths)) refl
+    (ap (take 16) (sym (drop-drop 16 c.loop-pieces.read c.args.src.now))))
 
 pub loop-pieces-preserved : goal.loop-pieces-preserved
 loop-pieces-preserved g c =
-    let order = c.is_big_endian-big_endian in
-    let stored = c.store_scalars-count.ensures in
     let put = c.store_char.ensures in
     let found = c.in-Some.ensures in
-    let units = both_units order.result c.args.src.now c.loop-pieces.read (omega arith)
-    c.units_in-units.ensures c.units_in-more.ensures in
     gathered_then (gathered_then c.loop-pieces.invariant
-    (units_put order.result order.ensures 32 _ (omega (arith, lengths))
-    (omega (arith, lengths, stored.few)) units stored.scalars stored.fits stored.stored))
+    (c.store_pairs-count.ensures.puts (drop c.loop-pieces.read c.args.src.now)
+    (omega (arith, lengths)) refl
+    (ap (take 16) (sym (drop-drop 16 c.loop-pieces.read c.args.src.now)))))
     (one_char _ found.some found.within put.scalar found.means put.fits put.written)
 
 pub returns-in_default : goal.returns-in_default
 returns-in_default g c =
-    let order = c.is_big_endian-big_endian in
-    let stored = c.store_scalars-count.ensures in
-    let units = both_units order.result c.args.src.now c.loop-pieces.read (omega arith)
-    c.units_in-units.ensures c.units_in-more.ensures in
     then_rest refl c.loop-pieces.invariant.puts
-    (units_put order.result order.ensures 32 _ (omega (arith, lengths))
-    (omega (arith, lengths, stored.few)) units stored.scalars stored.fits stored.stored)
+    (c.store_pairs-count.ensures.puts (drop c.loop-pieces.read c.args.src.now)
+    (omega (arith, lengths)) refl
+    (ap (take 16) (sym (drop-drop 16 c.loop-pieces.read c.args.src.now))))
