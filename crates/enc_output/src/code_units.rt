@@ -47,8 +47,6 @@ pub struct CodeUnits<P> {
 }
 
 impl<P: UnitPieces> Gather for CodeUnits<P> {
-    const MORE: usize = 0;
-
     ghost means = { λ r. P.means r.pieces };
 
     fn has_ascii(self) -> bool {

@@ -47,8 +47,8 @@ pub trait Gather: Copy {
     // the bytes mean the character
     ghost means: { Self → List ℕ → ℕ → Type 0 };
 
-    /// The number of bytes after the text that a store may overwrite beyond the room.
-    const MORE: usize;
+    /// The number of bytes that a store of `gather` may overwrite beyond the room.
+    const MORE: usize = 0;
 
     /// Returns whether each byte below 0x80 is the ASCII character with that number.
     fn has_ascii(self) -> bool
@@ -85,8 +85,6 @@ pub struct OneByOne<P> {
 }
 
 impl<P: Pieces> Gather for OneByOne<P> {
-    const MORE: usize = 0;
-
     ghost means = { λ r. P.means r.pieces };
 
     fn has_ascii(self) -> bool {

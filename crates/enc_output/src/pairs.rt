@@ -151,8 +151,6 @@ pub struct Pairs<P> {
 }
 
 impl<P: PairPieces> Gather for Pairs<P> {
-    const MORE: usize = 0;
-
     ghost means = { λ r. P.means r.pieces };
 
     fn has_ascii(self) -> bool {
