@@ -1,16 +1,14 @@
 -- Runs of ASCII in front of what fits, and what was gathered apart.
-use Rattle.std.proofs.Common.{◌≡◌, ℕ, ◌<◌, ◌≤◌, List, [], ◌++◌, length, get_or, take, ap, ◌∙◌, sym, arith, inl, inr}
+use Rattle.std.proofs.Common.{◌≡◌, ℕ, ◌<◌, ◌≤◌, List, length, get_or, take, ap, ◌∙◌, arith, inl, inr}
 use Rattle.std.proofs.lemmas.Bool.{cases_lt}
 use Rattle.std.proofs.lemmas.List.{take-take, get_or-take}
 use Rattle.std.specs.Prelude.{min}
-use Rattle.std.specs.Char.{encode_utf8}
 use Rattle.std.specs.Str.{IsUtf8}
 use Rattle.enc_utf8.proofs.LengthLemmas.{lengths}
 use Rattle.enc_output.specs.Output.{Output, with_appended}
 use Rattle.enc_utf8.specs.Text.{units_of_text}
 use Rattle.enc_utf8.specs.Validity.{AreAscii}
 use Rattle.enc_output.specs.AsciiRun.{PutsAscii}
-use Rattle.enc_output.specs.PieceRuns.{PutsPieces}
 use Rattle.enc_output.proofs.Utf8SliceLemmas.{puts_own}
 use Rattle.enc_utf8.proofs.UnitsLemmas.{ascii_utf8}
 
@@ -38,23 +36,3 @@ pub front_utf8 : (src front : List ℕ) (n most : ℕ) → front ≡ take most s
 front_utf8 src front n most is_front within ascii =
     let few : n ≤ most = omega (arith, lengths, ap length is_front) in
     ascii_utf8 src n (rw (ap (take n) is_front ∙ take-take n most src few) at ascii)
-
--- what was put out to an output that was empty
-pub written_is : (before after : Output) (units text : List ℕ) → after ≡ with_appended before units
-    → before.written ≡ [] → after.written ≡ text → text ≡ units
-written_is before after units text e w a = sym a ∙ ap (λ (o : Output). o.written) e
-    ∙ ap (λ x. x ++ units) w
-
-pub appends_gathered : {Means : List ℕ → ℕ → Type 0} {before after o then : Output} {src : List ℕ}
-    {n : ℕ}
-    {units : List ℕ}
-    → PutsPieces encode_utf8 Means before after src n → before.written ≡ [] → after.written ≡ units
-    → before.room ≤ o.room → then ≡ with_appended o units
-    → PutsPieces encode_utf8 Means o then src n
-appends_gathered {before = before} {after = after} {o = o} {units = units} puts w a r e = record {
-  text = puts.text;
-  scalars = puts.scalars;
-  reads = puts.reads;
-  fits = omega (arith, puts.fits, r);
-  written = e ∙ ap (with_appended o) (written_is before after _ units puts.written w a);
-}

@@ -1,16 +1,20 @@
 -- Characters of one code unit of UTF-16.
 use Rattle.std.proofs.Common.{◌≡◌, ℕ, zero, suc, ◌+◌, ◌*◌, ◌≤◌, Bool, List, [], ◌∷◌, ◌++◌, length, take, refl, ap, ◌∙◌}
-use Rattle.std.proofs.Common.{sym, subst, arith}
+use Rattle.std.proofs.Common.{◌-◌, sym, subst, arith, take-add, drop, drop-drop}
+use Rattle.std.proofs.lemmas.List.{take_all}
 use Rattle.std.proofs.lemmas.Bool.{and_parts}
 use Rattle.std.specs.Char.Escape.{encode_utf16}
 use Rattle.enc_utf8.proofs.LengthLemmas.{lengths}
 use Rattle.enc_output.specs.CodeUnits.{unit_of, units_of_bytes, AreCodeUnits}
-use Rattle.enc_output.specs.Gathering.{GathersChars}
-use Rattle.enc_utf8.specs.Text.{AreScalars, units_of_text}
-use Rattle.enc_output.specs.PieceRuns.{ReadsPieces}
-use Rattle.enc_utf8.proofs.PutLemmas.{stored_lanes}
-use Rattle.enc_output.proofs.PiecesLemmas.{reads_none, reads_one, reads_then, reads_wider}
+use Rattle.enc_output.specs.Output.{Output, with_appended, string_output}
+use Rattle.std.specs.Borrow.{GName}
 use lib.Lanes.{put_chunk}
+use borrow.Rule.Slice.PartMut.{put_mid}
+use Rattle.enc_output.proofs.GatherLemmas.{lanes_put}
+use Rattle.enc_utf8.specs.Text.{AreScalars, units_of_text}
+use Rattle.enc_output.specs.PieceRuns.{ReadsPieces, PutsPieces}
+use Rattle.enc_utf8.proofs.UnitsLemmas.{units-append}
+use Rattle.enc_output.proofs.PiecesLemmas.{reads_none, reads_one, reads_then, reads_wider}
 
 -- characters of one code unit each
 
@@ -38,32 +42,36 @@ module _ {Means : List ℕ → ℕ → Type 0} (big : Bool) (mean : AreCodeUnits
       (mean a b (and_parts _ _ are_scalars).0))
       (reads_units n bs (omega arith) (and_parts _ _ are_scalars).1))
 
-  pub gathers_units : {units_of : ℕ → List ℕ} (n : ℕ) {src units before after : List ℕ} → n ≤ 8
-      → 16 ≤ length src
-      → units ≡ units_of_bytes big (take 16 src) → AreScalars (take n units)
-      → after ≡ before ++ units_of_text units_of (take n units)
-      → GathersChars units_of Means src (2 * n) before after
-  gathers_units {units_of} n {src} {units} {before} {after} h l are_units are_scalars w =
+  -- the characters of code units that were stored
+  pub units_put : {units_of : ℕ → List ℕ} (n : ℕ) {before after : Output} {src units : List ℕ}
+      → n ≤ 8 → 16 ≤ length src → units ≡ units_of_bytes big (take 16 src)
+      → AreScalars (take n units) → length (units_of_text units_of (take n units)) ≤ before.room
+      → after ≡ with_appended before (units_of_text units_of (take n units))
+      → PutsPieces units_of Means before after src (2 * n)
+  units_put {units_of} n {before} {after} {src} few long are_units are_scalars fits stored =
       let twice : n + n ≡ 2 * n = omega arith in
-      subst (λ k. GathersChars units_of Means src k before after) twice (record {
-        text = take n units;
+      let text = subst (λ us. AreScalars (take n us)) are_units are_scalars in
+      subst (λ k. PutsPieces units_of Means before after src k) twice (record {
+        text = _;
         scalars = are_scalars;
         reads = subst (λ us. ReadsPieces Means src (n + n) (take n us)) (sym are_units)
-            (reads_wider 16 (reads_units n (take 16 src) (omega (arith, lengths))
-            (subst (λ us. AreScalars (take n us)) are_units are_scalars)));
-        written = w;
+            (reads_wider 16 (reads_units n (take 16 src) (omega (arith, lengths)) text));
+        fits = fits;
+        written = stored;
       })
 
-  -- the same in UTF-16, where all eight are stored as they are
-  pub gathers_lanes : (n at : ℕ) {src units : List ℕ} (buffer : List ℕ) → n ≤ 8
-      → 16 ≤ length src → at + 8 ≤ length buffer
+  -- those of eight lanes in UTF-16, of which the first n are kept
+  pub lanes_units : (len n : ℕ) (old units : List ℕ) {src : List ℕ} (borrow : GName)
+      → len ≤ length old → 8 ≤ length old - len → n ≤ 8 → 16 ≤ length src
       → units ≡ units_of_bytes big (take 16 src) → AreScalars (take n units)
       → units_of_text encode_utf16 (take n units) ≡ take n units
-      → GathersChars encode_utf16 Means src (2 * n) (take at buffer)
-      (take (at + n) (put_chunk at buffer units))
-  gathers_lanes n at {src} {units} buffer few long room are_units are_scalars alone =
-      let bytes : length (take 16 src) ≡ 16 = omega (arith, lengths) in
-      let eight = ap length are_units ∙ units_long big 8 (take 16 src) bytes in
-      gathers_units n few long are_units are_scalars
-      (stored_lanes at n buffer units (omega (arith, eight)) (omega (arith, eight))
-      ∙ ap (λ z. take at buffer ++ z) (sym alone))
+      → (let rest = take (length old - len) (drop len old) in
+      let new = put_mid len (length old - len) old (put_chunk 0 rest units) in
+      PutsPieces encode_utf16 Means (string_output (take len old) (length old - len) borrow)
+      (string_output (take (len + n) new) (length new - (len + n)) borrow) src (2 * n))
+  lanes_units len n old units {src} borrow within room few long are_units are_scalars alone =
+      let eight = ap length are_units
+      ∙ units_long big 8 (take 16 src) (omega (arith, lengths)) in
+      units_put n few long are_units are_scalars (omega (arith, lengths, ap length alone, room))
+      (lanes_put len n old units borrow within (omega (arith, eight)) (omega (arith, eight))
+      ∙ ap (with_appended (string_output (take len old) (length old - len) borrow)) (sym alone))

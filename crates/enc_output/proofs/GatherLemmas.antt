@@ -1,141 +1,135 @@
--- Characters that are gathered one after another.
-use Rattle.std.proofs.Common.{◌≡◌, ℕ, ◌+◌, ◌/◌, ◌<◌, ◌≤◌, List, [], ◌∷◌, ◌++◌, length, get_or, take, drop, refl, ap}
-use Rattle.std.proofs.Common.{◌∙◌, sym, subst, arith, append_assoc, append-nil, drop-cons}
-use Rattle.std.specs.Char.{IsScalar, encode_utf8}
+-- Characters that are collected in a buffer.
+use Rattle.std.proofs.Common.{◌≡◌, ℕ, ◌+◌, ◌-◌, ◌/◌, ◌<◌, ◌≤◌, List, [], ◌∷◌, ◌++◌, length, take, drop, ap, ◌∙◌, sym}
+use Rattle.std.proofs.Common.{arith, subst, refl, get_or, drop-cons, drop-drop}
+use Rattle.std.proofs.Math.Seq.{take-append-add}
+use Rattle.std.proofs.lemmas.List.{take_all, take-take}
+use borrow.Rule.Slice.PartMut.{put_mid}
+use Rattle.std.proofs.lemmas.Simd.{put_chunk_is}
+use lib.Lanes.{put_chunk}
+use Rattle.enc_utf8.proofs.PutLemmas.{Put, put_copied, put_front, put_length}
+use Rattle.std.proofs.Math.Seq.{drop-nil}
+use Rattle.std.specs.Borrow.{GName}
+use Rattle.std.specs.Char.{encode_utf8}
 use Rattle.std.specs.Char.Escape.{encode_utf16}
 use Rattle.std.specs.Int.{w32, to_le_bytes}
-use Rattle.enc_output.specs.Output.{Output, with_appended}
+use Rattle.enc_output.specs.Output.{Output, with_appended, string_output}
+use Rattle.enc_output.specs.Pairs.{MeansWord, MeansUnit}
+use Rattle.enc_output.specs.PieceRuns.{PutsPieces}
+use Rattle.enc_utf8.proofs.LengthLemmas.{lengths}
+use Rattle.enc_utf8.proofs.UnitsLemmas.{one_unit}
+use Rattle.enc_output.specs.AsciiRun.{PutsAscii}
 use Rattle.enc_utf8.specs.Text.{units_of_text}
 use Rattle.enc_utf8.specs.Validity.{AreAscii}
-use Rattle.enc_output.specs.PieceRuns.{PutsPieces}
-use Rattle.enc_utf8.specs.Pieces.{AreWrittenAsThemselves}
-use Rattle.enc_output.specs.Gathering.{GathersChars}
-use Rattle.enc_output.specs.Pairs.{MeansWord, MeansUnit}
-use Rattle.enc_output.proofs.PiecesLemmas.{reads_none, reads_then, reads_one, reads_own}
-use Rattle.enc_utf8.proofs.UnitsLemmas.{units-append, one_unit}
-use Rattle.enc_utf8.proofs.LengthLemmas.{lengths}
-use Rattle.enc_utf8.proofs.ScalarLemmas.{one_scalar, scalars-append, ascii_scalars}
+use Rattle.enc_output.proofs.OutputLemmas.{same_output}
+use Rattle.enc_output.proofs.Utf8SliceLemmas.{puts_own}
+use Rattle.enc_output.proofs.PiecesLemmas.{start, then_rest, one_char}
 
--- gathered characters
+-- a buffer once units are stored after its text
+pub stored : {len end : ℕ} (old new units : List ℕ) (borrow : GName) → len ≤ length old
+    → end ≤ length new → length new ≡ length old → take end new ≡ take len old ++ units
+    → string_output (take end new) (length new - end) borrow
+    ≡ with_appended (string_output (take len old) (length old - len) borrow) units
+stored old new units borrow within bound long text =
+    same_output borrow text (omega (arith, lengths, ap length text, long))
+    (sym (drop-nil (length units)))
 
-module _ {units_of : ℕ → List ℕ} {Means : List ℕ → ℕ → Type 0} where
-  pub gathers_nothing : {src before after : List ℕ} → after ≡ before
-      → GathersChars units_of Means src 0 before after
-  gathers_nothing {src} {before} same = record {
-    text = [];
-    scalars = refl;
-    reads = reads_none src;
-    written = same ∙ sym (append-nil before);
-  }
+-- of which the first n are kept, stored in the rest of the buffer
+pub lanes_put : (len n : ℕ) (old lanes : List ℕ) (borrow : GName) → len ≤ length old
+    → length lanes ≤ length old - len → n ≤ length lanes
+    → (let rest = take (length old - len) (drop len old) in
+    let new = put_mid len (length old - len) old (put_chunk 0 rest lanes) in
+    string_output (take (len + n) new) (length new - (len + n)) borrow
+    ≡ with_appended (string_output (take len old) (length old - len) borrow) (take n lanes))
+lanes_put len n old lanes borrow within room few =
+    let rest = take (length old - len) (drop len old) in
+    let count = length lanes in
+    let whole = take_all count lanes (omega arith) in
+    let stores : put_chunk 0 rest lanes ≡ take count lanes ++ drop count rest =
+    put_chunk_is 0 rest lanes (omega (arith, lengths))
+    ∙ ap (λ z. z ++ drop count rest) (sym whole) in
+    let put = put_copied len count old lanes (put_chunk 0 rest lanes) within (omega arith) room
+    stores in
+    let front = put_front put ∙ ap (λ z. take len old ++ z) whole in
+    let shorter : take (len + n) (put_mid len (length old - len) old (put_chunk 0 rest lanes))
+    ≡ take len old ++ take n lanes =
+    sym (take-take (len + n) (len + count) _ (omega arith)) ∙ ap (take (len + n)) front
+    ∙ ap (λ m. take m (take len old ++ lanes)) (omega (arith, lengths))
+    ∙ take-append-add (take len old) lanes n in
+    stored old _ (take n lanes) borrow within (omega (arith, put_length put)) (put_length put)
+    shorter
 
-  pub gathers_then : {src : List ℕ} {a n : ℕ} {before mid after : List ℕ}
-      → GathersChars units_of Means src a before mid
-      → GathersChars units_of Means (drop a src) n mid after
-      → GathersChars units_of Means src (a + n) before after
-  gathers_then {before = before} first then_more =
-      let first_units = units_of_text units_of first.text in
-      let more_units = units_of_text units_of then_more.text in
-      record {
-        text = first.text ++ then_more.text;
-        scalars = scalars-append first.text then_more.text first.scalars then_more.scalars;
-        reads = reads_then first.reads then_more.reads;
-        written = then_more.written ∙ ap (λ z. z ++ more_units) first.written
-            ∙ rw (units-append units_of first.text then_more.text, append_assoc) refl;
-      }
+-- units that are copied there
+pub part_put : {len n : ℕ} {old units new : List ℕ} (borrow : GName) → Put len n old units new
+    → string_output (take (len + n) new) (length new - (len + n)) borrow
+    ≡ with_appended (string_output (take len old) (length old - len) borrow) units
+part_put {old = old} {units} {new} borrow put =
+    stored old new units borrow (omega (arith, put.fits)) (omega (arith, put.fits, put_length put))
+    (put_length put) (put_front put)
 
-  -- bytes that are their own characters
-  pub gathers_kept : {src : List ℕ} {n : ℕ} {before after : List ℕ} → n ≤ length src
-      → AreWrittenAsThemselves Means (take n src)
-      → after ≡ before ++ units_of_text units_of (take n src)
-      → GathersChars units_of Means src n before after
-  gathers_kept {src} {n} within own stored = record {
-    text = take n src;
-    scalars = ascii_scalars (take n src) (λ k d inside. (own k d inside).0);
-    reads = reads_own within own;
-    written = stored;
-  }
+-- the invariant of a loop that collects characters: `read` bytes are read, and the buffer, which
+-- has room for `capacity` in all, has their characters
+pub record Gathered (units_of : ℕ → List ℕ) (Means : List ℕ → ℕ → Type 0) (before after : Output)
+    (src : List ℕ) (capacity read : ℕ) : Type 0 where
+  pub ends : length after.written + after.room ≡ capacity
+  pub puts : PutsPieces units_of Means before after src read
 
-  -- and their own code units
-  pub gathers_own : {src : List ℕ} {n : ℕ} {before after : List ℕ}
-      → ((bs : List ℕ) → AreAscii bs → units_of_text units_of bs ≡ bs) → n ≤ length src
-      → AreWrittenAsThemselves Means (take n src) → after ≡ before ++ take n src
-      → GathersChars units_of Means src n before after
-  gathers_own {src} {n} {before} own_units within own stored =
-      let units = own_units (take n src) (λ k d inside. (own k d inside).0) in
-      gathers_kept within own (stored ∙ ap (λ z. before ++ z) (sym units))
+-- the loop begins
+pub gathered_none : {units_of : ℕ → List ℕ} {Means : List ℕ → ℕ → Type 0} {o : Output}
+    {src : List ℕ} {capacity : ℕ} → length o.written + o.room ≡ capacity
+    → Gathered units_of Means o o src capacity 0
+gathered_none ends = record { ends = ends; puts = start }
 
-  pub gathers_one : {src : List ℕ} {n : ℕ} (c : ℕ) {before after : List ℕ} → 0 < n
-      → n ≤ length src → IsScalar c → Means (take n src) c → after ≡ before ++ units_of c
-      → GathersChars units_of Means src n before after
-  gathers_one c {before} some within scalar means stored = record {
-    text = c ∷ [];
-    scalars = one_scalar c scalar;
-    reads = reads_one c some within means;
-    written = stored ∙ ap (λ z. before ++ z) (sym (append-nil (units_of c)));
-  }
+-- and goes on
+pub gathered_then : {units_of : ℕ → List ℕ} {Means : List ℕ → ℕ → Type 0}
+    {before mid after : Output} {src : List ℕ} {capacity read n : ℕ}
+    → Gathered units_of Means before mid src capacity read
+    → PutsPieces units_of Means mid after (drop read src) n
+    → Gathered units_of Means before after src capacity (read + n)
+gathered_then {mid = mid} {src = src} {read = read} gathered more =
+    let units = ap (λ (o : Output). length o.written) more.written in
+    let room = ap (λ (o : Output). o.room) more.written in
+    record {
+      ends = omega (arith, lengths, gathered.ends, more.fits, units, room);
+      puts = then_rest {rest = drop read src} refl gathered.puts more;
+    }
 
-  -- gathered characters are put out
-  pub puts_gathered : {before after : Output} {src : List ℕ} {n : ℕ} {units : List ℕ}
-      → GathersChars units_of Means src n [] units → length units ≤ before.room
-      → after ≡ with_appended before units → PutsPieces units_of Means before after src n
-  puts_gathered {before} gathers fits appended = record {
-    text = gathers.text;
-    scalars = gathers.scalars;
-    reads = gathers.reads;
-    fits = omega (arith, ap length gathers.written);
-    written = appended ∙ ap (with_appended before) gathers.written;
-  }
+-- the byte after those that were read
+pub byte_front : (from read : ℕ) (src : List ℕ) → from + read < length src
+    → take 1 (drop read (drop from src)) ≡ get_or src (from + read) 0 ∷ []
+byte_front from read src inside =
+    ap (take 1) (drop-drop read from src ∙ drop-cons src (from + read) 0 inside)
 
--- the invariant of a loop that gathers characters: `read` bytes are read, and the first `written`
--- elements of the buffer, at most `limit`, have their code units
-pub record Gathered (units_of : ℕ → List ℕ) (Means : List ℕ → ℕ → Type 0)
-    (src first buffer : List ℕ) (room limit read written : ℕ) : Type 0 where
-  pub fits : room ≤ length buffer
-  pub bound : written ≤ limit
-  pub long : length buffer ≡ length first
-  pub gathers : GathersChars units_of Means src read [] (take written buffer)
+-- a character by its word
+pub word_put : {Means : List ℕ → ℕ → Type 0} {before after : Output} {src bytes : List ℕ}
+    {n word : ℕ} → take n src ≡ bytes → MeansWord Means bytes word → 0 < n → n ≤ length src
+    → 4 ≤ before.room
+    → after ≡ with_appended before (take (word / 0x100_0000) (to_le_bytes w32 word))
+    → PutsPieces encode_utf8 Means before after src n
+word_put {Means} {before} front is_word some within room appended =
+    one_char is_word.char some within is_word.scalar
+    (subst (λ z. Means z is_word.char) (sym front) is_word.means)
+    (omega (arith, lengths, ap length is_word.utf8, is_word.bound))
+    (appended ∙ ap (with_appended before) is_word.utf8)
 
--- the loop goes on
-module _ {units_of : ℕ → List ℕ} {Means : List ℕ → ℕ → Type 0} {src first buffer : List ℕ}
-    {room limit read written : ℕ} where
-  pub gathered_then : {new : List ℕ} {n end : ℕ}
-      → Gathered units_of Means src first buffer room limit read written
-      → length new ≡ length buffer → end ≤ limit
-      → GathersChars units_of Means (drop read src) n (take written buffer) (take end new)
-      → Gathered units_of Means src first new room limit (read + n) end
-  gathered_then gathered long bound more = record {
-    fits = omega (arith, gathered.fits, long);
-    bound = bound;
-    long = long ∙ gathered.long;
-    gathers = gathers_then gathered.gathers more;
-  }
+-- and by its code unit
+pub unit_put : {Means : List ℕ → ℕ → Type 0} {before after : Output} {src bytes : List ℕ}
+    {n unit : ℕ} → unit < 0x1_0000 → take n src ≡ bytes → MeansUnit Means bytes unit → 0 < n
+    → n ≤ length src
+    → 1 ≤ before.room → after ≡ with_appended before (unit ∷ [])
+    → PutsPieces encode_utf16 Means before after src n
+unit_put {Means} {before} {unit = unit} fits front is_unit some within room appended =
+    let units = one_unit unit fits in
+    one_char unit some within is_unit.scalar
+    (subst (λ z. Means z unit) (sym front) is_unit.means) (omega (arith, ap length units))
+    (appended ∙ ap (with_appended before) (sym units))
 
--- a byte that is a character
-module _ {Means : List ℕ → ℕ → Type 0} {src : List ℕ} {read : ℕ} {before mid after : List ℕ}
-    (inside : read < length src) where
-  gathers_single : {units_of : ℕ → List ℕ} (c : ℕ) → IsScalar c → Means (get_or src read 0 ∷ []) c
-      → GathersChars units_of Means src read before mid → after ≡ mid ++ units_of c
-      → GathersChars units_of Means src (read + 1) before after
-  gathers_single c is_scalar means gathers stored =
-      let is_byte = ap (take 1) (drop-cons src read 0 inside) in
-      gathers_then gathers
-      (gathers_one c (omega arith) (omega (arith, lengths)) is_scalar
-      (subst (λ z. Means z c) (sym is_byte) means) stored)
-
-  -- by a word
-  pub gathers_byte : {word : ℕ} → MeansWord Means (get_or src read 0 ∷ []) word
-      → GathersChars encode_utf8 Means src read before mid
-      → after ≡ mid ++ take (word / 0x100_0000) (to_le_bytes w32 word)
-      → GathersChars encode_utf8 Means src (read + 1) before after
-  gathers_byte is_word gathers stored =
-      gathers_single is_word.char is_word.scalar is_word.means gathers
-      (stored ∙ ap (λ z. mid ++ z) is_word.utf8)
-
-  -- by a code unit
-  pub gathers_byte_unit : {unit : ℕ} → unit < 0x1_0000
-      → MeansUnit Means (get_or src read 0 ∷ []) unit
-      → GathersChars encode_utf16 Means src read before mid → after ≡ mid ++ unit ∷ []
-      → GathersChars encode_utf16 Means src (read + 1) before after
-  gathers_byte_unit {unit} fits is_unit gathers stored =
-      gathers_single unit is_unit.scalar is_unit.means gathers
-      (stored ∙ ap (λ z. mid ++ z) (sym (one_unit unit fits)))
+-- sixteen ASCII characters
+pub sixteen_put : {units_of : ℕ → List ℕ}
+    → ((bs : List ℕ) → AreAscii bs → units_of_text units_of bs ≡ bs)
+    → {before after : Output} {ascii : List ℕ} → length ascii ≡ 16 → AreAscii ascii
+    → 16 ≤ before.room → after ≡ with_appended before (take 16 ascii)
+    → PutsAscii units_of before after ascii 16
+sixteen_put alone {ascii = ascii} long are_ascii room written =
+    puts_own alone (omega arith) room
+    (subst AreAscii (sym (take_all 16 ascii (omega arith))) are_ascii)
+    (λ more low. absurd (omega arith)) written

@@ -1,15 +1,16 @@
 -- Characters of one byte or two.
 use Rattle.std.proofs.Common.{◌≡◌, ◌∙◌, ℕ, suc, ◌+◌, ◌-◌, ◌/◌, ◌%◌, ◌^◌, ◌≤◌, Bool, true, false, List, []}
 use Rattle.std.proofs.Common.{◌∷◌, length, take, drop, get_or, ap, sym, subst, arith, drop-cons}
-use Rattle.std.proofs.Common.{eqb-true, refl}
+use Rattle.std.proofs.Common.{◌<◌, eqb-true, refl}
 use Rattle.std.proofs.lemmas.Bool.{eqb-false}
 use Rattle.std.proofs.lemmas.List.{get_or-drop, get_or-take}
 use Rattle.std.proofs.lemmas.Nat.{shr-shr}
 use Rattle.enc_utf8.proofs.LengthLemmas.{lengths}
-use Rattle.enc_output.specs.Gathering.{GathersChars, StoresChar}
+use Rattle.enc_output.specs.Output.{Output}
+use Rattle.enc_output.specs.PieceRuns.{PutsPieces}
 use Rattle.enc_output.specs.Pairs.{byte_or_pair}
 use Rattle.enc_output.specs.Places.{has_bit, ArePlaces}
-use Rattle.enc_output.proofs.GatherLemmas.{gathers_then, gathers_one}
+use Rattle.enc_output.proofs.PiecesLemmas.{then_rest, puts_wider}
 
 -- a character with one byte, or two if the bit of the first is set
 module _ (src : List ℕ) (leads read next : ℕ)
@@ -41,18 +42,24 @@ module _ (src : List ℕ) (leads read next : ℕ)
       ap (λ k. take k (drop read src)) one ∙ ap (take 1) (drop-cons src read 0 (omega arith))
 
   -- one more character
-  pub gathers_stored : {units_of : ℕ → List ℕ} {Means : List ℕ → ℕ → Type 0}
-      {before mid after : List ℕ}
-      → StoresChar units_of Means (byte_or_pair (has_bit leads read) first second) mid after
-      → GathersChars units_of Means src read before mid
-      → GathersChars units_of Means src next before after
-  gathers_stored {units_of} {Means} {before} {mid} {after} one gathers =
+  pub puts_stored : {units_of : ℕ → List ℕ} {Means : List ℕ → ℕ → Type 0}
+      {before mid after : Output} → PutsPieces units_of Means before mid src read
+      → (let bytes = byte_or_pair (has_bit leads read) first second in
+      PutsPieces units_of Means mid after bytes (length bytes))
+      → PutsPieces units_of Means before after src next
+  puts_stored {units_of} {Means} {before} {mid} {after} puts one =
+      let bytes = byte_or_pair (has_bit leads read) first second in
+      let front = front_is (has_bit leads read) refl in
+      let count : length bytes ≡ next - read =
+      omega (arith, lengths, ends_at, ap length front) in
       let whole : read + (next - read) ≡ next = omega (arith, ends_at) in
-      subst (λ n. GathersChars units_of Means src n before after) whole
-      (gathers_then gathers (gathers_one one.char (omega (arith, ends_at))
-      (omega (arith, lengths, ends_at)) one.scalar
-      (subst (λ bytes. Means bytes one.char) (sym (front_is (has_bit leads read) refl)) one.means)
-      one.stored))
+      subst (λ n. PutsPieces units_of Means before after src n) whole
+      (then_rest refl puts (puts_wider (next - read) (sym front)
+      (subst (λ n. PutsPieces units_of Means mid after bytes n) count one)))
+
+pub some_byte : (is_pair : Bool) (first second : ℕ) → 0 < length (byte_or_pair is_pair first second)
+some_byte true first second = omega arith
+some_byte false first second = omega arith
 
 -- places
 

@@ -136,12 +136,11 @@ module _ {units_of : ℕ → List ℕ} {Means : List ℕ → ℕ → Type 0} whe
       written_pieces (own_ascii Means (take n src) keeps puts.ascii) puts
 
   -- one piece
-  pub one_piece : {before after : Output} {src : List ℕ} {n : ℕ} (c : ℕ) → 0 < n → n ≤ length src
-      → IsScalar c → Means (take n src) c → nat_le (length (units_of c)) before.room ≡ true
+  pub one_char : {before after : Output} {src : List ℕ} {n : ℕ} (c : ℕ) → 0 < n → n ≤ length src
+      → IsScalar c → Means (take n src) c → length (units_of c) ≤ before.room
       → after ≡ with_appended before (units_of c) → PutsPieces units_of Means before after src n
-  one_piece {before = before} c some within scalar means test appended =
+  one_char {before = before} c some within scalar means fits appended =
       let units = append-nil (units_of c) in
-      let fits : length (units_of c) ≤ before.room = grind (arith, nat_tests) in
       record {
         text = c ∷ [];
         scalars = one_scalar c scalar;
@@ -149,6 +148,13 @@ module _ {units_of : ℕ → List ℕ} {Means : List ℕ → ℕ → Type 0} whe
         fits = omega (arith, fits, ap length units);
         written = appended ∙ ap (with_appended before) (sym units);
       }
+
+  -- by a test of whether it fits
+  pub one_piece : {before after : Output} {src : List ℕ} {n : ℕ} (c : ℕ) → 0 < n → n ≤ length src
+      → IsScalar c → Means (take n src) c → nat_le (length (units_of c)) before.room ≡ true
+      → after ≡ with_appended before (units_of c) → PutsPieces units_of Means before after src n
+  one_piece c some within scalar means test appended =
+      one_char c some within scalar means (grind (arith, nat_tests)) appended
 
   -- a piece that was found, after them
   pub then_one : {before mid after : Output} {src : List ℕ} {a n : ℕ} {appended : Bool} (c : ℕ)
@@ -177,6 +183,39 @@ module _ {units_of : ℕ → List ℕ} {Means : List ℕ → ℕ → Type 0} whe
     fits = puts.fits;
     written = puts.written;
   }
+
+  -- bytes that are their own characters and code units
+  pub kept_pieces : {before after : Output} {src : List ℕ} {n : ℕ}
+      → ((bs : List ℕ) → AreAscii bs → units_of_text units_of bs ≡ bs) → n ≤ length src
+      → AreWrittenAsThemselves Means (take n src) → n ≤ before.room
+      → after ≡ with_appended before (take n src) → PutsPieces units_of Means before after src n
+  kept_pieces {before} {src = src} {n = n} alone within own fits appended =
+      let ascii : AreAscii (take n src) = λ k d inside. (own k d inside).0 in
+      let units = alone (take n src) ascii in
+      record {
+        text = take n src;
+        scalars = ascii_scalars (take n src) ascii;
+        reads = reads_own within own;
+        fits = omega (arith, ap length units, lengths);
+        written = appended ∙ ap (with_appended before) (sym units);
+      }
+
+  -- pieces that were put out to an empty output, whose units are appended to another
+  pub puts_gathered : {before after o then : Output} {src : List ℕ} {n : ℕ} {units : List ℕ}
+      → then ≡ with_appended o units → length units ≤ o.room
+      → PutsPieces units_of Means before after src n → before.written ≡ [] → after.written ≡ units
+      → PutsPieces units_of Means o then src n
+  puts_gathered {before = before} {o = o} {units = units} appended fits puts empty text =
+      let same : units ≡ units_of_text units_of puts.text =
+      sym text ∙ ap (λ (o : Output). o.written) puts.written
+      ∙ ap (λ z. z ++ units_of_text units_of puts.text) empty in
+      record {
+        text = puts.text;
+        scalars = puts.scalars;
+        reads = puts.reads;
+        fits = omega (arith, ap length same);
+        written = appended ∙ ap (with_appended o) same;
+      }
 
   -- bytes among the first m, which are the ASCII characters with their numbers
   pub own_pieces : {before after : Output} {src : List ℕ} (m : ℕ) {n : ℕ}

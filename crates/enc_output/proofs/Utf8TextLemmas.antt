@@ -8,7 +8,8 @@ use Rattle.std.specs.Char.Escape.{encode_utf16}
 use Rattle.enc_utf8.proofs.LengthLemmas.{lengths}
 use Rattle.enc_utf8.specs.Text.{AreScalars, units_of_text}
 use Rattle.enc_utf8.specs.Validity.{IsWellFormedUtf8}
-use Rattle.enc_output.specs.Gathering.{GathersChars}
+use Rattle.enc_output.specs.Output.{Output, with_appended}
+use Rattle.enc_output.specs.PieceRuns.{PutsPieces}
 use Rattle.enc_utf8.specs.Pieces.{IsUtf8Char}
 use Rattle.enc_output.specs.Utf8Units.{gives_unit, code_unit_of_byte, byte_two_before, unit_at, units_from}
 use Rattle.enc_utf8.proofs.Utf8FormLemmas.{Form, One, Two, Three, Four, form_of, scalar_below}
@@ -141,20 +142,23 @@ units_of_utf8 src (c ∷ t) a at y x s =
     let parts = and_parts _ _ a in
     one_more src c t (units_of_utf8 src t parts.1) at y x parts.0 (form_of c) s
 
--- well-formed bytes in front are gathered as their code units
-pub gathers_units : (src : List ℕ) (n : ℕ) (after : List ℕ) → n ≤ length src
-    → IsWellFormedUtf8 (take n src)
-    → after ≡ units_from src 0 n
-    → GathersChars encode_utf16 IsUtf8Char src n [] after
-gathers_units src n after l utf8 e =
+-- the code units of well-formed bytes in front are put out
+pub puts_units : (before after : Output) (src : List ℕ) (n : ℕ) → n ≤ length src
+    → length (units_from src 0 n) ≤ before.room → IsWellFormedUtf8 (take n src)
+    → after ≡ with_appended before (units_from src 0 n)
+    → PutsPieces encode_utf16 IsUtf8Char before after src n
+puts_units before after src n within fits utf8 appended =
     let bytes : units_of_text encode_utf8 utf8.0 ≡ take n src = their_units utf8.0 ∙ utf8.1.1 in
     let long : length (units_of_text encode_utf8 utf8.0) ≡ n =
     omega (arith, lengths, ap length bytes) in
+    let units : units_from src 0 n ≡ units_of_text encode_utf16 utf8.0 =
+    sym (ap (units_from src 0) long)
+    ∙ units_of_utf8 src utf8.0 utf8.1.0 0 (omega arith) (omega arith)
+    (subst (Stand src 0) (sym bytes) (stands src 0 n (omega arith))) in
     record {
       text = utf8.0;
       scalars = utf8.1.0;
-      reads = reads_utf8 src n l utf8;
-      written = e ∙ sym (ap (units_from src 0) long)
-          ∙ units_of_utf8 src utf8.0 utf8.1.0 0 (omega arith) (omega arith)
-          (subst (Stand src 0) (sym bytes) (stands src 0 n (omega arith)));
+      reads = reads_utf8 src n within utf8;
+      fits = omega (arith, ap length units);
+      written = appended ∙ ap (with_appended before) units;
     }

@@ -1,6 +1,5 @@
 pub mod AsciiRun
 pub mod CodeUnits
-pub mod Gathering
 pub mod Output
 pub mod Pairs
 pub mod PieceRuns

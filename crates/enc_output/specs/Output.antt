@@ -36,3 +36,12 @@ borrowed_output len dst = slice_output len dst.now dst.ghost_name
 abbrev pub string_output : List ℕ → ℕ → GName → Output
 string_output text room borrow =
     record { written = text; room = room; unwritten = []; borrow = borrow }
+
+-- the room left in a buffer whose first `len` elements are the text
+abbrev pub room_in : ℕ → MutBor (List ℕ) → ℕ
+room_in len buffer = length buffer.now - len
+
+-- such a buffer as an output: any elements may come after the text
+abbrev pub buffer_output : ℕ → MutBor (List ℕ) → Output
+buffer_output len buffer =
+    string_output (take len buffer.now) (room_in len buffer) buffer.ghost_name

@@ -5,11 +5,12 @@ ghost use Rattle.std.specs.Char.Escape.{encode_utf16};
 ghost use Rattle.enc_output.specs.CodeUnits.{units_of_bytes};
 ghost use Rattle.enc_utf8.specs.Text.{AreScalars, units_of_text};
 
-use crate::gather::{Gather, store_units};
+use crate::buffer::{Buffer, UnitBuffer};
+use crate::gather::Gather;
 use crate::pieces::{Pieces, UnitPieces};
 use crate::run::Run;
 use crate::unit_slice::{UnitSlice, append_each};
-use enc_utf8::{SCALARS_STEP, store_scalars, store_text, units_before_surrogate, utf8_of};
+use enc_utf8::SCALARS_STEP;
 use std::simd::prelude::*;
 
 /// At most this number of code units is stored at once.
@@ -17,7 +18,7 @@ const UNITS_STEP: usize = 16;
 
 /// Returns the eight code units of sixteen bytes.
 #[inline(always)]
-fn units_in(bytes: u8x16, big_endian: bool) -> u16x8
+pub(crate) fn units_in(bytes: u8x16, big_endian: bool) -> u16x8
     ensures { result ≡ units_of_bytes big_endian bytes }
 {
     let units = u16x8::from_le_bytes(bytes);
@@ -29,7 +30,7 @@ fn units_in(bytes: u8x16, big_endian: bool) -> u16x8
 
 /// Returns whether none of eight code units is a surrogate.
 #[inline(always)]
-fn are_scalars(units: u16x8) -> bool
+pub(crate) fn are_scalars(units: u16x8) -> bool
     ensures scalars { IsTrue result → AreScalars (take 8 units) }
     ensures alone { (n : ℕ) → units_of_text encode_utf16 (take n units) ≡ take n units }
 {
@@ -61,68 +62,52 @@ impl<P: UnitPieces> Gather for CodeUnits<P> {
     /// Stops where no character is known to begin, and 36 bytes before the end of the room or 32
     /// before that of `src`.
     #[inline(always)]
-    fn gather(self, buffer: &mut [u8], room: usize, src: &[u8]) -> (usize, usize) {
+    fn gather(self, out: &mut Buffer<'_, u8>, src: &[u8]) -> usize {
         let pieces = self.pieces;
-        let big_endian = pieces.is_big_endian();
-        let limit = buffer.len().min(room);
-        if limit < SCALARS_STEP {
-            return (0, 0);
+        if out.capacity() < SCALARS_STEP {
+            return 0;
         }
-        let most = limit - SCALARS_STEP;
+        let most = out.capacity() - SCALARS_STEP;
         let mut read = 0;
-        let mut written = 0;
-        while written <= most && 32 <= src.len() - read {
-            let units = units_in(u8x16::from_slice(&src[read..]), big_endian);
-            let (count, end) = store_scalars(buffer, written, units);
+        while out.len() <= most && 32 <= src.len() - read {
+            let count = out.store_pairs(pieces, u8x16::from_slice(&src[read..]));
             read += 2 * count;
-            written = end;
             if count == 8 {
                 continue;
             }
             let Some((character, len)) = pieces.piece(src, read) else {
                 break;
             };
-            written = store_text(buffer, written, utf8_of(character));
+            out.store_char(character);
             read += len;
         }
-        (read, written)
+        read
     }
 
     /// Stops as `gather` does, but 16 code units before the end of the room.
     #[inline(always)]
-    fn gather_units(self, buffer: &mut [u16], room: usize, src: &[u8]) -> (usize, usize) {
+    fn gather_units(self, out: &mut Buffer<'_, u16>, src: &[u8]) -> usize {
         let pieces = self.pieces;
-        let big_endian = pieces.is_big_endian();
-        let limit = buffer.len().min(room);
-        if limit < UNITS_STEP {
-            return (0, 0);
+        if out.capacity() < UNITS_STEP {
+            return 0;
         }
-        let most = limit - UNITS_STEP;
+        let most = out.capacity() - UNITS_STEP;
         let mut read = 0;
-        let mut written = 0;
-        while written <= most && 32 <= src.len() - read {
-            let units = units_in(u8x16::from_slice(&src[read..]), big_endian);
-            let more = units_in(u8x16::from_slice(&src[read + 16..]), big_endian);
-            units.copy_to_slice(&mut buffer[written..]);
-            if are_scalars(units) & are_scalars(more) {
-                more.copy_to_slice(&mut buffer[written + 8..]);
-                read += 32;
-                written += 16;
-                continue;
-            }
-            let count = units_before_surrogate(units);
+        while out.len() <= most && 32 <= src.len() - read {
+            let bytes = u8x16::from_slice(&src[read..]);
+            let more = u8x16::from_slice(&src[read + 16..]);
+            let count = out.store_pairs(pieces, bytes, more);
             read += 2 * count;
-            written += count;
-            if count == 8 {
+            if 8 <= count {
                 continue;
             }
             let Some((character, len)) = pieces.piece(src, read) else {
                 break;
             };
-            written = store_units(buffer, written, character);
+            out.store_char(character);
             read += len;
         }
-        (read, written)
+        read
     }
 }
 

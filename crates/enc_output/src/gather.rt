@@ -1,16 +1,15 @@
 //! Characters collected in a buffer: the ways to do so, and one by one.
 
-ghost use Rattle.std.specs.Prelude.{◌≡◌, ℕ, ◌+◌, ◌<◌, ◌≤◌, List, [], ◌∷◌, ◌++◌, length, take, drop, IsTrue};
-ghost use Rattle.std.specs.Char.{IsScalar, encode_utf8};
+ghost use Rattle.std.specs.Prelude.{ℕ, ◌+◌, ◌<◌, ◌≤◌, List, [], ◌∷◌, length, IsTrue};
+ghost use Rattle.std.specs.Char.{encode_utf8};
 ghost use Rattle.std.specs.Char.Escape.{encode_utf16};
-ghost use Rattle.enc_output.specs.Gathering.{GathersChars};
+ghost use Rattle.enc_output.specs.Output.{buffer_output, room_in};
 ghost use Rattle.enc_output.specs.PieceRuns.{PutsPieces};
-ghost use Rattle.enc_utf8.specs.Pieces.{AreWrittenAsThemselves};
 
+use crate::buffer::{Buffer, UnitBuffer};
 use crate::pieces::Pieces;
 use crate::run::Run;
 use crate::unit_slice::{UnitSlice, append_each};
-use enc_utf8::{store_text, utf8_of};
 use std::simd::prelude::*;
 
 /// The least number of bytes, and the least room, for which characters are collected.
@@ -25,43 +24,21 @@ pub(crate) const UNITS_BUFFER: usize = 164;
 /// A turn writes at most this number of bytes, if characters are collected one by one.
 const STEP: usize = 16;
 
-/// Stores the code units of a character after the first `at` of a buffer. Returns their end.
+/// Stores ASCII characters at the front of sixteen bytes, and returns their number. There may be
+/// more.
 #[inline(always)]
-pub(crate) fn store_units(buffer: &mut [u16], at: usize, character: char) -> usize
-    requires room { at + 2 ≤ length buffer.old }
-    ensures end { result ≡ at + length (encode_utf16 character) }
-    ensures bound { result ≤ at + 2 }
-    ensures scalar { IsScalar character }
-    ensures len { length buffer.new ≡ length buffer.old }
-    ensures stored { take result buffer.new ≡ take at buffer.old ++ encode_utf16 character }
+fn store_own<P: Pieces>(out: &mut Buffer<'_, u8>, pieces: P, src: &[u8]) -> usize
+    requires long { 16 ≤ length src.now }
+    requires room { 16 ≤ room_in out.old.len out.old.units }
+    ensures bound { room_in out.old.len out.old.units ≤ room_in out.new.len out.new.units + result }
+    ensures puts { PutsPieces encode_utf8 (P.means pieces)
+        (buffer_output out.old.len out.old.units)
+        (buffer_output out.new.len out.new.units) src.now result }
 {
-    let scalar = character as u32;
-    if scalar < 0x10000 {
-        buffer[at..at + 1].copy_from_slice(&[scalar as u16]);
-        return at + 1;
-    }
-    let width = character.len_utf16();
-    let mut units = [0; 2];
-    let text = character.encode_utf16(&mut units);
-    buffer[at..at + width].copy_from_slice(text);
-    at + width
-}
-
-/// Stores the sixteen bytes of `src` from `from` on after the first `at` bytes of a buffer. Returns
-/// the length of a prefix of them that are ASCII characters.
-#[inline(always)]
-fn store_own<P: Pieces>(pieces: P, buffer: &mut [u8], at: usize, src: &[u8], from: usize) -> usize
-    requires from { from + 16 ≤ length src.now }
-    requires room { at + 16 ≤ length buffer.old }
-    ensures bound { result ≤ 16 }
-    ensures own { AreWrittenAsThemselves (P.means pieces) (take result (drop from src.now)) }
-    ensures len { length buffer.new ≡ length buffer.old }
-    ensures stored { take (at + result) buffer.new ≡ take at buffer.old
-        ++ take result (drop from src.now) }
-{
-    let lanes = u8x16::from_slice(&src[from..]);
-    lanes.copy_to_slice(&mut buffer[at..]);
-    pieces.own_len(lanes)
+    let lanes = u8x16::from_slice(src);
+    let own = pieces.own_len(lanes);
+    out.store_front(lanes, own);
+    own
 }
 
 /// A way to collect characters in a buffer of fixed length, so that an output takes many of them at
@@ -69,6 +46,9 @@ fn store_own<P: Pieces>(pieces: P, buffer: &mut [u8], at: usize, src: &[u8], fro
 pub trait Gather: Copy {
     // the bytes mean the character
     ghost means: { Self → List ℕ → ℕ → Type 0 };
+
+    /// The number of bytes that a store of `gather` may overwrite beyond the room.
+    const MORE: usize = 0;
 
     /// Returns whether each byte below 0x80 is the ASCII character with that number.
     fn has_ascii(self) -> bool
@@ -81,27 +61,20 @@ pub trait Gather: Copy {
         ensures { PutsPieces U.units_of (means self) (U.output out.old) (U.output out.new) src.now
             result };
 
-    /// Writes the first characters of `src`, any number of them, to the start of the buffer.
-    ///
-    /// Aims at no more UTF-8 than `room`. Returns the number of bytes read and of bytes written.
-    fn gather(self, buffer: &mut [u8], room: usize, src: &[u8]) -> (usize, usize)
-        ensures len { length buffer.new ≡ length buffer.old }
-        ensures bound { result.1 ≤ length buffer.new }
-        ensures gathers { GathersChars encode_utf8 (means self) src.now result.0 []
-            (take result.1 buffer.new) };
+    /// Stores the first characters of `src`, any number of them, and returns their length in bytes.
+    fn gather(self, out: &mut Buffer<'_, u8>, src: &[u8]) -> usize
+        ensures { PutsPieces encode_utf8 (means self) (buffer_output out.old.len out.old.units)
+            (buffer_output out.new.len out.new.units) src.now result };
 
-    /// Does the same in UTF-16, in a buffer of code units.
-    fn gather_units(self, buffer: &mut [u16], room: usize, src: &[u8]) -> (usize, usize)
-        ensures len { length buffer.new ≡ length buffer.old }
-        ensures bound { result.1 ≤ length buffer.new }
-        ensures gathers { GathersChars encode_utf16 (means self) src.now result.0 []
-            (take result.1 buffer.new) }
+    /// Does the same in UTF-16.
+    fn gather_units(self, out: &mut Buffer<'_, u16>, src: &[u8]) -> usize
+        ensures { PutsPieces encode_utf16 (means self) (buffer_output out.old.len out.old.units)
+            (buffer_output out.new.len out.new.units) src.now result }
     {
         let _gather = self;
-        let _room = room;
         let _bytes = src;
-        let _buffer = buffer;
-        (0, 0)
+        let _out = out;
+        0
     }
 }
 
@@ -126,29 +99,27 @@ impl<P: Pieces> Gather for OneByOne<P> {
     /// Stops where no character is known to begin, and 16 bytes before the end of the room or 32
     /// before that of `src`.
     #[inline(always)]
-    fn gather(self, buffer: &mut [u8], room: usize, src: &[u8]) -> (usize, usize) {
+    fn gather(self, out: &mut Buffer<'_, u8>, src: &[u8]) -> usize {
         let pieces = self.pieces;
-        let limit = buffer.len().min(room);
-        if limit < STEP {
-            return (0, 0);
+        if out.capacity() < STEP {
+            return 0;
         }
-        let most = limit - STEP;
+        let most = out.capacity() - STEP;
         let mut read = 0;
-        let mut written = 0;
-        while written <= most && 32 <= src.len() - read {
-            let own = store_own(pieces, buffer, written, src, read);
+        while out.len() <= most && 32 <= src.len() - read {
+            let (_, rest) = src.split_at(read);
+            let own = store_own(out, pieces, rest);
             read += own;
-            written += own;
             if own > 0 {
                 continue;
             }
             let Some((character, len)) = pieces.piece(src, read) else {
                 break;
             };
-            written = store_text(buffer, written, utf8_of(character));
+            out.store_char(character);
             read += len;
         }
-        (read, written)
+        read
     }
 }
 

@@ -2,7 +2,7 @@
 //! memory.
 #![tactic(auto)]
 
-mod buffer_unit;
+mod buffer;
 mod code_units;
 mod decoder_result;
 mod gather;
@@ -23,6 +23,7 @@ mod utf8_slice;
 mod utf8_units;
 mod widen;
 
+pub use buffer::Buffer;
 pub use code_units::CodeUnits;
 pub use decoder_result::DecoderResult;
 pub use gather::{Gather, OneByOne};

@@ -1,13 +1,12 @@
 //! Characters of one byte or two, eight at a time, with no branch on their lengths.
 
-ghost use Rattle.std.specs.Prelude.{◌≡◌, ℕ, ◌+◌, ◌<◌, ◌≤◌, List, [], length, take, drop};
+ghost use Rattle.std.specs.Prelude.{ℕ, ◌+◌, ◌<◌, ◌≤◌, List, length, drop};
 ghost use Rattle.std.specs.Char.{encode_utf8};
-ghost use Rattle.enc_output.specs.Gathering.{GathersChars};
 ghost use Rattle.enc_output.specs.Output.{borrowed_output};
 ghost use Rattle.enc_output.specs.PieceRuns.{PutsPieces};
 ghost use Rattle.enc_output.specs.Places.{ArePlaces, EachIsPlace};
 
-use crate::buffer_unit::BufferUnit;
+use crate::buffer::{Buffer, UnitBuffer};
 use crate::gather::{BUFFER, Gather};
 use crate::pieces::{PairPieces, Pieces};
 use crate::run::Run;
@@ -28,124 +27,105 @@ struct Start {
     leads: u64,
 }
 
-/// Stores four characters, or those before one that is not known, after the first `at` code units
-/// of a buffer.
+/// Stores four characters, or those before one that is not known.
 ///
-/// Returns how many bytes the characters have, the end of their code units, and whether they are
-/// four.
+/// Returns how many bytes the characters have, and whether they are four.
 #[inline(always)]
-fn store_four<B: BufferUnit, P: PairPieces>(
+fn store_four<B: UnitBuffer, P: PairPieces>(
+    out: &mut B,
     pieces: P,
-    buffer: &mut [B],
-    at: usize,
     places: &[u16; 16],
     start: Start,
-) -> (usize, usize, bool)
+) -> (usize, bool)
     requires from { start.from ≤ 8 }
     requires places { EachIsPlace (P.stands_for pieces) places.now }
-    requires room { at + 16 ≤ length (B.units buffer.old) }
+    requires room { 16 ≤ (B.output out.old).room }
     ensures read { result.0 ≤ 8 }
-    ensures bound { result.1 ≤ at + 16 }
-    ensures len { length (B.units buffer.new) ≡ length (B.units buffer.old) }
-    ensures gathers { (src : List ℕ) → 8 ≤ length src
+    ensures bound { (B.output out.old).room ≤ (B.output out.new).room + 16 }
+    ensures puts { (src : List ℕ) → 8 ≤ length src
         → ArePlaces (P.stands_for pieces) 8 (drop start.from places.now) start.leads src
         (drop 1 src)
-        → GathersChars B.units_of (P.means pieces) src result.0
-        (take at (B.units buffer.old)) (take result.1 (B.units buffer.new)) }
+        → PutsPieces B.units_of (P.means pieces) (B.output out.old) (B.output out.new) src
+        result.0 }
 {
     let ends = ends_of(start.leads);
     let mut read = 0;
-    let mut end = at;
     let mut count = 0;
     while count < 4 {
         let next = ends[count] as usize;
-        let Some(stored) = B::store_place(buffer, end, pieces, places[start.from + read]) else {
-            return (read, end, false);
-        };
-        end = stored;
+        if !out.store_place(pieces, places[start.from + read]) {
+            return (read, false);
+        }
         read = next;
         count += 1;
     }
-    (read, end, true)
+    (read, true)
 }
 
 /// Does the same for eight characters.
 #[inline(always)]
-fn store_eight<B: BufferUnit, P: PairPieces>(
+fn store_eight<B: UnitBuffer, P: PairPieces>(
+    out: &mut B,
     pieces: P,
-    buffer: &mut [B],
-    at: usize,
     places: &[u16; 16],
     leads: u64,
-) -> (usize, usize)
+) -> usize
     requires places { EachIsPlace (P.stands_for pieces) places.now }
-    requires room { at + 32 ≤ length (B.units buffer.old) }
-    ensures read { result.0 ≤ 16 }
-    ensures bound { result.1 ≤ at + 32 }
-    ensures len { length (B.units buffer.new) ≡ length (B.units buffer.old) }
-    ensures gathers { (src : List ℕ) → 16 ≤ length src
+    requires room { 32 ≤ (B.output out.old).room }
+    ensures read { result ≤ 16 }
+    ensures bound { (B.output out.old).room ≤ (B.output out.new).room + 32 }
+    ensures puts { (src : List ℕ) → 16 ≤ length src
         → ArePlaces (P.stands_for pieces) 16 places.now leads src (drop 1 src)
-        → GathersChars B.units_of (P.means pieces) src result.0
-        (take at (B.units buffer.old)) (take result.1 (B.units buffer.new)) }
+        → PutsPieces B.units_of (P.means pieces) (B.output out.old) (B.output out.new) src
+        result }
 {
     let start = Start { from: 0, leads };
-    let (first, end, is_whole) = store_four(pieces, buffer, at, places, start);
+    let (first, is_whole) = store_four(out, pieces, places, start);
     if !is_whole {
-        return (first, end);
+        return first;
     }
     let rest = Start {
         from: first,
         leads: leads >> first as u64,
     };
-    let (second, end, _) = store_four(pieces, buffer, end, places, rest);
-    (first + second, end)
+    let (second, _) = store_four(out, pieces, places, rest);
+    first + second
 }
 
-/// Writes characters from the front of `src` to the start of a buffer, as `Gather::gather` does.
+/// Stores characters from the front of `src`, as `Gather::gather` does.
 #[inline(always)]
-fn gather_pairs<B: BufferUnit, P: PairPieces>(
-    pieces: P,
-    buffer: &mut [B],
-    room: usize,
-    src: &[u8],
-) -> (usize, usize)
-    ensures len { length (B.units buffer.new) ≡ length (B.units buffer.old) }
-    ensures bound { result.1 ≤ length (B.units buffer.new) }
-    ensures gathers { GathersChars B.units_of (P.means pieces) src.now result.0 []
-        (take result.1 (B.units buffer.new)) }
+fn gather_pairs<B: UnitBuffer, P: PairPieces>(out: &mut B, pieces: P, src: &[u8]) -> usize
+    ensures { PutsPieces B.units_of (P.means pieces) (B.output out.old) (B.output out.new) src.now
+        result }
 {
     let has_ascii = pieces.has_ascii();
-    let limit = B::len(buffer).min(room);
-    if limit < STEP {
-        return (0, 0);
+    if out.capacity() < STEP {
+        return 0;
     }
-    let most = limit - STEP;
+    let most = out.capacity() - STEP;
     let mut read = 0;
-    let mut written = 0;
-    while written <= most && 32 <= src.len() - read {
+    while out.len() <= most && 32 <= src.len() - read {
         let lanes = u8x16::from_slice(&src[read..]);
         if has_ascii && are_ascii(lanes) {
-            B::store_sixteen(buffer, written, lanes);
+            out.store_sixteen(lanes);
             read += 16;
-            written += 16;
             continue;
         }
         let next = u8x16::from_slice(&src[read + 1..]);
         let found = pieces.places(lanes, next);
         let places = found.places.to_array();
-        let (more, end) = store_eight(pieces, buffer, written, &places, found.leads);
+        let more = store_eight(out, pieces, &places, found.leads);
         read += more;
-        written = end;
         if more > 0 {
             continue;
         }
         let Some((character, len)) = pieces.piece(src, read) else {
             break;
         };
-        written = B::store_char(buffer, written, character);
+        out.store_char(character);
         read += len;
     }
-    (read, written)
+    read
 }
 
 /// Writes the characters at the front as UTF-8, eight a turn. Returns their length in bytes.
@@ -183,13 +163,13 @@ impl<P: PairPieces> Gather for Pairs<P> {
     }
 
     #[inline(always)]
-    fn gather(self, buffer: &mut [u8], room: usize, src: &[u8]) -> (usize, usize) {
-        gather_pairs(self.pieces, buffer, room, src)
+    fn gather(self, out: &mut Buffer<'_, u8>, src: &[u8]) -> usize {
+        gather_pairs(out, self.pieces, src)
     }
 
     #[inline(always)]
-    fn gather_units(self, buffer: &mut [u16], room: usize, src: &[u8]) -> (usize, usize) {
-        gather_pairs(self.pieces, buffer, room, src)
+    fn gather_units(self, out: &mut Buffer<'_, u16>, src: &[u8]) -> usize {
+        gather_pairs(out, self.pieces, src)
     }
 }
 

@@ -3,17 +3,17 @@
 ghost use Rattle.std.specs.Prelude.{◌≡◌, ℕ, ◌+◌, ◌<◌, ◌≤◌, [], ◌∷◌, length, take, drop, IsTrue};
 ghost use Rattle.std.specs.Char.{encode_utf8};
 ghost use Rattle.std.specs.Char.Escape.{encode_utf16};
-ghost use Rattle.enc_output.specs.Gathering.{GathersChars};
-ghost use Rattle.enc_output.specs.Output.{borrowed_output};
+ghost use Rattle.enc_output.specs.Output.{borrowed_output, buffer_output, room_in};
 ghost use Rattle.enc_output.specs.PieceRuns.{PutsPieces};
 ghost use Rattle.enc_utf8.specs.Validity.{AreAscii};
 
+use crate::buffer::{Buffer, UnitBuffer};
 use crate::gather::Gather;
 use crate::pieces::{BytePieces, Pieces};
 use crate::run::Run;
 use crate::unit_slice::{UnitSlice, append_each};
 use crate::utf8_slice::Utf8Slice;
-use enc_utf8::{ascii_from, store_word};
+use enc_utf8::ascii_from;
 use std::simd::prelude::*;
 
 /// The least number of bytes of a run for which a long buffer is cleared.
@@ -31,39 +31,30 @@ const STEP: usize = 16;
 /// The number of bytes loaded at once.
 const LANES: usize = 64;
 
-/// A turn writes at most this number of bytes.
-const TURN: usize = 80;
+/// A turn writes at most 80 bytes, and may overwrite 64 after them.
+const TURN: usize = 144;
 
-/// Stores the UTF-8 of sixteen bytes of `src` from `from` on, after the first `at` bytes of a
-/// buffer. It stops at a byte that is no character. Returns the number of bytes read and the end of
-/// their UTF-8.
+/// Stores the UTF-8 of sixteen bytes. It stops at a byte that is no character. Returns the number
+/// of bytes read.
 #[inline(always)]
-fn store_bytes<P: BytePieces>(
-    pieces: P,
-    buffer: &mut [u8],
-    at: usize,
-    src: &[u8],
-    from: usize,
-) -> (usize, usize)
+fn store_bytes<P: BytePieces>(out: &mut Buffer<'_, u8>, pieces: P, src: &[u8], from: usize) -> usize
     requires from { from + 16 ≤ length src.now }
-    requires room { at + 64 ≤ length buffer.old }
-    ensures read { result.0 ≤ 16 }
-    ensures bound { result.1 ≤ at + 64 }
-    ensures len { length buffer.new ≡ length buffer.old }
-    ensures gathers { GathersChars encode_utf8 (P.means pieces) (drop from src.now) result.0
-        (take at buffer.old) (take result.1 buffer.new) }
+    requires room { 64 ≤ room_in out.old.len out.old.units }
+    ensures read { result ≤ 16 }
+    ensures puts { PutsPieces encode_utf8 (P.means pieces)
+        (buffer_output out.old.len out.old.units)
+        (buffer_output out.new.len out.new.units) (drop from src.now) result }
 {
     let mut read = 0;
-    let mut end = at;
     while read < STEP {
         let word = pieces.word(src[from + read]);
         if word == 0 {
             break;
         }
-        end = store_word(buffer, end, word);
+        out.store_word(word);
         read += 1;
     }
-    (read, end)
+    read
 }
 
 /// Returns whether many of 64 bytes are not ASCII. It is a guess, and changes no output.
@@ -72,118 +63,109 @@ fn are_dense(lanes: u8x64) -> bool {
     lanes.simd_ge(u8x64::splat(0x80)).to_bitmask().count_ones() > 8
 }
 
-/// Stores the first `ascii` bytes of `src`, which are ASCII, and the UTF-8 of the byte after them,
-/// after the first `at` bytes of a buffer.
+/// Stores the first `ascii` bytes of `src`, which are ASCII, and the UTF-8 of the byte after them.
 ///
-/// Returns the number of bytes read, the end of their UTF-8, and whether the byte after the ASCII
-/// is a character.
+/// Returns the number of bytes read, and whether the byte after the ASCII is a character.
 #[inline(always)]
 fn store_hop<P: BytePieces>(
+    out: &mut Buffer<'_, u8>,
     pieces: P,
-    buffer: &mut [u8],
-    at: usize,
     src: &[u8],
     ascii: usize,
-) -> (usize, usize, bool)
+) -> (usize, bool)
     requires long { 64 ≤ length src.now }
-    requires room { at + 68 ≤ length buffer.old }
+    requires room { 68 ≤ room_in out.old.len out.old.units }
     requires ascii { ascii < 64 }
     requires are_ascii { AreAscii (take ascii src.now) }
     requires means { (b : ℕ) → b < 0x80 → P.means pieces (b ∷ []) b }
     ensures read { result.0 ≤ ascii + 1 }
-    ensures some { IsTrue result.2 → 0 < result.0 }
-    ensures bound { result.1 ≤ at + result.0 + 3 }
-    ensures len { length buffer.new ≡ length buffer.old }
-    ensures gathers { GathersChars encode_utf8 (P.means pieces) src.now result.0
-        (take at buffer.old) (take result.1 buffer.new) }
+    ensures some { IsTrue result.1 → 0 < result.0 }
+    ensures bound { room_in out.old.len out.old.units
+        ≤ room_in out.new.len out.new.units + result.0 + 3 }
+    ensures puts { PutsPieces encode_utf8 (P.means pieces)
+        (buffer_output out.old.len out.old.units)
+        (buffer_output out.new.len out.new.units) src.now result.0 }
 {
-    u8x64::from_slice(src).copy_to_slice(&mut buffer[at..]);
+    out.store_long(u8x64::from_slice(src), ascii);
     let word = pieces.word(src[ascii]);
     if word == 0 {
-        return (ascii, at + ascii, false);
+        return (ascii, false);
     }
-    (ascii + 1, store_word(buffer, at + ascii, word), true)
+    out.store_word(word);
+    (ascii + 1, true)
 }
 
 /// Stores the UTF-8 of the first 64 bytes of `src`, which `lanes` holds. It stops after the second
 /// byte that is not ASCII, or at one that is no character. Returns the same as `store_hop`.
 #[inline(always)]
 fn store_hops<P: BytePieces>(
+    out: &mut Buffer<'_, u8>,
     pieces: P,
-    buffer: &mut [u8],
-    at: usize,
     src: &[u8],
     lanes: u8x64,
-) -> (usize, usize, bool)
+) -> (usize, bool)
     requires long { 128 ≤ length src.now }
-    requires room { at + 144 ≤ length buffer.old }
+    requires room { 144 ≤ room_in out.old.len out.old.units }
     requires lanes { lanes ≡ take 64 src.now }
     requires means { (b : ℕ) → b < 0x80 → P.means pieces (b ∷ []) b }
     ensures read { result.0 ≤ 64 }
-    ensures some { IsTrue result.2 → 0 < result.0 }
-    ensures bound { result.1 ≤ at + 80 }
-    ensures len { length buffer.new ≡ length buffer.old }
-    ensures gathers { GathersChars encode_utf8 (P.means pieces) src.now result.0
-        (take at buffer.old) (take result.1 buffer.new) }
+    ensures some { IsTrue result.1 → 0 < result.0 }
+    ensures puts { PutsPieces encode_utf8 (P.means pieces)
+        (buffer_output out.old.len out.old.units)
+        (buffer_output out.new.len out.new.units) src.now result.0 }
 {
     let ascii = ascii_from(lanes, 0, 62);
-    let (first, end, is_whole) = store_hop(pieces, buffer, at, src, ascii);
+    let (first, is_whole) = store_hop(out, pieces, src, ascii);
     if !is_whole {
-        return (first, end, false);
+        return (first, false);
     }
     let ascii = ascii_from(lanes, first, 63 - first);
     let (_, rest) = src.split_at(first);
-    let (second, end, is_whole) = store_hop(pieces, buffer, end, rest, ascii);
-    (first + second, end, is_whole)
+    let (second, is_whole) = store_hop(out, pieces, rest, ascii);
+    (first + second, is_whole)
 }
 
-/// Stores the UTF-8 of at most 64 bytes of `src` from `from` on after the first `at` bytes of a
-/// buffer.
+/// Stores the UTF-8 of at most 64 bytes of `src`.
 ///
 /// It hops from one byte that is not ASCII to the next, or goes byte by byte if many are not.
 /// Returns the same as `store_hop`.
 #[inline(always)]
 fn store_turn<P: BytePieces>(
+    out: &mut Buffer<'_, u8>,
     pieces: P,
-    buffer: &mut [u8],
-    at: usize,
     src: &[u8],
     from: usize,
-) -> (usize, usize, bool)
+) -> (usize, bool)
     requires from { from + 128 ≤ length src.now }
-    requires room { at + 144 ≤ length buffer.old }
-    ensures read { result.0 ≤ 64 }
-    ensures some { IsTrue result.2 → 0 < result.0 }
-    ensures bound { result.1 ≤ at + 80 }
-    ensures len { length buffer.new ≡ length buffer.old }
-    ensures gathers { GathersChars encode_utf8 (P.means pieces) (drop from src.now) result.0
-        (take at buffer.old) (take result.1 buffer.new) }
+    requires room { 144 ≤ room_in out.old.len out.old.units }
+    ensures some { IsTrue result.1 → 0 < result.0 }
+    ensures puts { PutsPieces encode_utf8 (P.means pieces)
+        (buffer_output out.old.len out.old.units)
+        (buffer_output out.new.len out.new.units) (drop from src.now) result.0 }
 {
     let (_, rest) = src.split_at(from);
     let lanes = u8x64::from_slice(rest);
     if !pieces.has_ascii() || are_dense(lanes) {
-        let (read, end) = store_bytes(pieces, buffer, at, src, from);
-        return (read, end, read == STEP);
+        let read = store_bytes(out, pieces, src, from);
+        return (read, read == STEP);
     }
-    store_hops(pieces, buffer, at, rest, lanes)
+    store_hops(out, pieces, rest, lanes)
 }
 
-/// Stores the code units of sixteen bytes of `src` from `from` on, after the first `at` code units
-/// of a buffer. It stops at a byte that has none. Returns their number.
+/// Stores the code units of sixteen bytes. It stops at a byte that has none. Returns their number.
 #[inline(always)]
 fn store_units_step<P: BytePieces>(
+    out: &mut Buffer<'_, u16>,
     pieces: P,
-    buffer: &mut [u16],
-    at: usize,
     src: &[u8],
     from: usize,
 ) -> usize
     requires from { from + 16 ≤ length src.now }
-    requires room { at + 16 ≤ length buffer.old }
+    requires room { 16 ≤ room_in out.old.len out.old.units }
     ensures bound { result ≤ 16 }
-    ensures len { length buffer.new ≡ length buffer.old }
-    ensures gathers { GathersChars encode_utf16 (P.means pieces) (drop from src.now) result
-        (take at buffer.old) (take (at + result) buffer.new) }
+    ensures puts { PutsPieces encode_utf16 (P.means pieces)
+        (buffer_output out.old.len out.old.units)
+        (buffer_output out.new.len out.new.units) (drop from src.now) result }
 {
     let mut read = 0;
     while read < STEP {
@@ -191,7 +173,7 @@ fn store_units_step<P: BytePieces>(
         if unit == 0 {
             break;
         }
-        buffer[at + read] = unit;
+        out.store_unit(unit);
         read += 1;
     }
     read
@@ -217,6 +199,8 @@ pub struct SingleBytes<P> {
 }
 
 impl<P: BytePieces> Gather for SingleBytes<P> {
+    const MORE: usize = LANES;
+
     ghost means = { λ r. P.means r.pieces };
 
     fn has_ascii(self) -> bool {
@@ -231,52 +215,47 @@ impl<P: BytePieces> Gather for SingleBytes<P> {
     /// Stops at a byte that is no character, and 80 bytes before the end of the room or 16 before
     /// that of `src`. In the last 128 bytes it takes sixteen at a time.
     #[inline(always)]
-    fn gather(self, buffer: &mut [u8], room: usize, src: &[u8]) -> (usize, usize) {
+    fn gather(self, out: &mut Buffer<'_, u8>, src: &[u8]) -> usize {
         let pieces = self.pieces;
-        let limit = buffer.len().saturating_sub(LANES).min(room);
-        if limit < TURN {
-            return (0, 0);
+        if out.capacity() < TURN {
+            return 0;
         }
-        let most = limit - TURN;
+        let most = out.capacity() - TURN;
         let mut read = 0;
-        let mut written = 0;
-        while written <= most && 2 * LANES <= src.len() - read {
-            let (more, end, is_whole) = store_turn(pieces, buffer, written, src, read);
+        while out.len() <= most && 2 * LANES <= src.len() - read {
+            let (more, is_whole) = store_turn(out, pieces, src, read);
             read += more;
-            written = end;
             if !is_whole {
-                return (read, written);
+                return read;
             }
         }
-        while written <= most && STEP <= src.len() - read {
-            let (more, end) = store_bytes(pieces, buffer, written, src, read);
+        while out.len() <= most && STEP <= src.len() - read {
+            let more = store_bytes(out, pieces, src, read);
             read += more;
-            written = end;
             if more < STEP {
                 break;
             }
         }
-        (read, written)
+        read
     }
 
     /// Stops at a byte that has no code unit, and 16 before the end of the room or that of `src`.
     #[inline(always)]
-    fn gather_units(self, buffer: &mut [u16], room: usize, src: &[u8]) -> (usize, usize) {
+    fn gather_units(self, out: &mut Buffer<'_, u16>, src: &[u8]) -> usize {
         let pieces = self.pieces;
-        let limit = buffer.len().min(room);
-        if limit < STEP {
-            return (0, 0);
+        if out.capacity() < STEP {
+            return 0;
         }
-        let most = limit - STEP;
-        let mut count = 0;
-        while count <= most && STEP <= src.len() - count {
-            let more = store_units_step(pieces, buffer, count, src, count);
-            count += more;
+        let most = out.capacity() - STEP;
+        let mut read = 0;
+        while STEP <= src.len() - read && out.len() <= most {
+            let more = store_units_step(out, pieces, src, read);
+            read += more;
             if more < STEP {
                 break;
             }
         }
-        (count, count)
+        read
     }
 }
 

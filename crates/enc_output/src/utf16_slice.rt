@@ -9,6 +9,7 @@ ghost use Rattle.enc_output.specs.Output.{with_appended, borrowed_output};
 ghost use Rattle.enc_output.specs.PieceRuns.{PutsPieces};
 ghost use Rattle.enc_utf8.specs.Pieces.{IsUtf8Char};
 
+use crate::buffer::{Buffer, UnitBuffer};
 use crate::gather::{Gather, SHORT, UNITS_BUFFER};
 use crate::laws::utf_16_units_determine_a_text;
 use crate::pieces::Pieces;
@@ -86,11 +87,15 @@ impl<'a> Utf16Slice<'a> {
             let (_, rest) = src.split_at(at);
             at += append_ascii_of(self, by, rest);
             let (_, unread) = src.split_at(at);
-            let (read, written) = by.gather_units(buffer, self.dst.len() - self.len, unread);
+            let most = buffer.len().min(self.dst.len() - self.len);
+            let front = &mut buffer[..most];
+            let mut gathered = Buffer::new(front);
+            let read = by.gather_units(&mut gathered, unread);
             if read == 0 {
                 return at;
             }
-            if !self.append_units(&buffer[..written]) {
+            let written = gathered.len();
+            if !self.append_units(&front[..written]) {
                 return at;
             }
             at += read;

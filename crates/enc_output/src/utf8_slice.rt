@@ -8,6 +8,7 @@ ghost use Rattle.enc_output.specs.Output.{with_appended, borrowed_output};
 ghost use Rattle.enc_output.specs.PieceRuns.{PutsPieces};
 ghost use Rattle.enc_utf8.specs.Pieces.{IsUtf8Char};
 
+use crate::buffer::{Buffer, UnitBuffer};
 use crate::gather::{Gather, SHORT};
 use crate::laws::utf_8_units_determine_a_text;
 use crate::run::Run;
@@ -122,11 +123,16 @@ impl<'a> Utf8Slice<'a> {
         let mut at = 0;
         loop {
             let (_, unread) = src.split_at(at);
-            let (read, written) = by.gather(buffer, self.dst.len() - self.len, unread);
+            let room = (self.dst.len() - self.len).saturating_add(G::MORE);
+            let most = buffer.len().min(room);
+            let front = &mut buffer[..most];
+            let mut gathered = Buffer::new(front);
+            let read = by.gather(&mut gathered, unread);
             if read == 0 {
                 return at;
             }
-            if !self.append(&buffer[..written]) {
+            let written = gathered.len();
+            if !self.append(&front[..written]) {
                 return at;
             }
             at += read;

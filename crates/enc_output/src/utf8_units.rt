@@ -1,11 +1,8 @@
 //! Well-formed UTF-8 as UTF-16, sixteen bytes at a time, with no branch on whether characters have
 //! one, two or three bytes.
 
-ghost use Rattle.std.specs.Prelude.{◌≡◌, ℕ, ◌+◌, ◌-◌, ◌/◌, ◌%◌, ◌^◌, ◌<◌, ◌≤◌, ◌++◌, [], length, take, drop};
+ghost use Rattle.std.specs.Prelude.{◌≡◌, ℕ, ◌+◌, ◌-◌, ◌/◌, ◌%◌, ◌^◌, ◌<◌, ◌≤◌, ◌++◌, length, take, drop};
 ghost use Rattle.std.specs.Prelude.{slice_index, IsTrue, if◌then◌else◌};
-ghost use Rattle.std.specs.Char.Escape.{encode_utf16};
-ghost use Rattle.enc_output.specs.Gathering.{GathersChars};
-ghost use Rattle.enc_utf8.specs.Pieces.{IsUtf8Char};
 ghost use Rattle.enc_output.specs.Utf8Units.{gives_unit, code_unit_of_byte, byte_two_before, units_from};
 ghost use Rattle.enc_output.specs.Utf8Units.{marked_code_units};
 ghost use Rattle.enc_utf8.specs.Validity.{IsWellFormedUtf8};
@@ -262,7 +259,7 @@ pub(crate) fn write_units(dst: &mut [u16], src: &[u8], len: usize) -> usize
     ensures bound { result ≤ length dst.old }
     ensures len { length dst.new ≡ length dst.old }
     ensures rest { drop result dst.new ≡ drop result dst.old }
-    ensures gathers { GathersChars encode_utf16 IsUtf8Char src.now len [] (take result dst.new) }
+    ensures written { take result dst.new ≡ units_from src.now 0 len }
 {
     let (mut read, mut written) = write_front(dst, src, len);
     let mut buffer = [0; BUFFER];

@@ -1,17 +1,12 @@
-use Rattle.std.proofs.Common.{subst, arith, drop}
-use Rattle.std.proofs.lemmas.List.{take-take}
+use Rattle.std.proofs.Common.{arith, refl}
 use Rattle.enc_utf8.proofs.LengthLemmas.{lengths}
-use Rattle.enc_utf8.specs.Pieces.{AreWrittenAsThemselves}
-use Rattle.enc_utf8.proofs.PutLemmas.{stored_slice}
+use Rattle.enc_utf8.proofs.UnitsLemmas.{ascii_units}
+use Rattle.enc_output.proofs.PiecesLemmas.{kept_pieces, puts_wider}
 use Rattle.enc_output.proofs.gather.store_own.Goals as goal
 
-pub returns-clause-own : goal.returns-clause-own
-returns-clause-own g c =
-    let own = c.own_len.ensures in
-    subst (AreWrittenAsThemselves (g.P.Pieces.means c.args.pieces)) (take-take _ 16 _ own.bound)
-    own.own
-
-pub returns-clause-stored : goal.returns-clause-stored
-returns-clause-stored g c =
-    stored_slice c.args.at _ 16 c.args.buffer.now (drop c.args.from c.args.src.now)
-    (omega (arith, lengths)) (omega arith) c.own_len.ensures.bound
+pub returns-clause-puts : goal.returns-clause-puts
+returns-clause-puts g c =
+    let own = c.own_len-own.ensures in
+    puts_wider 16 refl
+    (kept_pieces ascii_units (omega (arith, lengths, own.bound)) own.own
+    (omega (arith, own.bound, c.requires.room)) c.store_front.ensures.stored)

@@ -1,7 +1,7 @@
 use Rattle.std.proofs.Common.{arith, subst, take, sym}
 use Rattle.enc_utf8.specs.Validity.{AreAscii}
 use Rattle.enc_utf8.proofs.AsciiMaskLemmas.{ascii_loaded}
-use Rattle.enc_output.proofs.GatherLemmas.{gathers_then}
+use Rattle.enc_output.proofs.PiecesLemmas.{then_rest}
 use Rattle.enc_output.proofs.single_bytes.store_hops.Goals as goal
 
 pub store_hop-first-requires-clause-are_ascii : goal.store_hop-first-requires-clause-are_ascii
@@ -20,7 +20,6 @@ store_hop-second-requires-clause-are_ascii g c =
     (omega (arith, are_ascii.bound, first_hop.read, c.ascii_from-ascii.ensures.bound))
     are_ascii.ascii)
 
-pub returns-clause-gathers : goal.returns-clause-gathers
-returns-clause-gathers g c =
-    gathers_then c.store_hop-first.ensures.gathers
-    (rw c.split_at.ensures.back at c.store_hop-second.ensures.gathers)
+pub returns-clause-puts : goal.returns-clause-puts
+returns-clause-puts g c =
+    then_rest c.split_at.ensures.back c.store_hop-first.ensures.puts c.store_hop-second.ensures.puts

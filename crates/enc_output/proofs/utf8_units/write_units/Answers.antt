@@ -4,16 +4,13 @@ use Rattle.enc_output.specs.Utf8Units.{units_from}
 use Rattle.enc_utf8.proofs.LengthLemmas.{lengths}
 use Rattle.enc_utf8.proofs.PutLemmas.{put_length, put_front, put_rest, put_part}
 use Rattle.enc_output.proofs.UnitsWrittenLemmas.{written_further}
-use Rattle.enc_output.proofs.Utf8TextLemmas.{gathers_units}
 use Rattle.enc_output.proofs.Utf8UnitsLemmas.{units_further, units_parts}
 use Rattle.enc_output.proofs.utf8_units.write_units.Goals as goal
 
-pub returns-clause-gathers : goal.returns-clause-gathers
-returns-clause-gathers c =
-    let written = c.loop-read.invariant.1 in
+pub returns-clause-written : goal.returns-clause-written
+returns-clause-written c =
     let all : c.loop-read.read ≡ c.args.len = omega arith in
-    gathers_units c.args.src.now c.args.len _ (omega arith) c.requires.utf8
-    (written.front ∙ ap (units_from c.args.src.now 0) all)
+    c.loop-read.invariant.1.front ∙ ap (units_from c.args.src.now 0) all
 
 pub loop-read-preserved : goal.loop-read-preserved
 loop-read-preserved c =
