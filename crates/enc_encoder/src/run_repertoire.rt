@@ -19,16 +19,12 @@ pub trait RunRepertoire: LawfulRepertoire {
     ///
     /// Returns the number of bytes written. The run need not be maximal.
     #[inline(always)]
-    fn write_run<C: Chars>(
-        encoder: StatelessEncoder<Self>,
-        src: &mut C,
-        dst: &mut [u8],
-        from: usize,
-    ) -> usize
+    fn write_run<C: Chars>(self, src: &mut C, dst: &mut [u8], from: usize) -> usize
         requires room { from ≤ length dst.old }
-        ensures { WritesMapped (IsWrittenIn (stateless_rule (Self.bytes_for encoder.repertoire))
-            Ascii) (C.rest src.old) (C.rest src.new) dst.old dst.new from result }
+        ensures { WritesMapped (IsWrittenIn (stateless_rule (Self.bytes_for self)) Ascii)
+            (C.rest src.old) (C.rest src.new) dst.old dst.new from result }
     {
+        let encoder = StatelessEncoder { repertoire: self };
         src.write_mapped(encoder, ByCharacter, dst, from)
     }
 }

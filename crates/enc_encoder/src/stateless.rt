@@ -39,7 +39,8 @@ pub trait Repertoire: Copy {
 /// The encoder of an encoding without escape sequences. It keeps nothing between two calls.
 #[derive(Clone, Copy)]
 pub struct StatelessEncoder<R> {
-    repertoire: R,
+    /// The encoding.
+    pub repertoire: R,
 }
 
 impl<R: Repertoire> StatelessEncoder<R> {
@@ -102,7 +103,7 @@ impl<R: RunRepertoire> CharEncoder for StatelessEncoder<R> {
 
     #[inline(always)]
     fn write_run<C: Chars>(self, src: &mut C, dst: &mut [u8], from: usize) -> usize {
-        R::write_run(self, src, dst, from)
+        self.repertoire.write_run(src, dst, from)
     }
 
     #[inline(always)]

@@ -16,7 +16,6 @@ pub trait Turns<M: Mapping>: Copy {
     /// Returns the numbers of bytes read and written, and whether the run goes on.
     #[inline(always)]
     fn put_utf8(
-        self,
         mapping: M,
         done: usize,
         src: &[u8],
@@ -31,7 +30,6 @@ pub trait Turns<M: Mapping>: Copy {
         ensures writes { WritesFront chars IsUtf8 (M.means mapping) src.now dst.old dst.new at
             result.0 result.1 }
     {
-        let _turns = self;
         let _done = done;
         if src[0] >= 0x80 {
             let (width, count) = utf8_mapped::put_beyond(mapping, src, dst, at);
@@ -46,14 +44,13 @@ pub trait Turns<M: Mapping>: Copy {
     ///
     /// Returns the numbers of code units read and of bytes written, and whether the run goes on.
     #[inline(always)]
-    fn put_utf16(self, mapping: M, src: &[u16], dst: &mut [u8], at: usize) -> (usize, usize, bool)
+    fn put_utf16(mapping: M, src: &[u16], dst: &mut [u8], at: usize) -> (usize, usize, bool)
         requires sixteen { 16 ≤ length src.now }
         requires room { at + 19 ≤ length dst.old }
         ensures some { IsTrue result.2 → 0 < result.0 }
         ensures writes { WritesFront utf16_lossy_chars AreAnyUnits (M.means mapping) src.now dst.old
             dst.new at result.0 result.1 }
     {
-        let _turns = self;
         if src[0] >= 0x80 {
             let (width, count) = utf16_mapped::put_beyond(mapping, src, dst, at);
             return (width, count, width > 0);

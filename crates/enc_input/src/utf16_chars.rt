@@ -116,11 +116,11 @@ impl<'a> Chars for Utf16Chars<'a> {
     fn write_mapped<M: Mapping, W: Way<M>>(
         &mut self,
         mapping: M,
-        way: W,
+        _way: W,
         dst: &mut [u8],
         from: usize,
     ) -> usize {
-        let (read, written) = write_utf16(mapping, way, self.units, dst, from);
+        let (read, written) = write_utf16::<M, W>(mapping, self.units, dst, from);
         self.units = &self.units[read..];
         written
     }

@@ -198,7 +198,6 @@ pub(crate) fn put_strides<M: Mapping>(mapping: M, src: &[u16], dst: &mut [u8], a
 #[inline(never)]
 pub(crate) fn write_utf16<M: Mapping, T: Turns<M>>(
     mapping: M,
-    turns: T,
     src: &[u16],
     dst: &mut [u8],
     from: usize,
@@ -213,7 +212,7 @@ pub(crate) fn write_utf16<M: Mapping, T: Turns<M>>(
     let last_sixteen = src.len().saturating_sub(15);
     let last_room = dst.len().saturating_sub(14 + MOST_BYTES);
     'sixteens: while read < last_sixteen && at < last_room {
-        let (len, count, goes_on) = turns.put_utf16(mapping, &src[read..], dst, at);
+        let (len, count, goes_on) = T::put_utf16(mapping, &src[read..], dst, at);
         read += len;
         at += count;
         if !goes_on {

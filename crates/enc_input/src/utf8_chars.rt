@@ -62,11 +62,11 @@ impl<'a> Chars for Utf8Chars<'a> {
     fn write_mapped<M: Mapping, W: Way<M>>(
         &mut self,
         mapping: M,
-        way: W,
+        _way: W,
         dst: &mut [u8],
         from: usize,
     ) -> usize {
-        let (read, written) = way.write_text(mapping, self.text, dst, from);
+        let (read, written) = W::write_text(mapping, self.text, dst, from);
         self.text = unsafe { str::from_utf8_unchecked(&self.text.as_bytes()[read..]) };
         written
     }

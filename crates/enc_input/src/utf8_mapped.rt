@@ -151,7 +151,6 @@ fn put_strides<M: Mapping>(mapping: M, src: &[u8], dst: &mut [u8], at: usize) ->
 #[inline(never)]
 pub(crate) fn write_utf8<M: Mapping, T: Turns<M>>(
     mapping: M,
-    turns: T,
     src: &[u8],
     dst: &mut [u8],
     from: usize,
@@ -166,7 +165,7 @@ pub(crate) fn write_utf8<M: Mapping, T: Turns<M>>(
     let last_sixteen = src.len().saturating_sub(15);
     let last_room = dst.len().saturating_sub(15);
     'sixteens: while read < last_sixteen && at < last_room {
-        let (len, count, goes_on) = turns.put_utf8(mapping, read, &src[read..], dst, at);
+        let (len, count, goes_on) = T::put_utf8(mapping, read, &src[read..], dst, at);
         if !goes_on {
             return (read + len, at + count - from);
         }

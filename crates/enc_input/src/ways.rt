@@ -17,12 +17,12 @@ pub trait Way<M: Mapping>: Turns<M> {
     ///
     /// Returns the numbers of bytes read and written. The run need not be maximal.
     #[inline(always)]
-    fn write_text(self, mapping: M, text: &str, dst: &mut [u8], from: usize) -> (usize, usize)
+    fn write_text(mapping: M, text: &str, dst: &mut [u8], from: usize) -> (usize, usize)
         requires room { from ≤ length dst.old }
         ensures { WritesFront chars IsUtf8 (M.means mapping) text.now dst.old dst.new from result.0
             result.1 }
     {
-        write_utf8(mapping, self, text.as_bytes(), dst, from)
+        write_utf8::<M, Self>(mapping, text.as_bytes(), dst, from)
     }
 }
 
@@ -46,14 +46,13 @@ impl<M: UnitBytes> Turns<M> for ByUnit {
     /// Goes on by lanes after the first sixteen bytes of a run.
     #[inline(always)]
     fn put_utf8(
-        self,
         mapping: M,
         done: usize,
         src: &[u8],
         dst: &mut [u8],
         at: usize,
     ) -> (usize, usize, bool) {
-        let (len, count, goes_on) = ByCharacter.put_utf8(mapping, done, src, dst, at);
+        let (len, count, goes_on) = ByCharacter::put_utf8(mapping, done, src, dst, at);
         if !goes_on {
             return (len, count, false);
         }
@@ -63,7 +62,7 @@ impl<M: UnitBytes> Turns<M> for ByUnit {
 
     /// Writes sixteen code units that have a byte, or those in front and the character after them.
     #[inline(always)]
-    fn put_utf16(self, mapping: M, src: &[u16], dst: &mut [u8], at: usize) -> (usize, usize, bool) {
+    fn put_utf16(mapping: M, src: &[u16], dst: &mut [u8], at: usize) -> (usize, usize, bool) {
         let len = put_units(mapping, src, dst, at);
         if len == 16 {
             let more = put_strides(mapping, &src[len..], dst, at + len);
@@ -79,8 +78,8 @@ impl<M: UnitBytes> Way<M> for ByUnit {}
 impl<M: Utf8Bytes> Turns<M> for Copied {
     /// Goes on through a buffer after the first turn, where that pays.
     #[inline(always)]
-    fn put_utf16(self, mapping: M, src: &[u16], dst: &mut [u8], at: usize) -> (usize, usize, bool) {
-        let (len, count, goes_on) = ByCharacter.put_utf16(mapping, src, dst, at);
+    fn put_utf16(mapping: M, src: &[u16], dst: &mut [u8], at: usize) -> (usize, usize, bool) {
+        let (len, count, goes_on) = ByCharacter::put_utf16(mapping, src, dst, at);
         if !goes_on {
             return (len, count, false);
         }
@@ -92,7 +91,7 @@ impl<M: Utf8Bytes> Turns<M> for Copied {
 impl<M: Utf8Bytes> Way<M> for Copied {
     /// Copies whole characters, as many as fit.
     #[inline(always)]
-    fn write_text(self, mapping: M, text: &str, dst: &mut [u8], from: usize) -> (usize, usize) {
+    fn write_text(mapping: M, text: &str, dst: &mut [u8], from: usize) -> (usize, usize) {
         mapping.laws();
         let len = text.floor_char_boundary(dst.len() - from);
         dst[from..from + len].copy_from_slice(&text.as_bytes()[..len]);

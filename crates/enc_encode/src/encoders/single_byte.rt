@@ -60,12 +60,8 @@ impl UnitRepertoire for SingleByte {
 
 impl RunRepertoire for SingleByte {
     #[inline(always)]
-    fn write_run<C: Chars>(
-        encoder: StatelessEncoder<Self>,
-        src: &mut C,
-        dst: &mut [u8],
-        from: usize,
-    ) -> usize {
+    fn write_run<C: Chars>(self, src: &mut C, dst: &mut [u8], from: usize) -> usize {
+        let encoder = StatelessEncoder { repertoire: self };
         src.write_mapped(encoder, ByUnit, dst, from)
     }
 }

@@ -51,12 +51,8 @@ impl Utf8Repertoire for Utf8 {
 
 impl RunRepertoire for Utf8 {
     #[inline(always)]
-    fn write_run<C: Chars>(
-        encoder: StatelessEncoder<Self>,
-        src: &mut C,
-        dst: &mut [u8],
-        from: usize,
-    ) -> usize {
+    fn write_run<C: Chars>(self, src: &mut C, dst: &mut [u8], from: usize) -> usize {
+        let encoder = StatelessEncoder { repertoire: self };
         src.write_mapped(encoder, Copied, dst, from)
     }
 }
