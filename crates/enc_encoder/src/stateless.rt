@@ -1,7 +1,6 @@
 //! Encoders of encodings without escape sequences.
 
-ghost use Rattle.std.specs.Prelude.{◌≡◌, ◌<◌, ◌≤◌, ℕ, Option, Some, List, [], ◌∷◌, IsTrue};
-ghost use Rattle.std.specs.Char.{encode_utf8};
+ghost use Rattle.std.specs.Prelude.{◌≡◌, ◌≤◌, ℕ, Option, List};
 ghost use Rattle.enc_encoder.specs.CharLaw.{AreBytesOf};
 ghost use Rattle.enc_encoder.specs.declared.byte_lengths.ByteLengths.{ByteLengths};
 
@@ -14,7 +13,8 @@ use crate::machine::run;
 use crate::made_bytes::one;
 use crate::outcome::EncoderOutcome;
 use crate::raw_encoder::RawEncoder;
-use enc_input::{Bytes, Chars, Mapping};
+use crate::run_repertoire::{RunRepertoire, UnitRepertoire, Utf8Repertoire};
+use enc_input::{Bytes, Chars, Mapping, UnitBytes, Utf8Bytes};
 use enc_utf8::ascii_in;
 use std::simd::prelude::*;
 
@@ -31,36 +31,6 @@ pub trait Repertoire: Copy {
         requires beyond_ascii { 0x80 ≤ c }
         ensures { AreBytesOf (bytes_for self c) result };
 
-    /// Returns whether every character is written as its UTF-8, or false, as it does by default.
-    #[inline(always)]
-    fn is_utf8(self) -> bool
-        ensures { IsTrue result → (c : ℕ) → bytes_for self c ≡ Some (encode_utf8 c) }
-    {
-        let _repertoire = self;
-        false
-    }
-
-    /// Returns whether [`Repertoire::unit_byte`] has most characters of most texts, or false, as it
-    /// does by default.
-    #[inline(always)]
-    fn has_unit_bytes(self) -> bool {
-        let _repertoire = self;
-        false
-    }
-
-    /// Returns the byte of a character below U+0800, ASCII included, if its bytes are that one
-    /// byte, or 0, as it does by default. U+07FF has none.
-    #[inline(always)]
-    fn unit_byte(self, unit: u16) -> u8
-        requires bound { unit < 0x800 }
-        ensures bytes { 0 < result → bytes_for self unit ≡ Some (result ∷ []) }
-        ensures last { unit ≡ 0x7FF → result ≡ 0 }
-    {
-        let _repertoire = self;
-        let _unit = unit;
-        0
-    }
-
     /// Returns the formulas for the lengths to allocate.
     fn byte_lengths(self) -> ByteLengths
         ensures { result ≡ lengths self };
@@ -69,7 +39,8 @@ pub trait Repertoire: Copy {
 /// The encoder of an encoding without escape sequences. It keeps nothing between two calls.
 #[derive(Clone, Copy)]
 pub struct StatelessEncoder<R> {
-    repertoire: R,
+    /// The encoding.
+    pub repertoire: R,
 }
 
 impl<R: Repertoire> StatelessEncoder<R> {
@@ -110,31 +81,29 @@ impl<R: LawfulRepertoire> Mapping for StatelessEncoder<R> {
         self.repertoire.laws();
         true
     }
+}
 
-    #[inline(always)]
-    fn is_utf8(self) -> bool {
-        self.repertoire.is_utf8()
-    }
-
-    #[inline(always)]
-    fn has_unit_bytes(self) -> bool {
-        self.repertoire.has_unit_bytes()
-    }
-
+impl<R: UnitRepertoire> UnitBytes for StatelessEncoder<R> {
     #[inline(always)]
     fn unit_byte(self, unit: u16) -> u8 {
         self.repertoire.unit_byte(unit)
     }
 }
 
-impl<R: LawfulRepertoire> CharEncoder for StatelessEncoder<R> {
+impl<R: Utf8Repertoire> Utf8Bytes for StatelessEncoder<R> {
+    fn laws(self) {
+        self.repertoire.is_utf8();
+    }
+}
+
+impl<R: RunRepertoire> CharEncoder for StatelessEncoder<R> {
     ghost use Rattle.enc_encoder.specs.Stateless.{stateless_state};
 
     ghost state = { λ e. stateless_state (R.bytes_for e.repertoire) };
 
     #[inline(always)]
     fn write_run<C: Chars>(self, src: &mut C, dst: &mut [u8], from: usize) -> usize {
-        src.write_mapped(self, dst, from)
+        self.repertoire.write_run(src, dst, from)
     }
 
     #[inline(always)]
@@ -163,7 +132,7 @@ impl<R: LawfulRepertoire> CharEncoder for StatelessEncoder<R> {
     }
 }
 
-impl<R: LawfulRepertoire> RawEncoder for StatelessEncoder<Barring<R>> {
+impl<R: RunRepertoire> RawEncoder for StatelessEncoder<Barring<R>> {
     ghost use Rattle.enc_encoder.specs.Stateless.{stateless_state};
     ghost use Rattle.enc_encoder.specs.Barring.{bytes_unless_barred};
 

@@ -4,12 +4,12 @@ use Rattle.std.proofs.Common.{take, drop, refl, ap, ◌∙◌, sym, subst, arith
 use Rattle.std.proofs.lemmas.Bool.{and_parts, cases_lt}
 use Rattle.std.proofs.lemmas.Bool.Decides.{nat_tests}
 use Rattle.std.proofs.lemmas.List.{get_or-drop}
-use Rattle.std.proofs.lemmas.Str.{chars_past_char, IsUtf8-past_char, encode_ascii, IsUtf8-take}
+use Rattle.std.proofs.lemmas.Str.{chars_past_char, IsUtf8-past_char, encode_ascii, IsUtf8-take, IsUtf8-drop}
 use Rattle.std.proofs.lemmas.Str.{scalars-chars, chars-append, encodes-chars}
 use Rattle.std.proofs.Math.Seq.{drop-append_seam}
 use Rattle.std.specs.Char.{IsScalar, encode_utf8}
 use Rattle.std.specs.Str.{all_scalars, encode_utf8_all, IsCharBoundary}
-use Rattle.enc_input.specs.Mappings.{IsFirstUtf8Char, AreWrittenAsUtf8, WritesMapped, WritesFront, WritesThemselves}
+use Rattle.enc_input.specs.Mappings.{IsFirstUtf8Char, AreWrittenAsUtf8, WritesFront, WritesThemselves}
 use Rattle.enc_input.specs.Utf8Bytes.{short_unit, lead_bit}
 use Rattle.enc_utf8.specs.Validity.{AreAscii}
 use Rattle.enc_utf8.proofs.AsciiLemmas.{one_ascii}
@@ -204,13 +204,18 @@ first_ascii (b ∷ bytes) utf8 some low =
     (one_ascii b low)
 
 -- whole characters in front are copied, where each is written as its UTF-8
-pub maps_copied : {Means : List ℕ → ℕ → Type 0} {text before after : List ℕ} {at n : ℕ}
+pub writes_copied : {Means : List ℕ → ℕ → Type 0} {text before after : List ℕ} {at n : ℕ}
     → AreWrittenAsUtf8 Means → IsUtf8 text → IsCharBoundary text n
     → Put at n before (take n text) after
-    → WritesMapped Means (chars text) (chars (drop n text)) before after at n
-maps_copied {text = text} {n = n} utf8 is_utf8 boundary put =
+    → WritesFront chars IsUtf8 Means text before after at n n
+writes_copied {text = text} {n = n} utf8 is_utf8 boundary put =
     let front = take n text in
     let front_is_utf8 = IsUtf8-take text n is_utf8 boundary in
-    maps_utf8 utf8 (chars front) (scalars-chars front front_is_utf8)
-    (ap chars (sym (take-append-drop n text)) ∙ chars-append front (drop n text) front_is_utf8)
-    (sym (their_units (chars front) ∙ encodes-chars front front_is_utf8)) put
+    record {
+      within = boundary.0;
+      rest = IsUtf8-drop text n is_utf8 boundary;
+      writes = maps_utf8 utf8 (chars front) (scalars-chars front front_is_utf8)
+          (ap chars (sym (take-append-drop n text))
+          ∙ chars-append front (drop n text) front_is_utf8)
+          (sym (their_units (chars front) ∙ encodes-chars front front_is_utf8)) put;
+    }

@@ -7,6 +7,7 @@ ghost use Rattle.enc_input.specs.Mappings.{WritesMapped};
 ghost use Rattle.enc_utf8.specs.Validity.{AreAscii};
 
 use crate::mapping::Mapping;
+use crate::ways::Way;
 
 /// An input of characters, each with its code units.
 pub trait Chars {
@@ -39,17 +40,25 @@ pub trait Chars {
         requires some { rest self.old ≢ [] }
         ensures { rest self.new ≡ drop 1 (rest self.old) };
 
-    /// Reads the first characters and writes their bytes to a slice, from `from` on.
+    /// Reads the first characters and writes their bytes to a slice, from `from` on, in a way of
+    /// the mapping.
     ///
     /// Returns the number of bytes written.
     ///
     /// The run need not be maximal: it may be empty, as it is by default.
-    fn write_mapped<M: Mapping>(&mut self, mapping: M, dst: &mut [u8], from: usize) -> usize
+    fn write_mapped<M: Mapping, W: Way<M>>(
+        &mut self,
+        mapping: M,
+        way: W,
+        dst: &mut [u8],
+        from: usize,
+    ) -> usize
         requires room { from ≤ length dst.old }
         ensures { WritesMapped (M.means mapping) (rest self.old) (rest self.new) dst.old dst.new
             from result }
     {
         let _mapping = mapping;
+        let _way = way;
         let _room = dst.len() - from;
         0
     }

@@ -29,45 +29,27 @@ pub trait Mapping: Copy {
         ensures bound { result ≤ 16 }
         ensures ascii { AreWrittenAsThemselves (means self) (take result lanes) };
 
-    /// Returns whether all of ASCII is written as itself, or false, as it does by default.
-    #[inline(always)]
+    /// Returns whether all of ASCII is written as itself, or false.
     fn keeps_ascii(self) -> bool
-        ensures { IsTrue result → KeepsAscii (means self) }
-    {
-        let _mapping = self;
-        false
-    }
+        ensures { IsTrue result → KeepsAscii (means self) };
+}
 
-    /// Returns whether every character is written as its UTF-8, or false, as it does by default.
-    #[inline(always)]
-    fn is_utf8(self) -> bool
-        ensures { IsTrue result → AreWrittenAsUtf8 (means self) }
-    {
-        let _mapping = self;
-        false
-    }
-
-    /// Returns whether [`Mapping::unit_byte`] has most characters of most texts, or false, as it
-    /// does by default.
-    #[inline(always)]
-    fn has_unit_bytes(self) -> bool {
-        let _mapping = self;
-        false
-    }
-
+/// The bytes that an encoder of single bytes writes.
+pub trait UnitBytes: Mapping {
     /// Returns the byte of a character below U+0800, ASCII included, if its bytes are that one
-    /// byte, or 0, as it does by default.
+    /// byte, or 0.
     ///
     /// U+07FF has none, so that it can stand for all characters from U+0800 on. Condition: the
     /// character is below U+0800.
-    #[inline(always)]
     fn unit_byte(self, unit: u16) -> u8
         requires bound { unit < 0x800 }
-        ensures means { 0 < result → means self (result ∷ []) unit }
-        ensures last { unit ≡ 0x7FF → result ≡ 0 }
-    {
-        let _mapping = self;
-        let _unit = unit;
-        0
-    }
+        ensures means { 0 < result → Self.means self (result ∷ []) unit }
+        ensures last { unit ≡ 0x7FF → result ≡ 0 };
+}
+
+/// The bytes that an encoder of UTF-8 writes.
+pub trait Utf8Bytes: Mapping {
+    /// Every character is written as its UTF-8. No call of it does anything.
+    fn laws(self)
+        ensures { AreWrittenAsUtf8 (Self.means self) };
 }

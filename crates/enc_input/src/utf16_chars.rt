@@ -10,6 +10,7 @@ ghost use Rattle.enc_utf8.specs.Surrogates.{lossy_unit_char, IsSurrogatePair, Is
 use crate::chars::Chars;
 use crate::mapping::Mapping;
 use crate::utf16_mapped::write_utf16;
+use crate::ways::Way;
 
 /// The characters of code units of UTF-16 (Unicode Standard 3.9, D91).
 ///
@@ -112,8 +113,14 @@ impl<'a> Chars for Utf16Chars<'a> {
         }
     }
 
-    fn write_mapped<M: Mapping>(&mut self, mapping: M, dst: &mut [u8], from: usize) -> usize {
-        let (read, written) = write_utf16(mapping, self.units, dst, from);
+    fn write_mapped<M: Mapping, W: Way<M>>(
+        &mut self,
+        mapping: M,
+        _way: W,
+        dst: &mut [u8],
+        from: usize,
+    ) -> usize {
+        let (read, written) = write_utf16::<M, W>(mapping, self.units, dst, from);
         self.units = &self.units[read..];
         written
     }

@@ -1,15 +1,15 @@
 //! Runs of mapped characters, read from UTF-16.
 
 ghost use Rattle.std.specs.Prelude.{◌≡◌, ◌+◌, ◌%◌, ◌<◌, ◌≤◌, ◌++◌, map, length, take, drop};
-ghost use Rattle.std.specs.Prelude.{min, slice_index, IsTrue};
+ghost use Rattle.std.specs.Prelude.{min, slice_index};
 ghost use Rattle.std.specs.Char.Utf16.{utf16_lossy_chars};
 ghost use Rattle.enc_input.specs.Mappings.{AreAnyUnits, WritesFront, WritesThemselves};
 ghost use Rattle.enc_utf8.specs.Validity.{AreAscii};
 
 use crate::mapped_bytes::{MOST_BYTES, put_bytes, put_lanes};
-use crate::mapping::Mapping;
+use crate::mapping::{Mapping, UnitBytes};
+use crate::turns::Turns;
 use crate::utf16_chars::first;
-use crate::utf16_text::put_text;
 use std::simd::prelude::*;
 
 /// Returns how many of sixteen code units come before the first that is not ASCII.
@@ -60,7 +60,7 @@ fn copy_sixteens(src: &[u16], dst: &mut [u8], most: usize) -> usize
 ///
 /// Returns the number of bytes. It is 0 if the first is written otherwise.
 #[inline(always)]
-fn put_ascii<M: Mapping>(mapping: M, src: &[u16], dst: &mut [u8], at: usize) -> usize
+pub(crate) fn put_ascii<M: Mapping>(mapping: M, src: &[u16], dst: &mut [u8], at: usize) -> usize
     requires sixteen { 16 ≤ length src.now }
     requires room { at + 16 ≤ length dst.old }
     ensures { WritesThemselves (M.means mapping) src.now dst.old dst.new at result }
@@ -86,9 +86,9 @@ pub(crate) fn clamped(units: Simd<u16, 16>) -> [u16; 16]
 }
 
 /// Writes the bytes of the first of sixteen code units, up to one that has none by
-/// [`Mapping::unit_byte`]. Returns their number.
+/// [`UnitBytes::unit_byte`]. Returns their number.
 #[inline(always)]
-fn put_units<M: Mapping>(mapping: M, src: &[u16], dst: &mut [u8], at: usize) -> usize
+pub(crate) fn put_units<M: UnitBytes>(mapping: M, src: &[u16], dst: &mut [u8], at: usize) -> usize
     requires sixteen { 16 ≤ length src.now }
     requires room { at + 16 ≤ length dst.old }
     ensures bound { result ≤ 16 }
@@ -130,7 +130,12 @@ fn put_own<M: Mapping>(mapping: M, src: &[u16], dst: &mut [u8], at: usize) -> us
 /// Returns the numbers of code units read and of bytes written, which are 0 if the character ends a
 /// run.
 #[inline(always)]
-fn put_beyond<M: Mapping>(mapping: M, src: &[u16], dst: &mut [u8], at: usize) -> (usize, usize)
+pub(crate) fn put_beyond<M: Mapping>(
+    mapping: M,
+    src: &[u16],
+    dst: &mut [u8],
+    at: usize,
+) -> (usize, usize)
     requires beyond { 0x80 ≤ slice_index src.now 0 }
     requires room { at + 4 ≤ length dst.old }
     ensures { WritesFront utf16_lossy_chars AreAnyUnits (M.means mapping) src.now dst.old dst.new at
@@ -150,7 +155,12 @@ fn put_beyond<M: Mapping>(mapping: M, src: &[u16], dst: &mut [u8], at: usize) ->
 /// Returns the numbers of code units read and of bytes written, which are 0 if the character ends a
 /// run.
 #[inline(always)]
-fn put_char<M: Mapping>(mapping: M, src: &[u16], dst: &mut [u8], at: usize) -> (usize, usize)
+pub(crate) fn put_char<M: Mapping>(
+    mapping: M,
+    src: &[u16],
+    dst: &mut [u8],
+    at: usize,
+) -> (usize, usize)
     requires some { 1 ≤ length src.now }
     requires room { at + 4 ≤ length dst.old }
     ensures { WritesFront utf16_lossy_chars AreAnyUnits (M.means mapping) src.now dst.old dst.new at
@@ -167,7 +177,7 @@ fn put_char<M: Mapping>(mapping: M, src: &[u16], dst: &mut [u8], at: usize) -> (
 ///
 /// Returns the number of bytes.
 #[inline(always)]
-fn put_strides<M: Mapping>(mapping: M, src: &[u16], dst: &mut [u8], at: usize) -> usize
+pub(crate) fn put_strides<M: Mapping>(mapping: M, src: &[u16], dst: &mut [u8], at: usize) -> usize
     requires room { at ≤ length dst.old }
     ensures { WritesThemselves (M.means mapping) src.now dst.old dst.new at result }
 {
@@ -182,64 +192,11 @@ fn put_strides<M: Mapping>(mapping: M, src: &[u16], dst: &mut [u8], at: usize) -
     copy_sixteens(src, &mut dst[at..], most)
 }
 
-/// Writes the bytes of sixteen code units by [`Mapping::unit_byte`], and long ASCII after them, or
-/// the bytes of fewer in front and of the character after them.
-///
-/// Returns the numbers of code units read and of bytes written, and whether the run goes on.
-#[inline(always)]
-fn put_looked_up<M: Mapping>(
-    mapping: M,
-    src: &[u16],
-    dst: &mut [u8],
-    at: usize,
-) -> (usize, usize, bool)
-    requires sixteen { 16 ≤ length src.now }
-    requires room { at + 19 ≤ length dst.old }
-    ensures some { IsTrue result.2 → 0 < result.0 }
-    ensures writes { WritesFront utf16_lossy_chars AreAnyUnits (M.means mapping) src.now dst.old
-        dst.new at result.0 result.1 }
-{
-    let len = put_units(mapping, src, dst, at);
-    if len == 16 {
-        let more = put_strides(mapping, &src[len..], dst, at + len);
-        return (len + more, len + more, true);
-    }
-    let (width, count) = put_char(mapping, &src[len..], dst, at + len);
-    (len + width, len + count, width > 0)
-}
-
-/// Writes the ASCII in front that is written as itself, of sixteen code units, and long ASCII after
-/// them, or the bytes of the first character, if it is beyond ASCII.
-///
-/// Returns the same as [`put_looked_up`].
-#[inline(always)]
-fn put_turn<M: Mapping>(mapping: M, src: &[u16], dst: &mut [u8], at: usize) -> (usize, usize, bool)
-    requires sixteen { 16 ≤ length src.now }
-    requires room { at + 19 ≤ length dst.old }
-    ensures some { IsTrue result.2 → 0 < result.0 }
-    ensures writes { WritesFront utf16_lossy_chars AreAnyUnits (M.means mapping) src.now dst.old
-        dst.new at result.0 result.1 }
-{
-    if mapping.has_unit_bytes() {
-        return put_looked_up(mapping, src, dst, at);
-    }
-    if src[0] >= 0x80 {
-        let (width, count) = put_beyond(mapping, src, dst, at);
-        return (width, count, width > 0);
-    }
-    let len = put_ascii(mapping, src, dst, at);
-    if len == 16 {
-        let more = put_strides(mapping, &src[len..], dst, at + len);
-        return (len + more, len + more, true);
-    }
-    (len, len, len > 0)
-}
-
 /// Writes the bytes of the first characters of UTF-16 to a slice, from `from` on.
 ///
 /// Returns the numbers of code units read and of bytes written. The run need not be maximal.
 #[inline(never)]
-pub(crate) fn write_utf16<M: Mapping>(
+pub(crate) fn write_utf16<M: Mapping, T: Turns<M>>(
     mapping: M,
     src: &[u16],
     dst: &mut [u8],
@@ -255,15 +212,12 @@ pub(crate) fn write_utf16<M: Mapping>(
     let last_sixteen = src.len().saturating_sub(15);
     let last_room = dst.len().saturating_sub(14 + MOST_BYTES);
     'sixteens: while read < last_sixteen && at < last_room {
-        let (len, count, goes_on) = put_turn(mapping, &src[read..], dst, at);
+        let (len, count, goes_on) = T::put_utf16(mapping, &src[read..], dst, at);
         read += len;
         at += count;
         if !goes_on {
             return (read, at - from);
         }
-        let (len, count) = put_text(mapping, &src[read..], dst, at);
-        read += len;
-        at += count;
     }
     let end = dst.len().saturating_sub(MOST_BYTES - 1);
     'ones: while read < src.len() && at < end {

@@ -5,7 +5,7 @@ ghost use Rattle.std.specs.Char.Utf16.{utf16_lossy_chars};
 ghost use Rattle.enc_input.specs.Mappings.{AreAnyUnits, AreWrittenAsUtf8, WritesFront};
 ghost use Rattle.enc_input.specs.Utf16Text.{AreUtf8OfUnits};
 
-use crate::mapping::Mapping;
+use crate::mapping::{Mapping, Utf8Bytes};
 use crate::utf16_chars::first;
 use enc_utf8::{SCALARS_STEP, store_scalars, store_text, utf8_of};
 use std::simd::prelude::*;
@@ -83,12 +83,11 @@ fn put_gathered<M: Mapping>(
     }
 }
 
-/// Does the same if each character is written as its UTF-8, and there are enough code units and
-/// room for a buffer to pay.
+/// Does the same if there are enough code units and room for a buffer to pay.
 ///
 /// It may stop within the last 36 bytes of the slice, and within the last eight code units.
 #[inline(always)]
-pub(crate) fn put_text<M: Mapping>(
+pub(crate) fn put_text<M: Utf8Bytes>(
     mapping: M,
     src: &[u16],
     dst: &mut [u8],
@@ -98,8 +97,9 @@ pub(crate) fn put_text<M: Mapping>(
     ensures { WritesFront utf16_lossy_chars AreAnyUnits (M.means mapping) src.now dst.old dst.new at
         result.0 result.1 }
 {
-    if !mapping.is_utf8() || src.len() < LEAST || dst.len() - at < LEAST {
+    if src.len() < LEAST || dst.len() - at < LEAST {
         return (0, 0);
     }
+    mapping.laws();
     put_gathered(mapping, &mut [0; BUFFER], src, dst, at)
 }

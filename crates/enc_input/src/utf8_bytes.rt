@@ -7,7 +7,7 @@ ghost use Rattle.enc_utf8.specs.Pieces.{KeepsAscii};
 ghost use Rattle.enc_input.specs.Mappings.{WritesFront};
 ghost use Rattle.enc_input.specs.Utf8Bytes.{short_unit, lead_bit, AreLanesOf};
 
-use crate::mapping::Mapping;
+use crate::mapping::UnitBytes;
 use crate::utf16_mapped::clamped;
 use enc_utf8::{are_all_ascii, ascii_from, ends_of};
 use std::simd::prelude::*;
@@ -76,7 +76,7 @@ fn lanes_at(src: &[u8], from: usize) -> Lanes
 ///
 /// Returns the numbers of bytes read and written, and whether the characters are four.
 #[inline(always)]
-fn put_four<M: Mapping>(
+fn put_four<M: UnitBytes>(
     mapping: M,
     lanes: &Lanes,
     place: usize,
@@ -112,7 +112,7 @@ fn put_four<M: Mapping>(
 
 /// Does the same for eight characters from `from` on.
 #[inline(always)]
-fn put_eight<M: Mapping>(
+fn put_eight<M: UnitBytes>(
     mapping: M,
     src: &[u8],
     from: usize,
@@ -140,7 +140,7 @@ fn put_eight<M: Mapping>(
 
 /// Does the same for sixteen characters.
 #[inline(always)]
-fn put_sixteen<M: Mapping>(
+fn put_sixteen<M: UnitBytes>(
     mapping: M,
     src: &[u8],
     from: usize,
@@ -167,7 +167,7 @@ fn put_sixteen<M: Mapping>(
 
 /// Does the same for 32 characters.
 #[inline(always)]
-fn put_dense<M: Mapping>(
+fn put_dense<M: UnitBytes>(
     mapping: M,
     src: &[u8],
     from: usize,
@@ -217,7 +217,7 @@ fn short_len(first: u8) -> usize
 /// Writes the byte of the character at `from`. Returns the numbers of bytes read and written. Both
 /// are 0 if it has no byte or more than two bytes of UTF-8.
 #[inline(always)]
-fn put_short<M: Mapping>(
+fn put_short<M: UnitBytes>(
     mapping: M,
     src: &[u8],
     from: usize,
@@ -261,7 +261,7 @@ fn put_wide_lanes(dst: &mut [u8], at: usize, lanes: u8x64, len: usize)
 ///
 /// Returns the numbers of bytes read and written, and whether that character has a byte.
 #[inline(always)]
-fn put_hop<M: Mapping>(
+fn put_hop<M: UnitBytes>(
     mapping: M,
     src: &[u8],
     from: usize,
@@ -297,7 +297,7 @@ fn are_dense(lanes: u8x64) -> bool {
 ///
 /// Returns the numbers of bytes read and written, and whether more may follow.
 #[inline(always)]
-fn put_turn<M: Mapping>(
+fn put_turn<M: UnitBytes>(
     mapping: M,
     src: &[u8],
     from: usize,
@@ -330,7 +330,7 @@ fn put_turn<M: Mapping>(
 ///
 /// Returns the numbers of bytes read and written.
 #[inline(never)]
-fn put_turns<M: Mapping>(mapping: M, src: &[u8], dst: &mut [u8], at: usize) -> (usize, usize)
+fn put_turns<M: UnitBytes>(mapping: M, src: &[u8], dst: &mut [u8], at: usize) -> (usize, usize)
     requires keeps { KeepsAscii (M.means mapping) }
     requires utf8 { IsUtf8 src.now }
     requires room { at ≤ length dst.old }
@@ -351,12 +351,11 @@ fn put_turns<M: Mapping>(mapping: M, src: &[u8], dst: &mut [u8], at: usize) -> (
 }
 
 /// Writes the bytes of the first characters of UTF-8 to a slice, from `at` on, if it pays: where
-/// `done` bytes of the run are some already, more than 64 are left, and [`Mapping::unit_byte`] has
-/// most characters.
+/// `done` bytes of the run are some already, and more than 64 are left.
 ///
 /// Returns the numbers of bytes read and written. It stops at a character without such a byte.
 #[inline(always)]
-pub(crate) fn put_by_lanes<M: Mapping>(
+pub(crate) fn put_by_lanes<M: UnitBytes>(
     mapping: M,
     done: usize,
     src: &[u8],
@@ -368,10 +367,7 @@ pub(crate) fn put_by_lanes<M: Mapping>(
     ensures { WritesFront chars IsUtf8 (M.means mapping) src.now dst.old dst.new at result.0
         result.1 }
 {
-    if !mapping.has_unit_bytes() || done < SETTLED || src.len() <= LANES {
-        return (0, 0);
-    }
-    if !mapping.keeps_ascii() {
+    if done < SETTLED || src.len() <= LANES || !mapping.keeps_ascii() {
         return (0, 0);
     }
     put_turns(mapping, src, dst, at)

@@ -1,13 +1,11 @@
 //! The characters of UTF-8.
 
-ghost use Rattle.std.specs.Prelude.{◌≡◌, ◌≤◌, chars, encode_utf8, length, drop};
-ghost use Rattle.std.specs.Str.{IsCharBoundary};
-ghost use Rattle.enc_input.specs.Mappings.{AreWrittenAsUtf8, WritesMapped};
+ghost use Rattle.std.specs.Prelude.{◌≡◌, chars, encode_utf8, length};
 ghost use Rattle.enc_utf8.specs.Text.{units_of_text};
 
 use crate::chars::Chars;
 use crate::mapping::Mapping;
-use crate::utf8_mapped::write_utf8;
+use crate::ways::Way;
 
 /// The characters of a text in UTF-8.
 #[derive(Drop)]
@@ -29,23 +27,6 @@ fn unit_count(text: &str) -> usize
     ensures { result ≡ length (units_of_text encode_utf8 (chars text.now)) }
 {
     text.len()
-}
-
-/// Copies whole characters from the front of a text to a slice, from `at` on, as many as fit.
-///
-/// Returns the number of their bytes.
-#[inline(always)]
-fn copy_chars<M: Mapping>(mapping: M, text: &str, dst: &mut [u8], at: usize) -> usize
-    requires utf8 { AreWrittenAsUtf8 (M.means mapping) }
-    requires room { at ≤ length dst.old }
-    ensures boundary { IsCharBoundary text.now result }
-    ensures writes { WritesMapped (M.means mapping) (chars text.now) (chars (drop result text.now))
-        dst.old dst.new at result }
-{
-    let _mapping = mapping;
-    let len = text.floor_char_boundary(dst.len() - at);
-    dst[at..at + len].copy_from_slice(&text.as_bytes()[..len]);
-    len
 }
 
 impl<'a> Chars for Utf8Chars<'a> {
@@ -78,15 +59,15 @@ impl<'a> Chars for Utf8Chars<'a> {
         }
     }
 
-    fn write_mapped<M: Mapping>(&mut self, mapping: M, dst: &mut [u8], from: usize) -> usize {
-        if mapping.is_utf8() {
-            let len = copy_chars(mapping, self.text, dst, from);
-            self.text = &self.text[len..];
-            return len;
-        }
-        let bytes = self.text.as_bytes();
-        let (read, written) = write_utf8(mapping, bytes, dst, from);
-        self.text = unsafe { str::from_utf8_unchecked(&bytes[read..]) };
+    fn write_mapped<M: Mapping, W: Way<M>>(
+        &mut self,
+        mapping: M,
+        _way: W,
+        dst: &mut [u8],
+        from: usize,
+    ) -> usize {
+        let (read, written) = W::write_text(mapping, self.text, dst, from);
+        self.text = unsafe { str::from_utf8_unchecked(&self.text.as_bytes()[read..]) };
         written
     }
 }

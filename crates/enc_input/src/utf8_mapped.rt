@@ -5,7 +5,7 @@ ghost use Rattle.enc_input.specs.Mappings.{IsFirstUtf8Char, WritesFront, WritesT
 
 use crate::mapped_bytes::{MOST_BYTES, put_bytes, put_lanes};
 use crate::mapping::Mapping;
-use crate::utf8_bytes::put_by_lanes;
+use crate::turns::Turns;
 use enc_utf8::copy_strides;
 use std::simd::prelude::*;
 
@@ -54,7 +54,7 @@ pub(crate) fn found_at(src: &[u8], at: usize) -> Found
 ///
 /// Returns the number of bytes. It is 0 if the first is written otherwise.
 #[inline(always)]
-fn put_ascii<M: Mapping>(mapping: M, src: &[u8], dst: &mut [u8], at: usize) -> usize
+pub(crate) fn put_ascii<M: Mapping>(mapping: M, src: &[u8], dst: &mut [u8], at: usize) -> usize
     requires sixteen { 16 ≤ length src.now }
     requires room { at + 16 ≤ length dst.old }
     ensures { WritesThemselves (M.means mapping) src.now dst.old dst.new at result }
@@ -88,7 +88,12 @@ fn put_own<M: Mapping>(mapping: M, src: &[u8], dst: &mut [u8], at: usize) -> usi
 ///
 /// Returns the numbers of bytes read and written, which are 0 if the character ends a run.
 #[inline(always)]
-fn put_beyond<M: Mapping>(mapping: M, src: &[u8], dst: &mut [u8], at: usize) -> (usize, usize)
+pub(crate) fn put_beyond<M: Mapping>(
+    mapping: M,
+    src: &[u8],
+    dst: &mut [u8],
+    at: usize,
+) -> (usize, usize)
     requires some { 1 ≤ length src.now }
     requires utf8 { IsUtf8 src.now }
     requires beyond { 0x80 ≤ slice_index src.now 0 }
@@ -140,30 +145,11 @@ fn put_strides<M: Mapping>(mapping: M, src: &[u8], dst: &mut [u8], at: usize) ->
     copy_strides(src, &mut dst[at..], most)
 }
 
-/// Writes the ASCII in front that is written as itself, of sixteen bytes, or the bytes of the first
-/// character, if it is beyond ASCII.
-///
-/// Returns the numbers of bytes read and written, which are 0 if the first character ends a run.
-#[inline(always)]
-fn put_turn<M: Mapping>(mapping: M, src: &[u8], dst: &mut [u8], at: usize) -> (usize, usize)
-    requires sixteen { 16 ≤ length src.now }
-    requires utf8 { IsUtf8 src.now }
-    requires room { at + 16 ≤ length dst.old }
-    ensures { WritesFront chars IsUtf8 (M.means mapping) src.now dst.old dst.new at result.0
-        result.1 }
-{
-    if src[0] >= 0x80 {
-        return put_beyond(mapping, src, dst, at);
-    }
-    let len = put_ascii(mapping, src, dst, at);
-    (len, len)
-}
-
 /// Writes the bytes of the first characters of UTF-8 to a slice, from `from` on.
 ///
 /// Returns the numbers of bytes read and written. The run need not be maximal.
 #[inline(never)]
-pub(crate) fn write_utf8<M: Mapping>(
+pub(crate) fn write_utf8<M: Mapping, T: Turns<M>>(
     mapping: M,
     src: &[u8],
     dst: &mut [u8],
@@ -179,13 +165,10 @@ pub(crate) fn write_utf8<M: Mapping>(
     let last_sixteen = src.len().saturating_sub(15);
     let last_room = dst.len().saturating_sub(15);
     'sixteens: while read < last_sixteen && at < last_room {
-        let (len, count) = put_turn(mapping, &src[read..], dst, at);
-        read += len;
-        at += count;
-        if len == 0 {
-            return (read, at - from);
+        let (len, count, goes_on) = T::put_utf8(mapping, read, &src[read..], dst, at);
+        if !goes_on {
+            return (read + len, at + count - from);
         }
-        let (len, count) = put_by_lanes(mapping, read, &src[read..], dst, at);
         read += len;
         at += count;
     }

@@ -4,7 +4,7 @@ ghost use Rattle.std.specs.Prelude.{◌≡◌, ◌<◌};
 ghost use Rattle.enc_input.specs.Bytes.{byte_list};
 ghost use Rattle.enc_encode.specs.Big5.{big5_pair_bytes, big5_trail_byte};
 
-use enc_encoder::{Barring, ByteLengths, Repertoire, StatelessEncoder, two};
+use enc_encoder::{Barring, ByteLengths, Repertoire, RunRepertoire, StatelessEncoder, two};
 use enc_index_pointers::big5;
 use enc_input::Bytes;
 
@@ -54,3 +54,5 @@ impl Repertoire for Big5 {
         ByteLengths::TwoBytes
     }
 }
+
+impl RunRepertoire for Big5 {}

@@ -5,7 +5,7 @@ ghost use Rattle.enc_input.specs.Bytes.{byte_list};
 ghost use Rattle.enc_encode.specs.EucJp.{euc_jp_pair_bytes};
 
 use super::japanese::{is_halfwidth_katakana, katakana_byte, with_fullwidth_minus};
-use enc_encoder::{Barring, ByteLengths, Repertoire, StatelessEncoder, one, two};
+use enc_encoder::{Barring, ByteLengths, Repertoire, RunRepertoire, StatelessEncoder, one, two};
 use enc_index_pointers::jis0208;
 use enc_input::Bytes;
 
@@ -55,3 +55,5 @@ impl Repertoire for EucJp {
         ByteLengths::TwoBytes
     }
 }
+
+impl RunRepertoire for EucJp {}

@@ -4,7 +4,7 @@ ghost use Rattle.std.specs.Prelude.{◌≡◌, ◌<◌};
 ghost use Rattle.enc_input.specs.Bytes.{byte_list};
 ghost use Rattle.enc_encode.specs.EucKr.{euc_kr_pair_bytes};
 
-use enc_encoder::{Barring, ByteLengths, Repertoire, StatelessEncoder, two};
+use enc_encoder::{Barring, ByteLengths, Repertoire, RunRepertoire, StatelessEncoder, two};
 use enc_index_pointers::euc_kr;
 use enc_input::Bytes;
 
@@ -44,3 +44,5 @@ impl Repertoire for EucKr {
         ByteLengths::TwoBytes
     }
 }
+
+impl RunRepertoire for EucKr {}

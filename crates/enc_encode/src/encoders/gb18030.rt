@@ -11,7 +11,9 @@ ghost use Rattle.enc_index_pointers.specs.Pointers.{gb18030_pointer, gb18030_ran
 ghost use Rattle.enc_encoder.specs.Stateless.{bytes_of_pointer};
 
 use super::private_use::PRIVATE_USE;
-use enc_encoder::{Barring, ByteLengths, Repertoire, StatelessEncoder, four, one, two};
+use enc_encoder::{
+    Barring, ByteLengths, Repertoire, RunRepertoire, StatelessEncoder, four, one, two,
+};
 use enc_index_pointers::{gb18030, gb18030_ranges};
 use enc_input::Bytes;
 
@@ -150,3 +152,5 @@ impl Repertoire for Gb18030 {
         }
     }
 }
+
+impl RunRepertoire for Gb18030 {}

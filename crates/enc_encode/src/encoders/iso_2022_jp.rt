@@ -17,7 +17,7 @@ use enc_encoder::{
     RawEncoder, one, run, two,
 };
 use enc_index_pointers::jis0208;
-use enc_input::{Bytes, Chars, Mapping};
+use enc_input::{ByCharacter, Bytes, Chars, Mapping};
 use enc_utf8::unshifted_len;
 use std::simd::prelude::*;
 
@@ -190,6 +190,11 @@ impl<B: BarredChars> Mapping for ShiftingEncoder<B> {
             _ => 0,
         }
     }
+
+    #[inline(always)]
+    fn keeps_ascii(self) -> bool {
+        false
+    }
 }
 
 impl<B: BarredChars> CharEncoder for ShiftingEncoder<B> {
@@ -199,7 +204,7 @@ impl<B: BarredChars> CharEncoder for ShiftingEncoder<B> {
 
     #[inline(always)]
     fn write_run<C: Chars>(self, src: &mut C, dst: &mut [u8], from: usize) -> usize {
-        src.write_mapped(self, dst, from)
+        src.write_mapped(self, ByCharacter, dst, from)
     }
 
     fn bytes(self, c: char) -> Option<Bytes> {

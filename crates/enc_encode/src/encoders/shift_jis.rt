@@ -6,7 +6,7 @@ ghost use Rattle.enc_encode.specs.ShiftJis.{shift_jis_pair_bytes};
 ghost use Rattle.enc_encode.specs.ShiftJis.{shift_jis_lead_byte, shift_jis_trail_byte};
 
 use super::japanese::{is_halfwidth_katakana, katakana_byte, with_fullwidth_minus};
-use enc_encoder::{Barring, ByteLengths, Repertoire, StatelessEncoder, one, two};
+use enc_encoder::{Barring, ByteLengths, Repertoire, RunRepertoire, StatelessEncoder, one, two};
 use enc_index_pointers::shift_jis;
 use enc_input::Bytes;
 
@@ -77,3 +77,5 @@ impl Repertoire for ShiftJis {
         ByteLengths::TwoBytes
     }
 }
+
+impl RunRepertoire for ShiftJis {}

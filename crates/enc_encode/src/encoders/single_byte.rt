@@ -4,10 +4,12 @@ ghost use Rattle.std.specs.Prelude.{◌≡◌, ◌<◌};
 ghost use Rattle.enc_input.specs.Bytes.{byte_list};
 ghost use Rattle.enc_encode.specs.SingleByte.{single_byte_of_pointer as byte_of_pointer};
 
-use enc_encoder::{Barring, ByteLengths, Repertoire, StatelessEncoder, one};
+use enc_encoder::{
+    Barring, ByteLengths, Repertoire, RunRepertoire, StatelessEncoder, UnitRepertoire, one,
+};
 use enc_index::SingleByteIndex;
 use enc_index_pointers::{single_byte, single_byte_of_unit};
-use enc_input::Bytes;
+use enc_input::{ByUnit, Bytes, Chars};
 
 /// A legacy single-byte encoding (Encoding Standard 9): ASCII, and the characters of its index.
 #[derive(Clone, Copy)]
@@ -44,18 +46,22 @@ impl Repertoire for SingleByte {
         }
     }
 
-    #[inline(always)]
-    fn has_unit_bytes(self) -> bool {
-        let _index = self.index;
-        true
+    fn byte_lengths(self) -> ByteLengths {
+        ByteLengths::OneByte
     }
+}
 
+impl UnitRepertoire for SingleByte {
     #[inline(always)]
     fn unit_byte(self, unit: u16) -> u8 {
         single_byte_of_unit(self.index, unit)
     }
+}
 
-    fn byte_lengths(self) -> ByteLengths {
-        ByteLengths::OneByte
+impl RunRepertoire for SingleByte {
+    #[inline(always)]
+    fn write_run<C: Chars>(self, src: &mut C, dst: &mut [u8], from: usize) -> usize {
+        let encoder = StatelessEncoder { repertoire: self };
+        src.write_mapped(encoder, ByUnit, dst, from)
     }
 }

@@ -3,8 +3,10 @@
 ghost use Rattle.std.specs.Prelude.{◌≡◌, encode_utf8};
 ghost use Rattle.enc_input.specs.Bytes.{byte_list};
 
-use enc_encoder::{Barring, ByteLengths, Repertoire, StatelessEncoder};
-use enc_input::Bytes;
+use enc_encoder::{
+    Barring, ByteLengths, Repertoire, RunRepertoire, StatelessEncoder, Utf8Repertoire,
+};
+use enc_input::{Bytes, Chars, Copied};
 
 /// UTF-8 (Encoding Standard 8.1): every character.
 #[derive(Clone, Copy)]
@@ -38,12 +40,19 @@ impl Repertoire for Utf8 {
         Some(utf8_bytes(c))
     }
 
-    #[inline(always)]
-    fn is_utf8(self) -> bool {
-        true
-    }
-
     fn byte_lengths(self) -> ByteLengths {
         ByteLengths::Utf8
+    }
+}
+
+impl Utf8Repertoire for Utf8 {
+    fn is_utf8(self) {}
+}
+
+impl RunRepertoire for Utf8 {
+    #[inline(always)]
+    fn write_run<C: Chars>(self, src: &mut C, dst: &mut [u8], from: usize) -> usize {
+        let encoder = StatelessEncoder { repertoire: self };
+        src.write_mapped(encoder, Copied, dst, from)
     }
 }

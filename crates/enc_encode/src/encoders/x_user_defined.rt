@@ -1,6 +1,6 @@
 //! The x-user-defined encoder (Encoding Standard 14.5.2).
 
-use enc_encoder::{Barring, ByteLengths, Repertoire, StatelessEncoder, one};
+use enc_encoder::{Barring, ByteLengths, Repertoire, RunRepertoire, StatelessEncoder, one};
 use enc_input::Bytes;
 
 /// x-user-defined (Encoding Standard 14.5): ASCII, and U+F780 to U+F7FF.
@@ -31,3 +31,5 @@ impl Repertoire for XUserDefined {
         ByteLengths::OneByte
     }
 }
+
+impl RunRepertoire for XUserDefined {}

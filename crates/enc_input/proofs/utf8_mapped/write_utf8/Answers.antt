@@ -6,12 +6,11 @@ pub sixteens-init : goal.sixteens-init
 sixteens-init g c = written_from (own_written c.requires.utf8 c.put_strides-read.ensures)
 
 pub sixteens-preserved : goal.sixteens-preserved
-sixteens-preserved g c =
-    written_then (written_then c.sixteens.invariant c.put_turn-len.ensures)
-    c.put_by_lanes-len.ensures
+sixteens-preserved g c = written_then c.sixteens.invariant c.put_utf8-len.ensures.writes
 
-pub returns-then-len-eq0 : goal.returns-then-len-eq0
-returns-then-len-eq0 g c = (written_then c.sixteens.invariant c.put_turn-len.ensures).front
+pub returns-then-not-goes_on : goal.returns-then-not-goes_on
+returns-then-not-goes_on g c =
+    (written_then c.sixteens.invariant c.put_utf8-len.ensures.writes).front
 
 pub ones-preserved : goal.ones-preserved
 ones-preserved g c = written_then c.ones.invariant c.put_char-width.ensures

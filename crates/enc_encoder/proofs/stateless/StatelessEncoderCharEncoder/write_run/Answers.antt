@@ -5,4 +5,4 @@ use Rattle.enc_encoder.proofs.stateless.StatelessEncoderCharEncoder.write_run.Go
 
 pub returns : goal.returns
 returns g c = writes_in_set (stateless_rule (g.R.Repertoire.bytes_for c.args.self.repertoire)) Ascii
-    c.write_mapped.ensures
+    c.write_run.ensures

@@ -1,5 +1,5 @@
 use Rattle.enc_encode.proofs.UnitByteLemmas.{unit_bytes}
-use Rattle.enc_encode.proofs.encoders.single_byte.SingleByteRepertoire.unit_byte.Goals as goal
+use Rattle.enc_encode.proofs.encoders.single_byte.SingleByteUnitRepertoire.unit_byte.Goals as goal
 
 pub returns-clause-bytes : goal.returns-clause-bytes
 returns-clause-bytes c some =
