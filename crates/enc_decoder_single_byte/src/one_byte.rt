@@ -46,8 +46,10 @@ impl<E: OneByte> Pieces for OneByteDecoder<E> {
 
     #[inline(always)]
     fn piece(self, src: &[u8], at: usize) -> Option<(char, usize)> {
-        let character = self.encoding.character_of(src[at])?;
-        Some((character, 1))
+        match self.encoding.character_of(src[at]) {
+            Some(character) => Some((character, 1)),
+            None => None,
+        }
     }
 
     fn has_ascii(self) -> bool {
