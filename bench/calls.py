@@ -5,20 +5,25 @@ chunks of 1 and 4 KiB for one decoder or encoder, with room for 1 or 4 Ki units 
 character, and spaces make up its length. So does a chunk to encode; a chunk to decode may end within a character.
 """
 
+from concurrent.futures import ThreadPoolExecutor
 import functools
+import os
 import resource
+from statistics import median
 import subprocess
 
 import corpora
+import counts
 from report import STYLE
 
 # The lengths of pieces, and those of chunks with the room of a call.
 LENGTHS = (16, 64, 256)
 CHUNKS = ((1024, 1024), (1024, 4096), (4096, 1024), (4096, 4096))
 
-# The length of an input, and the processor time of a run in seconds.
+# The length of an input, the processor time of a run in seconds, and the rounds whose instructions are counted.
 LENGTH = 61440
 TARGET = 0.04
+COUNTED = 2
 
 # Labels, in pieces of 16 bytes.
 LABELS = ("utf-8 windows-1252 UTF-8 iso-8859-1 shift_jis gb2312 euc-kr big5 windows-1251 ISO-8859-1 latin1 utf8 euc-jp "
@@ -49,13 +54,16 @@ CELL_STYLE = """  .less { fill: #f2b8a0; }
 
 
 class Cell:
-    """Calls of a kind with a text: the input, its cuts, and the best times of ours and of the crate's."""
+    """Calls of a kind with a text: the input and its cuts, the times of ours and of the crate's, a pair for each round,
+    and the instructions of a call of both."""
 
     def __init__(self, kind, label, data, length, room):
         self.arguments = [kind, label, str(length), str(room)]
         self.data = data
+        self.calls = len(data) // length
         self.rounds = 20
-        self.best = {}
+        self.times = []
+        self.instructions = ()
 
     def run(self, program, rounds):
         """The processor time of a run and the sum that it prints."""
@@ -67,24 +75,35 @@ class Cell:
 
     def prepare(self, programs):
         """Compares the sums, and finds out how many rounds take the time of a run."""
-        done = [self.run(program, self.rounds) for program in programs.values()]
+        done = [self.run(program, self.rounds) for program in programs]
         if len({total for _, total in done}) != 1:
             raise SystemExit(f"bench: sums differ: {' '.join(self.arguments)}: {[total for _, total in done]}")
         self.rounds = max(1, int(self.rounds * TARGET / max(min(taken for taken, _ in done), 0.001)))
 
     def measure(self, programs):
         """Runs each program once."""
-        for name, program in programs.items():
-            taken, _ = self.run(program, self.rounds)
-            self.best[name] = min(taken, self.best.get(name, taken))
+        self.times.append([self.run(program, self.rounds)[0] for program in programs])
 
-    def ratio(self, name="bench calls"):
-        """The rate by the crate's."""
-        return self.best["encoding_rs"] / self.best[name]
+    def count(self, programs):
+        """Counts the instructions of a call: those that COUNTED rounds more take, so that what is made once is not in."""
+        def of(program, rounds):
+            return counts.instructions([*program, *self.arguments, str(rounds)], self.data)
 
-    def nanoseconds(self, name="bench calls"):
+        more = [of(program, 1 + COUNTED) - of(program, 1) for program in programs]
+        self.instructions = [it / (COUNTED * self.calls) for it in more]
+
+    def by_time(self):
+        """The rate by the crate's: the median of the rounds' ratios."""
+        return median(theirs / ours for ours, theirs in self.times)
+
+    def by_instructions(self):
+        """The crate's instructions by ours."""
+        ours, theirs = self.instructions
+        return theirs / ours
+
+    def nanoseconds(self):
         """The time of a call."""
-        return self.best[name] * 1e9 / (self.rounds * (len(self.data) // int(self.arguments[2])))
+        return median(ours for ours, _ in self.times) * 1e9 / (self.rounds * self.calls)
 
 
 class Row:
@@ -147,8 +166,18 @@ def tables():
     return (DECODING, decoded), (ENCODING, encoded), Row("labels", [[Cell("for-label", "utf-8", labels, 16, 16)]])
 
 
+def counted(every, programs):
+    """Counts the instructions of each cell's calls, some cells side by side."""
+    counts.prepare()
+    with ThreadPoolExecutor(os.cpu_count()) as pool:
+        for number, _ in enumerate(pool.map(lambda cell: cell.count(programs), every), 1):
+            if number % 60 == 0 or number == len(every):
+                print(f"calls whose instructions are counted: {number} of {len(every)}", flush=True)
+
+
 def measured(programs, rounds):
-    """The rows of each direction with the best times of their cells, and the row of labels."""
+    """The rows of each direction with what is measured of their cells, and the cell of labels. `programs`: the commands
+    of ours and of the crate's."""
     decoded, encoded, labels = tables()
     every = [cell for row in (*decoded[1], *encoded[1], labels) for cell in row.cells()]
     for cell in every:
@@ -158,6 +187,7 @@ def measured(programs, rounds):
         for cell in every:
             cell.measure(programs)
         print(f"round {number + 1} of {rounds}", flush=True)
+    counted(every, programs)
     return (("Decoding", *decoded), ("Encoding", *encoded)), labels.groups[0][0]
 
 
@@ -168,29 +198,45 @@ def names(chunks):
 
 
 def table(title, rows, number, chunks):
-    """A table in Markdown: the rates of one kind of calls by the crate's."""
+    """A table in Markdown, of one kind of calls: what each cell is by the crate, by instructions and by time."""
     heads = [title, *names(chunks)]
-    made = ["| " + " | ".join(heads) + " |", "|---" * len(heads) + "|"]
+    made = ["| " + " | ".join(heads) + " |", "|---" + "|--:" * (len(heads) - 1) + "|"]
     for row in rows:
-        made.append("| " + " | ".join([row.title] + [f"{cell.ratio():.2f}" for cell in row.groups[number]]) + " |")
+        shown = [f"{cell.by_instructions():.2f}, {cell.by_time():.2f}" for cell in row.groups[number]]
+        made.append("| " + " | ".join([row.title, *shown]) + " |")
     return "\n".join(made)
+
+
+def summary(every):
+    """How many cells are below the crate, and how many have 1.3 times its rate and more."""
+    parts = []
+    for name, ratios in (("instructions", [it.by_instructions() for it in every]),
+                         ("time", [it.by_time() for it in every])):
+        less, much = (sum(holds(it) for it in ratios) for holds in (is_less, lambda it: it >= 1.295))
+        parts.append(f"by {name} {less} are below 1.00, the least has {min(ratios):.2f}, and {much} have 1.30 and more")
+    return f"Of {len(every)} cells, {'; '.join(parts)}."
 
 
 def text(circumstances, directions, label):
     """The circumstances of the measurement, the picture, and a table for each kind of calls."""
-    ratios = [cell.ratio() for _, _, rows in directions for row in rows for cell in row.cells()]
-    parts = [circumstances, f"![{PICTURE}](speed-calls.svg)"]
+    every = [cell for _, _, rows in directions for row in rows for cell in row.cells()]
+    parts = [circumstances, f"![{PICTURE}](speed-calls.svg)", summary(every)]
     for name, kinds, rows in directions:
         parts += [table(f"{name}, {title}", rows, number, chunks) for number, (_, chunks, title) in enumerate(kinds)]
-    less = sum(ratio < 0.995 for ratio in ratios)
-    parts.append(f"{less} of {len(ratios)} cells are below 1.00. `Encoding::for_label` takes "
-                 f"{label.nanoseconds():.0f} ns a label, at {label.ratio():.2f} times the rate of the crate.")
+    parts.append(f"`Encoding::for_label` takes {label.nanoseconds():.0f} ns and {label.instructions[0]:.0f} instructions "
+                 f"a label, at {label.by_time():.2f} times the rate of the crate, which executes "
+                 f"{label.by_instructions():.2f} times as many.")
     return "\n\n".join(parts)
+
+
+def is_less(ratio):
+    """Whether a ratio is shown as less than 1.00."""
+    return ratio < 0.995
 
 
 def fill(ratio):
     """The class of a cell: below the crate, above it, or half as fast again."""
-    return "less" if ratio < 0.995 else "more" if ratio < 1.495 else "much"
+    return "less" if is_less(ratio) else "more" if ratio < 1.495 else "much"
 
 
 def draw_rows(kinds, rows, top):
@@ -207,7 +253,7 @@ def draw_rows(kinds, rows, top):
         made.append(f'<text x="{LEFT - 8}" y="{y + 13}" text-anchor="end">{row.title}</text>')
         for group in row.groups:
             for cell in group:
-                ratio = cell.ratio()
+                ratio = cell.by_time()
                 made.append(f'<rect class="{fill(ratio)}" x="{x}" y="{y}" width="{CELL - 2}" height="{HIGH - 2}"/>')
                 made.append(f'<text x="{x + CELL / 2 - 1}" y="{y + 13}" text-anchor="middle">{ratio:.2f}</text>')
                 x += CELL
