@@ -7,6 +7,7 @@ pub mod PendingBytesLemmas
 pub mod UnmarkedTextLemmas
 pub mod PendingBbLemmas
 pub mod HeldMarkLemmas
+pub mod PlainTextLemmas
 pub mod AfterMarkLemmas
 pub mod DecoderCallLemmas
 pub mod RemainingRuleLemmas

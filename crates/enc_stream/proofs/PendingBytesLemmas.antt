@@ -36,6 +36,12 @@ pub none_unread : (life : LifeCycle) (n : ℕ) → 0 < n → unread_bytes life n
 none_unread life n some = let not_zero : eqb n 0 ≡ false = grind (arith, nat_tests) in
     cond-false _ _ _ not_zero
 
+pub none_held_unread : (life : LifeCycle) (n : ℕ) → held_mark_bytes life ≡ []
+    → unread_bytes life n ≡ []
+none_held_unread life n none_held =
+    elim (eqb n 0) as (λ none. (if none then held_mark_bytes life else []) ≡ [])
+    [ true ↦ none_held | false ↦ refl ]
+
 pub held_or_pending : (life : LifeCycle) (n : ℕ) → (length (unread_bytes life n) ≡ 0) ⊎ (n ≡ 0)
 held_or_pending life zero = inr refl
 held_or_pending life (suc n) = inl (ap length (none_unread life (suc n) (omega arith)))

@@ -102,6 +102,17 @@ pub record ReadsText (e : Encoding) (life : LifeCycle) (v : CodecState) (src : L
   pub no_mark : HasNoMark life src last
   pub holds : HeldBytesMatchCodec life v
 
+pub reads_text : {e : Encoding} {life : LifeCycle} {v : CodecState} {src : List ℕ} {last : Bool}
+    → AreBytes src → rule_of e ≡ v.rule → has_ended life ≡ false → HasNoMark life src last
+    → HeldBytesMatchCodec life v → ReadsText e life v src last
+reads_text bytes same_rule going no_mark holds = record {
+  bytes = bytes;
+  same_rule = same_rule;
+  going = going;
+  no_mark = no_mark;
+  holds = holds;
+}
+
 module _ {e : Encoding} {life : LifeCycle} {v : CodecState} {src : List ℕ} {last : Bool}
     (text : ReadsText e life v src last) where
   abbrev pub held : List ℕ

@@ -16,7 +16,6 @@ mod start;
 mod strings;
 
 use crate::parts::DecoderParts;
-use crate::sniffing::sniff;
 use enc_decoder::{CallOptions, DecoderOutcome, ErrorMode};
 use enc_output::{DecoderResult, Units, Utf8Slice, Utf16Slice};
 use enc_utf8::CoderResult;
@@ -76,6 +75,7 @@ impl Decoder {
     ///
     /// It stops when all input is read, when the next sequence does not fit, and in error mode
     /// "fatal" when one is malformed.
+    #[inline(always)]
     fn decode_chunk<U: Units>(
         &mut self,
         src: &[u8],
@@ -88,9 +88,7 @@ impl Decoder {
             (call_into src.now (record { last = last; mode = mode }) (U.output out.old)
             (U.output out.new) result) }
     {
-        let sniffed = sniff(self.parts.life, src, last);
-        self.parts
-            .decode_sniffed(sniffed, src, out, CallOptions { last, mode })
+        self.parts.decode(src, out, CallOptions { last, mode })
     }
 
     /// Decodes a chunk of input into UTF-8, with replacement.

@@ -10,8 +10,8 @@ ghost use Rattle.enc_stream.specs.Sniffing.{IsSniffed};
 use crate::bom::BomHandling;
 use crate::encoding::{Encoding, codec_of};
 use crate::life_cycle::{LifeCycle, first_life};
-use crate::sniffing::Sniffed;
-use crate::text::decode_text;
+use crate::sniffing::{Sniffed, begins_as_text, sniff};
+use crate::text::{decode_plain, decode_text};
 use enc_codec::{NewDecoder, VariantDecoder};
 use enc_decoder::{CallOptions, DecoderOutcome};
 use enc_output::{DecoderResult, Units};
@@ -75,11 +75,61 @@ impl DecoderParts {
             Sniffed::Mark(marked) => *self = DecoderParts::start(marked, BomHandling::Off),
             Sniffed::Text(held) => self.life = held,
         }
-        let of_text = decode_text(&mut self.life, &mut self.codec, rest, out, options);
+        let of_text = if begins_as_text(self.life, rest) {
+            decode_plain(&mut self.life, &mut self.codec, rest, out, options)
+        } else {
+            decode_text(&mut self.life, &mut self.codec, rest, out, options)
+        };
         DecoderOutcome {
             result: of_text.result,
             read: len + of_text.read,
             replaced: of_text.replaced,
         }
+    }
+
+    /// Decodes a chunk, after a byte order mark that is looked for.
+    ///
+    /// It is a function of its own, since most chunks are text with nothing held.
+    #[inline(never)]
+    fn decode_searching<U: Units>(
+        &mut self,
+        src: &[u8],
+        out: &mut U,
+        options: CallOptions,
+    ) -> DecoderOutcome
+        requires unfinished { has_ended self.old.life ≡ false }
+        requires parts { AreParts self.old }
+        ensures call { AnswersDecodeInto U.units_of (state_of_parts self.old)
+            (state_of_parts self.new)
+            (call_into src.now options (U.output out.old) (U.output out.new) result) }
+        ensures parts { AreParts self.new }
+    {
+        let sniffed = sniff(self.life, src, options.last);
+        self.decode_sniffed(sniffed, src, out, options)
+    }
+
+    /// Decodes a chunk, after a byte order mark that is looked for.
+    ///
+    /// It stops when all input is read, when the next sequence does not fit, and in error mode
+    /// "fatal" when one is malformed.
+    #[inline(always)]
+    pub(crate) fn decode<U: Units>(
+        &mut self,
+        src: &[u8],
+        out: &mut U,
+        options: CallOptions,
+    ) -> DecoderOutcome
+        requires unfinished { has_ended self.old.life ≡ false }
+        requires parts { AreParts self.old }
+        ensures call { AnswersDecodeInto U.units_of (state_of_parts self.old)
+            (state_of_parts self.new)
+            (call_into src.now options (U.output out.old) (U.output out.new) result) }
+        ensures parts { AreParts self.new }
+    {
+        U::laws();
+        if begins_as_text(self.life, src) {
+            return decode_plain(&mut self.life, &mut self.codec, src, out, options);
+        }
+        self.decode_searching(src, out, options)
     }
 }

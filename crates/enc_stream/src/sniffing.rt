@@ -1,7 +1,8 @@
 //! The search for a byte order mark at the start of the input (Encoding Standard 6, "BOM sniff").
 
-ghost use Rattle.std.specs.Prelude.{◌≤◌, length};
-ghost use Rattle.enc_stream.specs.Sniffing.{IsSniffed};
+ghost use Rattle.std.specs.Prelude.{◌≡◌, ◌≤◌, Bool, false, [], length, IsTrue};
+ghost use Rattle.enc_stream.specs.LifeCycle.{held_mark_bytes, has_ended};
+ghost use Rattle.enc_stream.specs.Sniffing.{IsSniffed, HasNoMark};
 
 use crate::encoding::Encoding;
 use crate::life_cycle::{LifeCycle, MarkByte};
@@ -15,6 +16,22 @@ pub(crate) enum Sniffed {
     Mark(Encoding),
     /// Text. The state holds the first bytes, which might have begun a byte order mark.
     Text(LifeCycle),
+}
+
+/// Returns whether text begins at the front of `src`, with nothing held and no byte order mark.
+///
+/// False says nothing: [`sniff`] finds out.
+#[inline(always)]
+pub(crate) fn begins_as_text(life: LifeCycle, src: &[u8]) -> bool
+    ensures text { IsTrue result → (last : Bool) → HasNoMark life src.now last }
+    ensures none_held { IsTrue result → held_mark_bytes life ≡ [] }
+    ensures unfinished { IsTrue result → has_ended life ≡ false }
+{
+    match life {
+        LifeCycle::Converting => true,
+        LifeCycle::AtStart => src.len() > 0 && src[0] != 0xEF && src[0] < 0xFE,
+        _ => false,
+    }
 }
 
 /// Scans the held bytes and `src` for a byte order mark. With `last` nothing follows `src`.

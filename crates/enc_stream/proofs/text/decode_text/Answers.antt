@@ -3,28 +3,10 @@ use Rattle.enc_decoder.proofs.ByteLemmas.{bytes_of_slice}
 use Rattle.enc_stream.proofs.HeldMarkLemmas.{ends, stays, goes_on, stays_bb}
 use Rattle.enc_stream.proofs.PendingBbLemmas.{leaves_bb, holds_bb, both_equal, not_both_equal, all_equal}
 use Rattle.enc_stream.proofs.PendingBbLemmas.{not_all_equal}
-use Rattle.std.proofs.Common.{ℕ, Bool, false, List}
-use Rattle.enc_stream.specs.declared.encoding.Encoding.{Encoding}
-use Rattle.enc_stream.specs.declared.life_cycle.LifeCycle.{LifeCycle}
-use Rattle.enc_decoder.specs.CodecState.{CodecState}
-use Rattle.enc_decoder.specs.Remainder.{AreBytes}
-use Rattle.enc_stream.specs.Encodings.{rule_of}
-use Rattle.enc_stream.specs.LifeCycle.{has_ended, HeldBytesMatchCodec}
-use Rattle.enc_stream.specs.Sniffing.{HasNoMark}
-use Rattle.enc_stream.proofs.UnmarkedTextLemmas.{ReadsText, HeldRead}
+use Rattle.std.proofs.Common.{ℕ, List}
+use Rattle.enc_stream.proofs.UnmarkedTextLemmas.{HeldRead, reads_text}
 use Rattle.enc_utf8.proofs.LengthLemmas.{lengths}
 use Rattle.enc_stream.proofs.text.decode_text.Goals as goal
-
-reads_text : {e : Encoding} {life : LifeCycle} {v : CodecState} {src : List ℕ} {last : Bool}
-    → AreBytes src → rule_of e ≡ v.rule → has_ended life ≡ false → HasNoMark life src last
-    → HeldBytesMatchCodec life v → ReadsText e life v src last
-reads_text bytes same_rule going no_mark holds = record {
-  bytes = bytes;
-  same_rule = same_rule;
-  going = going;
-  no_mark = no_mark;
-  holds = holds;
-}
 
 abbrev held_read : {held src : List ℕ} {total left read : ℕ} → total ≤ length (held ++ src)
     → (given : List ℕ) → length given ≡ length held → left ≡ length given - total
