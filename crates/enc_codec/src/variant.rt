@@ -64,6 +64,7 @@ impl RawDecoder for VariantDecoder {
 
     ghost formulas = { variant_decoder_lengths };
 
+    #[inline(always)]
     fn decode<U: Units>(
         &mut self,
         src: &[u8],

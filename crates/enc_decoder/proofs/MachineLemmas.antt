@@ -1,6 +1,6 @@
 -- The steps of the loop over the bytes of one call.
-use Rattle.std.proofs.Common.{◌≡◌, ℕ, ◌+◌, true, false, List, [], ◌∷◌, length, drop, refl}
-use Rattle.std.proofs.Common.{ap, ◌∙◌, sym, arith, subst, append-nil, nat_le, ◌||◌, get_or}
+use Rattle.std.proofs.Common.{◌≡◌, ℕ, ◌+◌, Bool, true, false, List, [], ◌∷◌, length, drop, refl}
+use Rattle.std.proofs.Common.{ap, ◌∙◌, sym, arith, subst, append-nil, nat_le, ◌||◌, get_or, zero-add}
 use Rattle.std.proofs.lemmas.Bool.{false≢true, true≢false, leb-true, leb-false}
 use Rattle.enc_decoder.specs.declared.byte_codec.Emission.{Emission}
 use Rattle.enc_decoder.specs.declared.machine.NextEvent.TheVariants.{NeedsInput, HoldsByte, Emits}
@@ -9,7 +9,7 @@ use Rattle.enc_output.specs.Output.{Output, with_appended}
 use Rattle.enc_utf8.specs.Text.{AreScalars, units_of_text}
 use Rattle.enc_output.proofs.OutputLemmas.{with_appended-nil}
 use Rattle.enc_decoder.specs.Sequence.{is_malformed, any_malformed}
-use Rattle.enc_decoder.specs.Remainder.{Remainder}
+use Rattle.enc_decoder.specs.Remainder.{Remainder, AreBytes}
 use Rattle.enc_decoder.specs.CodecState.{CodecState, remainder_of}
 use Rattle.enc_decoder.specs.CodecLaw.{IsNextEvent, text_chars, taken_bytes}
 use Rattle.enc_decoder.specs.declared.byte_codec.Kind.{Kind}
@@ -22,7 +22,7 @@ use Rattle.enc_decoder.proofs.StateLeavesLemmas.{unread}
 use Rattle.enc_decoder.specs.Taking.{TakesRun, TakesSequences}
 use Rattle.enc_decoder.proofs.TakenRunLemmas.{reaches_run}
 use Rattle.enc_decoder.proofs.OutputStageLemmas.{Reaches, Progress, progress_at, room_at, call_to, call_over}
-use Rattle.enc_decoder.proofs.OutputStageLemmas.{reaches_state}
+use Rattle.enc_decoder.proofs.OutputStageLemmas.{reaches_state, start}
 use Rattle.enc_decoder.proofs.NextEventLemmas.{end_after, end_is}
 use Rattle.enc_decoder.proofs.EventLeavesLemmas as event
 
@@ -134,3 +134,13 @@ module _ {C : Type 0} {units_of : ℕ → List ℕ} (state : C → CodecState) {
             ap (λ t. length (taken_bytes t (get_or stage.src stage.read 0))) (emits.0.late escape),
           ))
           refl (end_is s.takes_byte stage.read _)
+
+module _ {C : Type 0} {units_of : ℕ → List ℕ} {state : C → CodecState} {c n : C} {src : List ℕ}
+    {took : ℕ} {before then : Output} where
+  -- a run is taken at the start of a call
+  pub first_run : {last : Bool} {mode : ErrorMode} → AreBytes src
+      → TakesRun units_of state c n src took before then
+      → Progress units_of (remainder_of (state c)) (remainder_of (state n)) src last mode before
+      then took false
+  first_run {last} {mode} bytes taken = rw (zero-add took)
+      at (after_run state c (start {last = last} {mode = mode} bytes).reaches refl taken)

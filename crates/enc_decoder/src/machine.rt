@@ -2,11 +2,12 @@
 
 ghost use Rattle.std.specs.Prelude.{◌≡◌, ◌<◌, ◌≤◌, Bool, length, nat_le, IsTrue, IsFalse};
 ghost use Rattle.enc_utf8.specs.Text.{AreScalars, units_of_text};
-ghost use Rattle.enc_output.specs.Output.{with_appended};
+ghost use Rattle.enc_output.specs.Output.{Output, with_appended};
 ghost use Rattle.enc_decoder.specs.CodecLaw.{IsNextEvent, text_chars, lone_fault};
 ghost use Rattle.enc_decoder.specs.declared.machine.NextEvent.TheVariants as comings;
 ghost use Rattle.enc_decoder.specs.Call.{IsCodecCall, reports};
 ghost use Rattle.enc_decoder.specs.CallRecord.{call_into};
+ghost use Rattle.enc_decoder.specs.Taking.{TakesRun};
 
 use crate::byte_codec::{ByteCodec, Emission, HandlerResult, Kind, Text};
 use crate::error_mode::{CallOptions, ErrorMode};
@@ -111,27 +112,27 @@ fn is_reported(kind: Kind, mode: ErrorMode) -> bool
     }
 }
 
-/// Decodes a chunk (Encoding Standard 4.1, "process a queue").
+/// Goes on with a call that has read the first `read` bytes of `src`, in a run.
 ///
-/// It stops when all of `src` is read, when the next sequence does not fit into `out`, and in error
-/// mode "fatal" when one is malformed.
-pub fn run<C: ByteCodec, U: Units>(
+/// It is a function of its own, since most calls end with their first run.
+#[inline(never)]
+fn run_on<C: ByteCodec, U: Units>(
     codec: &mut C,
     src: &[u8],
+    read: usize,
     out: &mut U,
     options: CallOptions,
 ) -> DecoderOutcome
-    ensures { IsCodecCall U.units_of (C.state codec.old) (C.state codec.new)
-        (call_into src.now options (U.output out.old) (U.output out.new) result) }
+    requires within { read ≤ length src.now }
+    ensures { (old : C) (before : Output)
+        → TakesRun U.units_of C.state old codec.old src.now read before (U.output out.old)
+        → IsCodecCall U.units_of (C.state old) (C.state codec.new)
+        (call_into src.now options before (U.output out.new) result) }
 {
     let mut state = *codec;
-    let mut read = 0;
+    let mut read = read;
     let mut replaced = false;
     let result = 'events: loop {
-        let (_, rest) = src.split_at(read);
-        let (ahead, taken) = state.take_run(rest, out);
-        state = ahead;
-        read += taken;
         let shown = match what_comes(state, src, read, options.last) {
             NextEvent::NeedsInput => break DecoderResult::InputEmpty,
             NextEvent::HoldsByte(next) => {
@@ -157,6 +158,10 @@ pub fn run<C: ByteCodec, U: Units>(
             let (_, rest) = src.split_at(read);
             read += replace_more(state, rest, out);
         }
+        let (_, rest) = src.split_at(read);
+        let (ahead, taken) = state.take_run(rest, out);
+        state = ahead;
+        read += taken;
     };
     *codec = state;
     DecoderOutcome {
@@ -164,4 +169,30 @@ pub fn run<C: ByteCodec, U: Units>(
         read,
         replaced,
     }
+}
+
+/// Decodes a chunk (Encoding Standard 4.1, "process a queue").
+///
+/// It stops when all of `src` is read, when the next sequence does not fit into `out`, and in error
+/// mode "fatal" when one is malformed.
+#[inline(always)]
+pub fn run<C: ByteCodec, U: Units>(
+    codec: &mut C,
+    src: &[u8],
+    out: &mut U,
+    options: CallOptions,
+) -> DecoderOutcome
+    ensures { IsCodecCall U.units_of (C.state codec.old) (C.state codec.new)
+        (call_into src.now options (U.output out.old) (U.output out.new) result) }
+{
+    let (ahead, taken) = codec.take_run(src, out);
+    *codec = ahead;
+    if taken == src.len() && ahead.held() == 0 {
+        return DecoderOutcome {
+            result: DecoderResult::InputEmpty,
+            read: taken,
+            replaced: false,
+        };
+    }
+    run_on(codec, src, taken, out, options)
 }

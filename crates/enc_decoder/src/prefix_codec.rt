@@ -281,6 +281,7 @@ impl<C: PrefixCodec> RawDecoder for C {
 
     ghost formulas = { λ _. C.lengths };
 
+    #[inline(always)]
     fn decode<U: Units>(
         &mut self,
         src: &[u8],

@@ -98,7 +98,7 @@ impl ByteCodec for Iso2022JpDecoder {
     ghost state = { iso_2022_jp_state };
 
     /// An escape sequence is taken with the characters after it.
-    #[inline(always)]
+    #[inline(never)]
     fn take_run<U: Units>(self, src: &[u8], out: &mut U) -> (Iso2022JpDecoder, usize) {
         let None = self.held else {
             return (self, 0);

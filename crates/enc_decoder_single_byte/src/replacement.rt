@@ -90,6 +90,7 @@ impl RawDecoder for ReplacementDecoder {
     ghost formulas = { λ _. lengths.Replacement };
 
     #[tactic(auto, using(crate::proofs::ReplacementLemmas::replacement_is_lawful))]
+    #[inline(always)]
     fn decode<U: Units>(
         &mut self,
         src: &[u8],
