@@ -8,7 +8,7 @@ ghost use Rattle.enc_decoder_utf.specs.Utf8.{utf_8_prefix};
 ghost use Rattle.enc_decoder.specs.declared.prefix.Prefix.TheVariants.{Incomplete};
 
 use enc_decoder::{Pending, Prefix, PrefixCodec, Text, TextLengths};
-use enc_output::Units;
+use enc_output::{Units, put_utf8_run};
 use std::marker::Model;
 
 /// The UTF-8 decoder (Encoding Standard 8.1.1).
@@ -233,7 +233,7 @@ impl PrefixCodec for Utf8Decoder {
     #[inline(always)]
     fn put_front<U: Units>(self, src: &[u8], out: &mut U) -> usize {
         let _decoder = self;
-        out.put_utf8(src)
+        put_utf8_run(out, src)
     }
 
     #[inline(always)]

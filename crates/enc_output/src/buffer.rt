@@ -12,7 +12,7 @@ ghost use Rattle.enc_output.specs.Places.{IsPlace};
 ghost use Rattle.enc_utf8.specs.Validity.{AreAscii};
 
 use crate::code_units::{are_scalars, units_in};
-use crate::pieces::{PairPieces, UnitPieces};
+use crate::pieces::{BytePieces, PairPieces, UnitPieces};
 use enc_utf8::{store_scalars, store_text, store_word, units_before_surrogate, utf8_of};
 use std::simd::prelude::*;
 
@@ -58,6 +58,25 @@ pub(crate) trait UnitBuffer {
             → 0 < length bytes
             → PutsPieces units_of (P.means pieces) (output self.old) (output self.new) bytes
             (length bytes) };
+
+    /// Stores the character of a byte and returns true, or stores nothing and returns false if it
+    /// has none, or none that is known.
+    fn store_byte<P: BytePieces>(&mut self, pieces: P, byte: u8) -> bool
+        requires room { 4 ≤ (output self.old).room }
+        ensures bound { (output self.old).room ≤ (output self.new).room + 4 }
+        ensures unchanged { IsFalse result → output self.new ≡ output self.old }
+        ensures stored { IsTrue result → PutsPieces units_of (P.means pieces) (output self.old)
+            (output self.new) (byte ∷ []) 1 };
+
+    /// Stores the characters of sixteen bytes, two bytes each, up to the first that is of more.
+    /// Returns their number.
+    fn store_units<P: UnitPieces>(&mut self, pieces: P, bytes: u8x16) -> usize
+        requires room { 32 ≤ (output self.old).room }
+        ensures few { result ≤ 8 }
+        ensures bound { (output self.old).room ≤ (output self.new).room + 32 }
+        ensures puts { (src : List ℕ) → 16 ≤ length src → bytes ≡ take 16 src
+            → PutsPieces units_of (P.means pieces) (output self.old) (output self.new) src
+            (2 * result) };
 }
 
 /// A buffer with code units at its front.
@@ -123,24 +142,6 @@ impl<'a> Buffer<'a, u8> {
         bytes.copy_to_slice(&mut self.units[self.len..]);
         self.len += len;
     }
-
-    /// Stores the characters of sixteen bytes, two bytes each, up to the first that is of more.
-    /// Returns their number.
-    #[inline(always)]
-    pub(crate) fn store_pairs<P: UnitPieces>(&mut self, pieces: P, bytes: u8x16) -> usize
-        requires room { 32 ≤ room_in self.old.len self.old.units }
-        ensures few { result ≤ 8 }
-        ensures bound { room_in self.old.len self.old.units
-            ≤ room_in self.new.len self.new.units + 32 }
-        ensures puts { (src : List ℕ) → 16 ≤ length src → bytes ≡ take 16 src
-            → PutsPieces encode_utf8 (P.means pieces) (buffer_output self.old.len self.old.units)
-            (buffer_output self.new.len self.new.units) src (2 * result) }
-    {
-        let units = units_in(bytes, pieces.is_big_endian());
-        let (count, end) = store_scalars(&mut *self.units, self.len, units);
-        self.len = end;
-        count
-    }
 }
 
 impl<'a> UnitBuffer for Buffer<'a, u8> {
@@ -176,6 +177,24 @@ impl<'a> UnitBuffer for Buffer<'a, u8> {
         }
         self.store_word(word);
         true
+    }
+
+    #[inline(always)]
+    fn store_byte<P: BytePieces>(&mut self, pieces: P, byte: u8) -> bool {
+        let word = pieces.word(byte);
+        if word == 0 {
+            return false;
+        }
+        self.store_word(word);
+        true
+    }
+
+    #[inline(always)]
+    fn store_units<P: UnitPieces>(&mut self, pieces: P, bytes: u8x16) -> usize {
+        let units = units_in(bytes, pieces.is_big_endian());
+        let (count, end) = store_scalars(&mut *self.units, self.len, units);
+        self.len = end;
+        count
     }
 }
 
@@ -271,5 +290,24 @@ impl<'a> UnitBuffer for Buffer<'a, u16> {
         }
         self.store_unit(unit);
         true
+    }
+
+    #[inline(always)]
+    fn store_byte<P: BytePieces>(&mut self, pieces: P, byte: u8) -> bool {
+        let unit = pieces.unit(byte);
+        if unit == 0 {
+            return false;
+        }
+        self.store_unit(unit);
+        true
+    }
+
+    #[inline(always)]
+    fn store_units<P: UnitPieces>(&mut self, pieces: P, bytes: u8x16) -> usize {
+        let units = units_in(bytes, pieces.is_big_endian());
+        units.copy_to_slice(&mut self.units[self.len..]);
+        let scalars = units_before_surrogate(units);
+        self.len += scalars;
+        scalars
     }
 }

@@ -10,6 +10,7 @@ use crate::gather::Gather;
 use crate::pieces::{Pieces, UnitPieces};
 use crate::run::Run;
 use crate::unit_slice::{UnitSlice, append_each};
+use crate::windows::{WINDOW, Windows};
 use enc_utf8::SCALARS_STEP;
 use std::simd::prelude::*;
 
@@ -56,7 +57,7 @@ impl<P: UnitPieces> Gather for CodeUnits<P> {
 
     #[inline(always)]
     fn write_each<U: UnitSlice>(self, out: &mut U, src: &[u8]) -> usize {
-        append_each(out, self.pieces, src)
+        append_each(out, self, self.pieces, src)
     }
 
     /// Stops where no character is known to begin, and 36 bytes before the end of the room or 32
@@ -70,7 +71,7 @@ impl<P: UnitPieces> Gather for CodeUnits<P> {
         let most = out.capacity() - SCALARS_STEP;
         let mut read = 0;
         while out.len() <= most && 32 <= src.len() - read {
-            let count = out.store_pairs(pieces, u8x16::from_slice(&src[read..]));
+            let count = out.store_units(pieces, u8x16::from_slice(&src[read..]));
             read += 2 * count;
             if count == 8 {
                 continue;
@@ -108,6 +109,18 @@ impl<P: UnitPieces> Gather for CodeUnits<P> {
             read += len;
         }
         read
+    }
+}
+
+impl<P: UnitPieces> Windows for CodeUnits<P> {
+    ghost means = { λ r. P.means r.pieces };
+
+    #[inline(always)]
+    fn store_window<B: UnitBuffer>(self, out: &mut B, src: &[u8]) -> usize {
+        if src.len() < 16 || out.capacity() - out.len() < WINDOW {
+            return 0;
+        }
+        2 * out.store_units(self.pieces, u8x16::from_slice(src))
     }
 }
 

@@ -10,10 +10,14 @@ use crate::buffer::{Buffer, UnitBuffer};
 use crate::pieces::Pieces;
 use crate::run::Run;
 use crate::unit_slice::{UnitSlice, append_each};
+use crate::windows::Windows;
 use std::simd::prelude::*;
 
-/// The least number of bytes, and the least room, for which characters are collected.
+/// The least room for which characters are collected.
 pub(crate) const SHORT: usize = 64;
+
+/// The least number of bytes for which characters are collected, and not window by window.
+pub(crate) const NEAR: usize = 96;
 
 /// The length of a buffer, if there is no table.
 pub(crate) const BUFFER: usize = 304;
@@ -93,7 +97,7 @@ impl<P: Pieces> Gather for OneByOne<P> {
 
     #[inline(always)]
     fn write_each<U: UnitSlice>(self, out: &mut U, src: &[u8]) -> usize {
-        append_each(out, self.pieces, src)
+        append_each(out, self, self.pieces, src)
     }
 
     /// Stops where no character is known to begin, and 16 bytes before the end of the room or 32
@@ -121,6 +125,10 @@ impl<P: Pieces> Gather for OneByOne<P> {
         }
         read
     }
+}
+
+impl<P: Pieces> Windows for OneByOne<P> {
+    ghost means = { λ r. P.means r.pieces };
 }
 
 impl<P: Pieces> Run for OneByOne<P> {}

@@ -12,6 +12,7 @@ use crate::pieces::{PairPieces, Pieces};
 use crate::run::Run;
 use crate::unit_slice::{UnitSlice, append_each, append_few};
 use crate::utf8_slice::Utf8Slice;
+use crate::windows::{WINDOW, Windows};
 use enc_utf8::{are_ascii, ends_of};
 use std::simd::prelude::*;
 
@@ -92,6 +93,37 @@ fn store_eight<B: UnitBuffer, P: PairPieces>(
     first + second
 }
 
+/// Stores the characters that begin in the first sixteen bytes of `src`, and lie in the first
+/// `len`. It stops at one that is not known. Returns their length in bytes.
+#[inline(always)]
+fn store_places<B: UnitBuffer, P: PairPieces>(
+    out: &mut B,
+    pieces: P,
+    src: &[u8],
+    len: usize,
+) -> usize
+    requires long { 17 ≤ length src.now }
+    requires room { 64 ≤ (B.output out.old).room }
+    ensures within { result ≤ len }
+    ensures puts { PutsPieces B.units_of (P.means pieces) (B.output out.old) (B.output out.new)
+        src.now result }
+{
+    let found = pieces.places(u8x16::from_slice(src), u8x16::from_slice(&src[1..]));
+    let places = found.places.to_array();
+    let mut leads = found.leads;
+    let mut read = 0;
+    while read < 16 {
+        let more = leads & 1;
+        let end = read + 1 + more as usize;
+        if len < end || !out.store_place(pieces, places[read]) {
+            break;
+        }
+        read = end;
+        leads >>= 1 + more;
+    }
+    read
+}
+
 /// Stores characters from the front of `src`, as `Gather::gather` does.
 #[inline(always)]
 fn gather_pairs<B: UnitBuffer, P: PairPieces>(out: &mut B, pieces: P, src: &[u8]) -> usize
@@ -159,7 +191,7 @@ impl<P: PairPieces> Gather for Pairs<P> {
 
     #[inline(always)]
     fn write_each<U: UnitSlice>(self, out: &mut U, src: &[u8]) -> usize {
-        append_each(out, self.pieces, src)
+        append_each(out, self, self.pieces, src)
     }
 
     #[inline(always)]
@@ -170,6 +202,23 @@ impl<P: PairPieces> Gather for Pairs<P> {
     #[inline(always)]
     fn gather_units(self, out: &mut Buffer<'_, u16>, src: &[u8]) -> usize {
         gather_pairs(out, self.pieces, src)
+    }
+}
+
+impl<P: PairPieces> Windows for Pairs<P> {
+    ghost means = { λ r. P.means r.pieces };
+
+    #[inline(always)]
+    fn store_window<B: UnitBuffer>(self, out: &mut B, src: &[u8]) -> usize {
+        if out.capacity() - out.len() < WINDOW {
+            return 0;
+        }
+        if 17 <= src.len() {
+            return store_places(out, self.pieces, src, 17);
+        }
+        let mut padded = [0; 17];
+        padded[..src.len()].copy_from_slice(src);
+        store_places(out, self.pieces, &padded, src.len())
     }
 }
 

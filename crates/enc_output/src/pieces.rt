@@ -2,11 +2,12 @@
 
 ghost use Rattle.std.specs.Prelude.{ℕ, ◌<◌, ◌≤◌, List, [], ◌∷◌, length, take, drop, IfSome, IsTrue};
 ghost use Rattle.enc_output.specs.PieceRuns.{PutsPieces};
-ghost use Rattle.enc_utf8.specs.Pieces.{AreWrittenAsThemselves};
+ghost use Rattle.enc_utf8.specs.Pieces.{AreWrittenAsThemselves, IsUtf8Char};
 ghost use Rattle.enc_output.specs.CodeUnits.{AreCodeUnits};
 ghost use Rattle.enc_output.specs.Pairs.{MeansWord, MeansUnit};
 ghost use Rattle.enc_output.specs.Places.{ArePlaces, IsPlace};
 
+use crate::gather::NEAR;
 use crate::places::Places;
 use crate::run::Run;
 use crate::units::Units;
@@ -112,9 +113,38 @@ pub trait UnitPieces: Pieces {
 /// Returns their length in bytes. It is a function of its own, so that the loop over bytes that
 /// calls it stays small enough to be inlined into the loop that replaces malformed sequences.
 #[inline(never)]
-pub fn put_run<U: Units, R: Run>(out: &mut U, run: R, src: &[u8]) -> usize
+fn put_rest<U: Units, R: Run>(out: &mut U, run: R, src: &[u8]) -> usize
     ensures { PutsPieces U.units_of (R.means run) (U.output out.old) (U.output out.new) src.now
         result }
 {
     out.put_pieces(run, src)
+}
+
+/// Writes well-formed UTF-8 from the front of `src`, as `put_utf8` of the output does. Returns its
+/// length.
+#[inline(never)]
+pub fn put_utf8_run<U: Units>(out: &mut U, src: &[u8]) -> usize
+    ensures { PutsPieces U.units_of IsUtf8Char (U.output out.old) (U.output out.new) src.now
+        result }
+{
+    out.put_utf8(src)
+}
+
+/// Writes characters from the front of `src`: of a short input first the ASCII, which is often all.
+///
+/// Returns their length in bytes.
+#[inline(never)]
+pub fn put_run<U: Units, R: Run>(out: &mut U, run: R, src: &[u8]) -> usize
+    ensures { PutsPieces U.units_of (R.means run) (U.output out.old) (U.output out.new) src.now
+        result }
+{
+    if NEAR < src.len() || !run.has_ascii() {
+        return put_rest(out, run, src);
+    }
+    let at = out.put_ascii(src);
+    if at == src.len() {
+        return at;
+    }
+    let (_, rest) = src.split_at(at);
+    at + put_rest(out, run, rest)
 }

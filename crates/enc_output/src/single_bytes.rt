@@ -1,6 +1,6 @@
 //! Characters of single bytes, with no branch on the length of their UTF-8.
 
-ghost use Rattle.std.specs.Prelude.{◌≡◌, ℕ, ◌+◌, ◌<◌, ◌≤◌, [], ◌∷◌, length, take, drop, IsTrue};
+ghost use Rattle.std.specs.Prelude.{◌≡◌, ℕ, ◌+◌, ◌*◌, ◌<◌, ◌≤◌, [], ◌∷◌, length, take, drop, IsTrue};
 ghost use Rattle.std.specs.Char.{encode_utf8};
 ghost use Rattle.std.specs.Char.Escape.{encode_utf16};
 ghost use Rattle.enc_output.specs.Output.{borrowed_output, buffer_output, room_in};
@@ -13,6 +13,7 @@ use crate::pieces::{BytePieces, Pieces};
 use crate::run::Run;
 use crate::unit_slice::{UnitSlice, append_each};
 use crate::utf8_slice::Utf8Slice;
+use crate::windows::{WINDOW, Windows};
 use enc_utf8::ascii_from;
 use std::simd::prelude::*;
 
@@ -34,24 +35,27 @@ const LANES: usize = 64;
 /// A turn writes at most 80 bytes, and may overwrite 64 after them.
 const TURN: usize = 144;
 
-/// Stores the UTF-8 of sixteen bytes. It stops at a byte that is no character. Returns the number
-/// of bytes read.
+/// Stores the characters of `count` bytes. It stops at a byte that has none. Returns the number of
+/// bytes read.
 #[inline(always)]
-fn store_bytes<P: BytePieces>(out: &mut Buffer<'_, u8>, pieces: P, src: &[u8], from: usize) -> usize
-    requires from { from + 16 ≤ length src.now }
-    requires room { 64 ≤ room_in out.old.len out.old.units }
-    ensures read { result ≤ 16 }
-    ensures puts { PutsPieces encode_utf8 (P.means pieces)
-        (buffer_output out.old.len out.old.units)
-        (buffer_output out.new.len out.new.units) (drop from src.now) result }
+fn store_bytes<B: UnitBuffer, P: BytePieces>(
+    out: &mut B,
+    pieces: P,
+    src: &[u8],
+    from: usize,
+    count: usize,
+) -> usize
+    requires from { from + count ≤ length src.now }
+    requires room { 4 * count ≤ (B.output out.old).room }
+    ensures read { result ≤ count }
+    ensures puts { PutsPieces B.units_of (P.means pieces) (B.output out.old) (B.output out.new)
+        (drop from src.now) result }
 {
     let mut read = 0;
-    while read < STEP {
-        let word = pieces.word(src[from + read]);
-        if word == 0 {
+    while read < count {
+        if !out.store_byte(pieces, src[from + read]) {
             break;
         }
-        out.store_word(word);
         read += 1;
     }
     read
@@ -146,7 +150,7 @@ fn store_turn<P: BytePieces>(
     let (_, rest) = src.split_at(from);
     let lanes = u8x64::from_slice(rest);
     if !pieces.has_ascii() || are_dense(lanes) {
-        let read = store_bytes(out, pieces, src, from);
+        let read = store_bytes(out, pieces, src, from, STEP);
         return (read, read == STEP);
     }
     store_hops(out, pieces, rest, lanes)
@@ -209,7 +213,7 @@ impl<P: BytePieces> Gather for SingleBytes<P> {
 
     #[inline(always)]
     fn write_each<U: UnitSlice>(self, out: &mut U, src: &[u8]) -> usize {
-        append_each(out, self.pieces, src)
+        append_each(out, self, self.pieces, src)
     }
 
     /// Stops at a byte that is no character, and 80 bytes before the end of the room or 16 before
@@ -230,7 +234,7 @@ impl<P: BytePieces> Gather for SingleBytes<P> {
             }
         }
         while out.len() <= most && STEP <= src.len() - read {
-            let more = store_bytes(out, pieces, src, read);
+            let more = store_bytes(out, pieces, src, read, STEP);
             read += more;
             if more < STEP {
                 break;
@@ -256,6 +260,23 @@ impl<P: BytePieces> Gather for SingleBytes<P> {
             }
         }
         read
+    }
+}
+
+impl<P: BytePieces> Windows for SingleBytes<P> {
+    ghost means = { λ r. P.means r.pieces };
+
+    /// Stores nothing if an ASCII byte comes next: one character costs less by itself.
+    #[inline(always)]
+    fn store_window<B: UnitBuffer>(self, out: &mut B, src: &[u8]) -> usize {
+        let alone = src.len() < 2 || src[1] < 0x80;
+        if alone || out.capacity() - out.len() < WINDOW {
+            return 0;
+        }
+        if 16 <= src.len() {
+            return store_bytes(out, self.pieces, src, 0, STEP);
+        }
+        store_bytes(out, self.pieces, src, 0, src.len())
     }
 }
 

@@ -6,8 +6,9 @@ ghost use Rattle.enc_output.specs.AsciiRun.{PutsAscii};
 ghost use Rattle.enc_output.specs.Output.{Output, with_appended};
 ghost use Rattle.enc_output.specs.PieceRuns.{PutsPieces};
 
-use crate::gather::Gather;
+use crate::gather::{Gather, NEAR};
 use crate::pieces::Pieces;
+use crate::windows::Windows;
 use std::simd::prelude::*;
 
 /// A slice that takes characters from its start on.
@@ -29,6 +30,12 @@ pub trait UnitSlice {
     /// Writes the ASCII at the front, as much as fits, and returns its length.
     fn append_ascii(&mut self, src: &[u8]) -> usize
         ensures { PutsAscii units_of (output self.old) (output self.new) src.now result };
+
+    /// Writes the characters that are stored as a window, if they fit. Returns their length in
+    /// bytes.
+    fn append_window<W: Windows>(&mut self, by: W, src: &[u8]) -> usize
+        ensures { PutsPieces units_of (W.means by) (output self.old) (output self.new) src.now
+            result };
 }
 
 /// Writes the ASCII at the front, as much as fits, if ASCII bytes are characters. Returns its
@@ -65,11 +72,18 @@ fn append_own<U: UnitSlice, P: Pieces>(out: &mut U, pieces: P, src: &[u8]) -> us
     out.append_ascii(&src[..own])
 }
 
-/// Writes the characters at the front one by one, but ASCII in runs. Returns their length in bytes.
+/// Writes the characters at the front: ASCII in runs, others by windows, and one by one where a
+/// window has none. Returns their length in bytes.
 ///
 /// It stops where no character is known to begin, or the next one does not fit.
 #[inline(always)]
-pub(crate) fn append_each<U: UnitSlice, P: Pieces>(out: &mut U, pieces: P, src: &[u8]) -> usize
+pub(crate) fn append_each<U: UnitSlice, W: Windows, P: Pieces>(
+    out: &mut U,
+    by: W,
+    pieces: P,
+    src: &[u8],
+) -> usize
+    requires same { (bytes : List ℕ) (c : ℕ) → W.means by bytes c → P.means pieces bytes c }
     ensures { PutsPieces U.units_of (P.means pieces) (U.output out.old) (U.output out.new) src.now
         result }
 {
@@ -80,6 +94,13 @@ pub(crate) fn append_each<U: UnitSlice, P: Pieces>(out: &mut U, pieces: P, src: 
         at += own;
         if own > 0 {
             continue;
+        }
+        if rest.len() < NEAR {
+            let more = out.append_window(by, rest);
+            at += more;
+            if more > 0 {
+                continue;
+            }
         }
         let Some((character, len)) = pieces.piece(src, at) else {
             return at;

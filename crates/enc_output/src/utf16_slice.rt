@@ -10,7 +10,7 @@ ghost use Rattle.enc_output.specs.PieceRuns.{PutsPieces};
 ghost use Rattle.enc_utf8.specs.Pieces.{IsUtf8Char};
 
 use crate::buffer::{Buffer, UnitBuffer};
-use crate::gather::{Gather, SHORT, UNITS_BUFFER};
+use crate::gather::{Gather, NEAR, OneByOne, SHORT, UNITS_BUFFER};
 use crate::laws::utf_16_units_determine_a_text;
 use crate::pieces::Pieces;
 use crate::run::Run;
@@ -19,6 +19,7 @@ use crate::units::Units;
 use crate::utf8_pieces::Utf8Pieces;
 use crate::utf8_units::write_units;
 use crate::widen::{is_nearly_ascii, widen_ascii};
+use crate::windows::{WINDOW, Windows};
 use enc_utf8::{char_len, utf8_front};
 use std::simd::prelude::*;
 
@@ -28,6 +29,9 @@ const PART: usize = 4096;
 
 /// The least number of bytes of UTF-8 that are written as a part.
 const FEW: usize = 24;
+
+/// The least room for which a window is stored: that of sixteen characters.
+const WINDOW_UNITS: usize = 16;
 
 /// A slice that takes UTF-16 from its start on.
 #[derive(Drop)]
@@ -110,7 +114,7 @@ impl<'a> Utf16Slice<'a> {
             (borrowed_output self.old.len self.old.dst)
             (borrowed_output self.new.len self.new.dst) src.now result }
     {
-        if src.len() < SHORT || self.dst.len() - self.len < SHORT {
+        if src.len() < NEAR || self.dst.len() - self.len < SHORT {
             return 0;
         }
         self.append_gathered(run, &mut [0; UNITS_BUFFER], src)
@@ -182,7 +186,15 @@ impl<'a> Utf16Slice<'a> {
             at += taken;
             let (_, next) = src.split_at(at);
             if taken == 0 {
-                return at + append_each(self, Utf8Pieces {}, next);
+                return at
+                    + append_each(
+                        self,
+                        OneByOne {
+                            pieces: Utf8Pieces {},
+                        },
+                        Utf8Pieces {},
+                        next,
+                    );
             }
             at += self.append_ascii(next);
         }
@@ -204,6 +216,21 @@ impl<'a> UnitSlice for Utf16Slice<'a> {
         let mut units = [0; 2];
         let text = c.encode_utf16(&mut units);
         self.append_units(text)
+    }
+
+    #[inline(always)]
+    fn append_window<W: Windows>(&mut self, by: W, src: &[u8]) -> usize {
+        if self.dst.len() - self.len < WINDOW_UNITS {
+            return 0;
+        }
+        let mut buffer = [0; WINDOW];
+        let mut window = Buffer::new(&mut buffer);
+        let read = by.store_window(&mut window, src);
+        let written = window.len();
+        if read == 0 || !self.append_units(&buffer[..written]) {
+            return 0;
+        }
+        read
     }
 
     #[inline(always)]

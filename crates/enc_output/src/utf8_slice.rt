@@ -9,11 +9,12 @@ ghost use Rattle.enc_output.specs.PieceRuns.{PutsPieces};
 ghost use Rattle.enc_utf8.specs.Pieces.{IsUtf8Char};
 
 use crate::buffer::{Buffer, UnitBuffer};
-use crate::gather::{Gather, SHORT};
+use crate::gather::{Gather, NEAR, SHORT};
 use crate::laws::utf_8_units_determine_a_text;
 use crate::run::Run;
 use crate::unit_slice::{UnitSlice, append_ascii_of};
 use crate::units::Units;
+use crate::windows::{WINDOW, Windows};
 use enc_utf8::{
     are_all_ascii, char_len, copy_ascii, four_bytes, three_bytes, two_bytes, utf8_front,
 };
@@ -22,6 +23,9 @@ use std::simd::prelude::*;
 /// The number of bytes of UTF-8 that are checked before they are copied: few enough to be in the
 /// nearest cache then.
 const PART: usize = 4096;
+
+/// The least room for which a window is stored: that of sixteen characters.
+const WINDOW_BYTES: usize = 48;
 
 /// Returns whether looking for a run of ASCII pays: the first 64 bytes are ASCII, or there are
 /// fewer. The output is the same either way.
@@ -172,7 +176,7 @@ impl<'a> Utf8Slice<'a> {
             (borrowed_output self.old.len self.old.dst)
             (borrowed_output self.new.len self.new.dst) src.now result }
     {
-        if src.len() < SHORT || self.dst.len() - self.len < SHORT {
+        if src.len() < NEAR || self.dst.len() - self.len < SHORT {
             return run.write_each(self, src);
         }
         if run.has_ascii() && begins_as_ascii(src) {
@@ -201,6 +205,21 @@ impl<'a> UnitSlice for Utf8Slice<'a> {
             return self.append(&three_bytes(c));
         }
         self.append(&four_bytes(c))
+    }
+
+    #[inline(always)]
+    fn append_window<W: Windows>(&mut self, by: W, src: &[u8]) -> usize {
+        if self.dst.len() - self.len < WINDOW_BYTES {
+            return 0;
+        }
+        let mut buffer = [0; WINDOW];
+        let mut window = Buffer::new(&mut buffer);
+        let read = by.store_window(&mut window, src);
+        let written = window.len();
+        if read == 0 || !self.append(&buffer[..written]) {
+            return 0;
+        }
+        read
     }
 
     #[inline(always)]

@@ -9,4 +9,4 @@ use Rattle.enc_decoder_utf.proofs.utf_8.Utf8DecoderPrefixCodec.put_front.Goals a
 pub returns : goal.returns
 returns g c =
     puts_as g.U.Units.units_of IsUtf8Char (IsWholeChar (prefix_rule utf_8_prefix) 0) _ _ _ _
-    utf8_prefix_piece c.put_utf8.ensures
+    utf8_prefix_piece c.put_utf8_run.ensures
