@@ -11,6 +11,7 @@ import os
 import resource
 from statistics import median
 import subprocess
+import textwrap
 
 import corpora
 import counts
@@ -214,7 +215,7 @@ def summary(every):
                          ("time", [it.by_time() for it in every])):
         less, much = (sum(holds(it) for it in ratios) for holds in (is_less, lambda it: it >= 1.295))
         parts.append(f"by {name} {less} are below 1.00, the least has {min(ratios):.2f}, and {much} have 1.30 and more")
-    return f"Of {len(every)} cells, {'; '.join(parts)}."
+    return textwrap.fill(f"Of {len(every)} cells, {'; '.join(parts)}.", 120)
 
 
 def text(circumstances, directions, label):
@@ -223,9 +224,9 @@ def text(circumstances, directions, label):
     parts = [circumstances, f"![{PICTURE}](speed-calls.svg)", summary(every)]
     for name, kinds, rows in directions:
         parts += [table(f"{name}, {title}", rows, number, chunks) for number, (_, chunks, title) in enumerate(kinds)]
-    parts.append(f"`Encoding::for_label` takes {label.nanoseconds():.0f} ns and {label.instructions[0]:.0f} instructions "
-                 f"a label, at {label.by_time():.2f} times the rate of the crate, which executes "
-                 f"{label.by_instructions():.2f} times as many.")
+    parts.append(textwrap.fill(
+        f"`Encoding::for_label` takes {label.nanoseconds():.0f} ns and {label.instructions[0]:.0f} instructions a label, at "
+        f"{label.by_time():.2f} times the rate of the crate, which executes {label.by_instructions():.2f} times as many.", 120))
     return "\n\n".join(parts)
 
 
