@@ -110,8 +110,8 @@ pub trait UnitPieces: Pieces {
 
 /// Writes characters from the front of `src`, as `put_pieces` of the output does.
 ///
-/// Returns their length in bytes. It is a function of its own, so that the loop over bytes that
-/// calls it stays small enough to be inlined into the loop that replaces malformed sequences.
+/// Returns their length in bytes. It is a function of its own, so that `put_run` saves few
+/// registers and clears no buffer where all is ASCII.
 #[inline(never)]
 fn put_rest<U: Units, R: Run>(out: &mut U, run: R, src: &[u8]) -> usize
     ensures { PutsPieces U.units_of (R.means run) (U.output out.old) (U.output out.new) src.now
@@ -132,7 +132,8 @@ pub fn put_utf8_run<U: Units>(out: &mut U, src: &[u8]) -> usize
 
 /// Writes characters from the front of `src`: of a short input first the ASCII, which is often all.
 ///
-/// Returns their length in bytes.
+/// Returns their length in bytes. It is a function of its own, so that the loop over bytes that
+/// calls it stays small enough to be inlined into the loop that replaces malformed sequences.
 #[inline(never)]
 pub fn put_run<U: Units, R: Run>(out: &mut U, run: R, src: &[u8]) -> usize
     ensures { PutsPieces U.units_of (R.means run) (U.output out.old) (U.output out.new) src.now
