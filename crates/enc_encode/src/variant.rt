@@ -11,7 +11,7 @@ use crate::encoders::shift_jis::ShiftJisEncoder;
 use crate::encoders::single_byte::SingleByteEncoder;
 use crate::encoders::utf_8::Utf8Encoder;
 use crate::encoders::x_user_defined::XUserDefinedEncoder;
-use enc_encoder::{ByteLengths, EncoderOutcome, RawEncoder};
+use enc_encoder::{Begun, ByteLengths, EncoderOutcome, RawEncoder};
 use enc_input::Chars;
 
 /// An encoder of any encoding. It does what the encoder in it does.
@@ -61,8 +61,13 @@ impl RawEncoder for VariantEncoder {
 
     ghost formulas = { variant_encoder_lengths };
 
-    fn encode<C: Chars>(&mut self, src: &mut C, dst: &mut [u8], last: bool) -> EncoderOutcome {
-        by_encoder!(self, encoder => encoder.encode(src, dst, last))
+    #[inline(always)]
+    fn write_first<C: Chars>(&self, src: &mut C, dst: &mut [u8]) -> usize {
+        by_encoder!(self, encoder => encoder.write_first(src, dst))
+    }
+
+    fn encode_on<C: Chars>(&mut self, src: &mut C, dst: &mut [u8], begun: Begun) -> EncoderOutcome {
+        by_encoder!(self, encoder => encoder.encode_on(src, dst, begun))
     }
 
     fn has_pending_state(&self) -> bool {

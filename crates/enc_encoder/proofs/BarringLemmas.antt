@@ -1,14 +1,12 @@
 -- Encodings from which characters are barred keep their laws.
 use Rattle.std.proofs.Common.{◌≡◌, ℕ, ◌<◌, ◌≤◌, Bool, true, false, ◌==◌, ◌&&◌, nat_le, Option, None, List, []}
-use Rattle.std.proofs.Common.{◌∷◌, length, refl, sym, subst, arith, eqb-true, if◌then◌else◌, inl, inr}
+use Rattle.std.proofs.Common.{◌∷◌, length, refl, ap, ◌∙◌, sym, arith, eqb-true, if◌then◌else◌, inl, inr}
 use Rattle.std.specs.Cmp.{first_so, second_so}
 use Rattle.std.proofs.lemmas.Bool.{and_right, or_cases}
 use Rattle.std.proofs.lemmas.Bool.Decides.{nat_tests}
 use Rattle.enc_encoder.specs.declared.byte_lengths.ByteLengths.{ByteLengths}
-use Rattle.enc_encoder.specs.declared.character_set.CharacterSet.TheVariants.{Ascii}
-use Rattle.enc_encoder.specs.EncoderRule.{EncoderRule, RawEncoderState, IsLawfulEncoderRule, AreAtMostFour}
+use Rattle.enc_encoder.specs.EncoderRule.{EncoderRule, IsLawfulEncoderRule, AreAtMostFour}
 use Rattle.enc_encoder.specs.Stateless.{WritesAscii, KeepsLengths, IsLawfulRepertoire}
-use Rattle.enc_encoder.specs.Stateless.{stateless_rule, stateless_state}
 use Rattle.enc_encoder.specs.Barring.{contains_char, is_barred, are_beyond_ascii, bytes_unless_barred, barring_rule}
 use Rattle.enc_encoder.proofs.SizeLemmas.{size}
 use Rattle.enc_encoder.proofs.StatelessLemmas.{of_references_is_ascii}
@@ -85,20 +83,12 @@ and_if false t follows = refl
 pub barred_is : (b : List ℕ) (c : ℕ) → are_beyond_ascii b ≡ true → is_barred b c ≡ contains_char b c
 barred_is b c all_beyond = and_if (contains_char b c) (nat_le 0x80 c) (beyond b c all_beyond)
 
--- a call of the encoder without a list is one of the encoder with an empty list
+-- an empty list bars none
 
 pub none_barred : (b : List ℕ) → true ≡ (length b == 0) → b ≡ []
 none_barred [] h = refl
 none_barred (x ∷ b) h = absurd (omega (arith, eqb-true (length (x ∷ b)) 0 (sym h)))
 
-pub unlisted : (P : RawEncoderState → RawEncoderState → Type 0) (f f' h : ℕ → Option (List ℕ))
-    (b : List ℕ) → b ≡ []
-    → f ≡ f'
-    → stateless_rule h ≡ stateless_rule f
-    → P (stateless_state f) (stateless_state h)
-    → P (stateless_state (bytes_unless_barred b f')) (stateless_state (bytes_unless_barred b f'))
-unlisted P f f' h b e q r c =
-    subst (λ b. P (stateless_state (bytes_unless_barred b f'))
-    (stateless_state (bytes_unless_barred b f'))) (sym e)
-    (subst (λ f. P (stateless_state f) (stateless_state f)) q (subst (λ r. P (stateless_state f)
-    (record { rule = r; set = Ascii })) r c))
+pub unlisted : (f f' : ℕ → Option (List ℕ)) (b : List ℕ) → b ≡ [] → f ≡ f'
+    → f ≡ bytes_unless_barred b f'
+unlisted f f' b none same = same ∙ ap (λ b. bytes_unless_barred b f') (sym none)

@@ -15,6 +15,7 @@ pub mod ReferenceLemmas
 pub mod ReferenceStopLemmas
 pub mod RawCallLemmas
 pub mod SliceLemmas
+pub mod BegunLemmas
 pub mod ReferenceTurnLemmas
 pub mod ReferenceCallLemmas
 pub mod UnmappableLemmas

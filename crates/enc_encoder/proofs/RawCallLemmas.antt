@@ -1,41 +1,27 @@
 -- A call of the raw encoder is a call in an error mode, without replacement or where no character
 -- is unmappable.
-use Rattle.std.proofs.Common.{◌≡◌, ℕ, ◌-◌, ◌≤◌, ◌⊎◌, inl, inr, Bool, false, ◌&&◌, List}
-use Rattle.std.proofs.Common.{length, drop, take, refl, ap, ◌∙◌, sym, subst, arith}
+use Rattle.std.proofs.Common.{◌≡◌, ℕ, ◌+◌, ◌-◌, ◌≤◌, ◌⊎◌, inl, inr, Bool, true, false, ◌&&◌, List, []}
+use Rattle.std.proofs.Common.{length, refl, ap, ◌∙◌, sym, subst, arith, append-nil}
 use Rattle.std.proofs.lemmas.Bool.{false≢true}
 use Rattle.enc_input.specs.declared.encoder_result.EncoderResult.{EncoderResult}
 use Rattle.enc_input.specs.declared.encoder_result.EncoderResult.TheVariants.{InputEmpty, OutputFull, Unmappable}
-use Rattle.enc_encoder.specs.EncoderRule.{RawEncoderState}
+use Rattle.enc_encoder.specs.declared.character_set.CharacterSet.TheVariants.{Ascii}
+use Rattle.enc_encoder.specs.EncoderRule.{RawEncoderState, IsLawfulEncoderRule}
 use Rattle.enc_utf8.specs.Text.{units_of_text}
-use Rattle.enc_encoder.specs.Steps.{Step, step_chars, any_reported}
+use Rattle.enc_encoder.specs.Steps.{Step, step_chars, step_bytes, any_reported}
 use Rattle.enc_encoder.specs.Text.{KeepsText}
-use Rattle.enc_encoder.specs.Writes.{Leaves, Adds, Place, place}
+use Rattle.enc_encoder.specs.Writes.{Leaves, Adds, Place, place, Writes}
 use Rattle.enc_encoder.specs.Call.{EncoderCallInto, EncoderStops}
-use Rattle.enc_encoder.specs.ErrorMode.{EncodeErrorMode, Fatal, Html, IsCallInMode, MapsEveryCharacter}
+use Rattle.enc_encoder.specs.ErrorMode.{EncodeErrorMode, Fatal, Html, CallOnto, MapsEveryCharacter}
 use Rattle.enc_encoder.specs.ErrorMode.{StopsInHtmlMode, StopsInMode, StepsFitInMode, bytes_in_mode, is_html_mode}
-use Rattle.enc_encoder.specs.ErrorMode.{mode_of}
+use Rattle.enc_encoder.specs.ErrorMode.{mode_of, kept_in}
 use Rattle.enc_encoder.specs.declared.error_mode.ErrorMode.{ErrorMode}
 use Rattle.enc_encoder.specs.declared.error_mode.ErrorMode.TheVariants as code
 use Rattle.enc_encoder.proofs.UnmappableLemmas.{any_reported_is, none_unmappable}
 use Rattle.enc_encoder.proofs.LeavesLemmas.{leaves_of, written_bytes, rest_stays}
-use Rattle.enc_encoder.proofs.TextLemmas.{unreferred, is_reported}
+use Rattle.enc_encoder.proofs.TextLemmas.{unreferred, is_reported, keeps_text}
+use Rattle.enc_encoder.proofs.MachineLemmas.{units_read}
 use Rattle.enc_encoder.proofs.ReferenceStopLemmas.{all_fit, unreported_before, none_left}
-
--- a call in an error mode that writes to the start of a slice
-pub record CallOnto (units_of : ℕ → List ℕ) (mode : EncodeErrorMode) (last : Bool)
-    (from to : Place) (result : EncoderResult) (read : ℕ) (replaced : Bool) : Type 0 where
-  pub within : to.written ≤ length from.slice
-  pub rest_stays : drop to.written to.slice ≡ drop to.written from.slice
-  pub call : IsCallInMode units_of from.state to.state to.rest (record {
-    src = from.rest;
-    last = last;
-    mode = mode;
-    room = length from.slice;
-    result = result;
-    read = read;
-    wrote = take to.written to.slice;
-    replaced = replaced;
-  })
 
 -- these steps, and the bytes that a call in the mode writes of them
 module _ {last : Bool} {old : RawEncoderState} {src slice : List ℕ} {to : Place}
@@ -119,3 +105,40 @@ module _ {units_of : ℕ → List ℕ} {last : Bool} {old : RawEncoderState} {sr
   unreplaced_call code.HtmlOfMappable mode_is maps_all = mappable_call (maps_all refl)
   unreplaced_call code.Html (inl mode_is) maps_all = cc
   unreplaced_call code.Html (inr mode_is) maps_all = cc
+
+-- A first run takes all characters, no escape sequence is due after it, and the part that is kept
+-- free is left.
+module _ {last : Bool} {old : RawEncoderState} {src slice : List ℕ} {to : Place}
+    (writes : Writes last (place old src slice 0) to) (all_read : to.rest ≡ []) where
+  all_units : (units_of : ℕ → List ℕ) (count : ℕ) → count ≡ length (units_of_text units_of src)
+      → count ≡ length (units_of_text units_of (step_chars writes.done))
+  all_units units_of count counted =
+      let read = (units_read units_of (step_chars writes.done) to.rest writes.leaves.reads counted
+      (ap (λ t. length (units_of_text units_of t)) (sym all_read))).1 in
+      omega (arith, read)
+
+  keeps : IsLawfulEncoderRule old.rule
+      → KeepsText old to.state src to.rest last InputEmpty (step_bytes writes.done)
+  keeps lawful = keeps_text writes.leaves lawful InputEmpty (step_bytes writes.done)
+      (unreferred writes.done writes.none_reported ∙ sym (append-nil (step_bytes writes.done)))
+
+  pub run_call : {units_of : ℕ → List ℕ} {count : ℕ} (mode : EncodeErrorMode)
+      → IsLawfulEncoderRule old.rule → count ≡ length (units_of_text units_of src)
+      → (last ≡ true → to.state.set ≡ Ascii) → to.written + kept_in mode ≤ length slice
+      → CallOnto units_of mode last (place old src slice 0) to InputEmpty count false
+  run_call {units_of} {count} Fatal lawful counted ended room =
+      onto writes.leaves writes.adds Fatal InputEmpty refl
+      (omega (arith, writes.adds.count, writes.adds.fits)) refl
+      (record { none_reported = writes.none_reported; all_read = all_read; ended = ended })
+      (all_units units_of count counted) (keeps lawful)
+  run_call {units_of} {count} (Html kept) lawful counted ended room =
+      let done = writes.done in
+      let none = writes.none_reported in
+      let limit = length slice - kept in
+      onto writes.leaves writes.adds (Html kept) InputEmpty (sym (unreferred done none)) (
+        all_fit limit 0 done (unreported_before limit 0 done none
+            (omega (arith, room, writes.adds.count))),
+        λ small. absurd (omega (arith, room, small)),
+      )
+      (sym none) (none_left to.state to.rest last all_read ended)
+      (all_units units_of count counted) (keeps lawful)

@@ -2,15 +2,19 @@
 -- reference to the character that it reports.
 use Rattle.std.proofs.Common.{◌≡◌, ℕ, ◌+◌, ◌-◌, ◌<◌, ◌≤◌, Bool, true, false, ◌||◌, is_some, Option, List, [], ◌∷◌}
 use Rattle.std.proofs.Common.{◌++◌, length, take, drop, refl, ap, ◌∙◌, sym, subst, arith, append_assoc}
-use Rattle.std.proofs.Common.{length-drop}
+use Rattle.std.proofs.Common.{length-drop, length-append}
 use Rattle.std.proofs.lemmas.List.{length-take}
 use borrow.Rule.Slice.PartMut.{put_mid}
+use Rattle.enc_utf8.specs.Text.{units_of_text}
 use Rattle.enc_input.specs.declared.encoder_result.EncoderResult.{EncoderResult}
-use Rattle.enc_input.specs.declared.encoder_result.EncoderResult.TheVariants.{Unmappable}
+use Rattle.enc_input.specs.declared.encoder_result.EncoderResult.TheVariants.{InputEmpty, OutputFull, Unmappable}
+use Rattle.enc_encoder.specs.declared.begun.Begun.{Begun}
+use Rattle.enc_encoder.specs.EncoderRule.{RawEncoderState, IsLawfulEncoderRule}
 use Rattle.enc_encoder.specs.Text.{reference, reference_after}
-use Rattle.enc_encoder.specs.Steps.{Step, any_reported, bytes_with_references}
+use Rattle.enc_encoder.specs.Steps.{Step, steps_from_state, any_reported, bytes_with_references}
 use Rattle.enc_encoder.specs.Writes.{Leaves, Adds, Place, place}
 use Rattle.enc_encoder.specs.Call.{EncoderCall, EncoderCallInto}
+use Rattle.enc_encoder.specs.Begun.{HasBegun}
 use Rattle.enc_encoder.specs.ErrorMode.{StepFits, StepsFit, ends_in_report}
 use Rattle.std.proofs.Math.Bool.{or-true, or-false}
 use Rattle.enc_encoder.proofs.StepLemmas.{any_reported-append}
@@ -19,7 +23,8 @@ use Rattle.enc_encoder.proofs.TextLemmas.{bytes_with_references-append, unreferr
 use Rattle.enc_encoder.proofs.TextLemmas.{is_reported}
 use Rattle.enc_encoder.proofs.ReferenceStopLemmas.{FitsBefore, AllBefore, fits-append, before-append, all_fit}
 use Rattle.enc_encoder.proofs.ReferenceStopLemmas.{unreported_before}
-use Rattle.enc_encoder.proofs.SliceLemmas.{adds_in_part}
+use Rattle.enc_encoder.proofs.MachineLemmas.{units_read}
+use Rattle.enc_encoder.proofs.SliceLemmas.{adds_in_part, adds_in_front, past_stays}
 
 -- Steps lead from one place to another, and a reference is written for each report. All fit before
 -- a limit, except that a last reference may reach it.
@@ -205,3 +210,132 @@ module _ {last : Bool} {limit : ℕ} {from now next : Place} {replaced : Bool}
         below = omega (arith, below);
         within = omega (arith, turns.within, same_length encodes.adds, same_length adds);
       }
+
+-- Turns, and the call of the raw encoder in the present one.
+pub record Turned (last : Bool) (limit : ℕ) (from to : Place) (replaced : Bool)
+    (result : EncoderResult) : Type 0 where
+  pub now : Place
+  pub turns : Turns last limit from now replaced
+  pub encodes : EncodesTo last (limit - now.written) now to result
+  pub lawful : IsLawfulEncoderRule now.state.rule
+
+pub lawful_before : {last : Bool} {limit : ℕ} {from to : Place} {replaced : Bool}
+    {result : EncoderResult} → Turned last limit from to replaced result
+    → IsLawfulEncoderRule from.state.rule
+lawful_before turned = subst IsLawfulEncoderRule turned.turns.refers.leaves.rule turned.lawful
+
+module _ {units_of : ℕ → List ℕ} {begun : Begun} {v : RawEncoderState} {rest slice : List ℕ}
+    (start : HasBegun units_of begun v rest slice) where
+  -- no more code units are left than were given
+  pub fewer_left : {limit : ℕ} {to : Place} {replaced : Bool} {result : EncoderResult}
+      → Turned begun.last limit (place v start.given start.before 0) to replaced result → {b : ℕ}
+      → b ≡ length (units_of_text units_of to.rest) → b ≤ begun.given
+  fewer_left turned left_count =
+      let leaves = leaves_on turned.turns.refers.leaves (leaves_of turned.encodes.call) in
+      (units_read units_of _ _ leaves.reads start.counted left_count).0
+
+  -- the slice that the call began with has the same length
+  pub from_start : (kept : ℕ) {last : Bool} {from to : Place} {replaced : Bool}
+      {result : EncoderResult} → Turned last (length slice - kept) from to replaced result
+      → Turned last (length start.before - kept) from to replaced result
+  from_start kept {last} {from} {to} {replaced} {result} =
+      subst (λ n. Turned last (n - kept) from to replaced result)
+      (same_length start.writes.adds)
+
+-- the part that is kept free has room for a reference
+pub reference_fits : {units_of : ℕ → List ℕ} {begun : Begun} {v : RawEncoderState}
+    {rest slice : List ℕ} (start : HasBegun units_of begun v rest slice)
+    → begun.written + 10 ≤ length slice → {to : Place} {replaced : Bool} {result : EncoderResult}
+    → Turned begun.last (length slice - 10) (place v start.given start.before 0) to replaced result
+    → to.written + 10 ≤ length to.slice
+reference_fits start room turned =
+    let turns = same_length turned.turns.refers.adds in
+    let encodes = same_length turned.encodes.adds in
+    omega (
+      arith,
+      room,
+      in_limit turned.turns turned.encodes,
+      same_length start.writes.adds,
+      turns,
+      encodes,
+    )
+
+-- the first turn, on the front of the slice
+pub first_turn : {units_of : ℕ → List ℕ} {begun : Begun} {v : RawEncoderState}
+    {rest slice : List ℕ} (start : HasBegun units_of begun v rest slice) (limit : ℕ)
+    → begun.written ≤ limit → limit ≤ length slice → IsLawfulEncoderRule v.rule → {to : Place}
+    {result : EncoderResult} {read : ℕ}
+    → EncoderCallInto units_of begun.last (place v start.given (take limit start.before) 0) to
+    result read
+    → Turned begun.last limit (place v start.given start.before 0)
+    (place to.state to.rest (to.slice ++ drop limit slice) to.written) false result
+first_turn {begun = begun} {v} {slice = slice} start limit below within lawful {to} {result}
+    encoded =
+    let from = place v start.given start.before 0 in
+    let whole : limit ≤ length start.before =
+    omega (arith, within, same_length start.writes.adds) in
+    let room : length (take limit start.before) ≡ limit - 0 =
+    rw length-take (omega (arith, whole)) in
+    let past = past_stays limit start.writes.adds below in
+    record {
+      now = from;
+      turns = no_turn begun.last limit from (omega arith) whole;
+      encodes = record {
+        wrote = encoded.wrote;
+        adds = rw past (adds_in_front limit whole encoded.adds);
+        call = subst (λ (x : ℕ). EncoderCall v to.state start.given to.rest begun.last x result
+            encoded.wrote) room encoded.call;
+      };
+      lawful = lawful;
+    }
+
+-- the next turn, after the reference to a character
+pub turn_after : {units_of : ℕ → List ℕ} {last : Bool} {limit : ℕ} {from next : Place}
+    {replaced : Bool} {k : ℕ} → Turned last limit from next replaced (Unmappable k)
+    → {slice : List ℕ} {written : ℕ} → Adds next.slice slice next.written written (reference k)
+    → written < limit → IsLawfulEncoderRule next.state.rule → {to : Place}
+    {result : EncoderResult} {read : ℕ}
+    → EncoderCallInto units_of last (place next.state next.rest
+    (take (limit - written) (drop written slice)) 0) to result read
+    → Turned last limit from (place to.state to.rest
+    (put_mid written (limit - written) slice to.slice) (written + to.written)) true result
+turn_after {next = next} turned {slice} {written} adds below lawful encoded =
+    let turns = next_turn turned.turns turned.encodes adds below in
+    record {
+      now = place next.state next.rest slice written;
+      turns = turns;
+      encodes = encodes_part turns encoded;
+      lawful = lawful;
+    }
+
+-- The steps left, and one more for a report, are at most those before the call.
+abbrev pub turns_left : EncoderResult → ℕ → ℕ
+turns_left InputEmpty steps = steps
+turns_left OutputFull steps = steps
+turns_left (Unmappable c) steps = steps + 1
+
+pub fewer_turns : {old new : RawEncoderState} {src rest : List ℕ} {last : Bool} {room : ℕ}
+    (result : EncoderResult) {wrote : List ℕ} → EncoderCall old new src rest last room result wrote
+    → turns_left result (length (steps_from_state new last rest))
+    ≤ length (steps_from_state old last src)
+fewer_turns {new = new} {rest = rest} {last} InputEmpty call =
+    omega (
+      arith,
+      ap length call.remaining,
+      length-append call.done (steps_from_state new last rest),
+    )
+fewer_turns {new = new} {rest = rest} {last} OutputFull call =
+    omega (
+      arith,
+      ap length call.remaining,
+      length-append call.done (steps_from_state new last rest),
+    )
+fewer_turns {new = new} {rest = rest} {last} (Unmappable c) call =
+    let stops = call.stops in
+    omega (
+      arith,
+      ap length call.remaining,
+      ap length stops.then_report,
+      length-append call.done (steps_from_state new last rest),
+      length-append stops.before (stops.report ∷ []),
+    )

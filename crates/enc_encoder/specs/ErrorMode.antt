@@ -1,7 +1,7 @@
 -- Calls of an encoder, by error mode, and their treatment of unmappable characters (Encoding
 -- Standard 4.1, "process an item", error modes "fatal" and "html").
 use Rattle.std.specs.Prelude.{◌≡◌, ℕ, ◌+◌, ◌-◌, ◌<◌, ◌≤◌, ◌⊎◌, Bool, true, false, not, ◌&&◌, Option, Some, None}
-use Rattle.std.specs.Prelude.{is_some, List, [], ◌∷◌, ◌++◌, length}
+use Rattle.std.specs.Prelude.{is_some, List, [], ◌∷◌, ◌++◌, length, take, drop}
 use Rattle.enc_utf8.specs.Text.{units_of_text}
 use Rattle.enc_input.specs.declared.encoder_result.EncoderResult.{EncoderResult}
 use Rattle.enc_input.specs.declared.encoder_result.EncoderResult.TheVariants.{InputEmpty, OutputFull, Unmappable}
@@ -11,6 +11,7 @@ use Rattle.enc_encoder.specs.EncoderRule.{EncoderRule, RawEncoderState, is_escap
 use Rattle.enc_encoder.specs.Text.{KeepsText}
 use Rattle.enc_encoder.specs.Steps.{Step, steps_from_state, step_chars, step_bytes, bytes_with_references, any_reported}
 use Rattle.enc_encoder.specs.Steps.{set_after_steps, reference_for_report}
+use Rattle.enc_encoder.specs.Writes.{Place}
 use Rattle.enc_encoder.specs.Call.{EncoderStops}
 
 -- The error mode of a call: stop at an unmappable character and report it, or write a reference.
@@ -24,6 +25,11 @@ abbrev pub mode_of : ErrorMode → EncodeErrorMode
 mode_of mode.Fatal = Fatal
 mode_of mode.Html = Html 10
 mode_of mode.HtmlOfMappable = Html 0
+
+-- the number of bytes that are kept free at the end of the output
+abbrev pub kept_in : EncodeErrorMode → ℕ
+kept_in Fatal = 0
+kept_in (Html kept) = kept
 
 -- whether references are written
 abbrev pub is_html_mode : EncodeErrorMode → Bool
@@ -142,3 +148,19 @@ pub record IsCallInMode (units_of : ℕ → List ℕ) (old new : RawEncoderState
   pub stops : StopsInMode c.mode new rest c.last c.room done c.result
   pub units : c.read ≡ length (units_of_text units_of (step_chars done))
   pub text : KeepsText old new c.src rest c.last c.result c.wrote
+
+-- A call in an error mode that writes to the start of a slice. Its other bytes are unchanged.
+pub record CallOnto (units_of : ℕ → List ℕ) (mode : EncodeErrorMode) (last : Bool)
+    (from to : Place) (result : EncoderResult) (read : ℕ) (replaced : Bool) : Type 0 where
+  pub within : to.written ≤ length from.slice
+  pub rest_stays : drop to.written to.slice ≡ drop to.written from.slice
+  pub call : IsCallInMode units_of from.state to.state to.rest (record {
+    src = from.rest;
+    last = last;
+    mode = mode;
+    room = length from.slice;
+    result = result;
+    read = read;
+    wrote = take to.written to.slice;
+    replaced = replaced;
+  })

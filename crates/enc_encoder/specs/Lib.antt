@@ -10,6 +10,7 @@ pub mod CharLaw
 pub mod Stateless
 pub mod Barring
 pub mod Runs
+pub mod Begun
 pub mod ErrorMode
 pub mod Unmappable
 pub mod Replacing

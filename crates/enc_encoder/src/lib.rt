@@ -4,6 +4,7 @@
 #![tactic(auto)]
 
 mod barring;
+mod begun;
 mod byte_lengths;
 mod char_encoder;
 mod character_set;
@@ -21,12 +22,13 @@ mod transition;
 mod transitions;
 
 pub use barring::{BarredChars, Barring, CharList, NoChars};
+pub use begun::Begun;
 pub use byte_lengths::ByteLengths;
 pub use char_encoder::CharEncoder;
 pub use character_set::CharacterSet;
 pub use error_mode::ErrorMode;
 pub use lawful_repertoire::LawfulRepertoire;
-pub use machine::run;
+pub use machine::run_on;
 pub use made_bytes::{four, one, two};
 pub use outcome::EncoderOutcome;
 pub use raw_encoder::RawEncoder;

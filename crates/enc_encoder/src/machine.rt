@@ -4,11 +4,11 @@ ghost use Rattle.std.specs.Prelude.{◌≡◌, ℕ, ◌+◌, ◌-◌, ◌<◌, �
 ghost use Rattle.std.specs.Prelude.{IsTrue, IsFalse};
 ghost use Rattle.enc_input.specs.Bytes.{byte_list};
 ghost use Rattle.enc_encoder.specs.CharLaw.{IsStepAtEnd, IsNextStepOfCall};
-ghost use Rattle.enc_encoder.specs.Call.{EncoderCallInto};
+ghost use Rattle.enc_encoder.specs.Begun.{HasBegun, EndsCall};
 ghost use Rattle.enc_encoder.specs.Writes.{place};
 ghost use Rattle.enc_encoder.specs.EncoderRule.{IsLawfulEncoderRule};
-ghost use Rattle.enc_encoder.specs.Runs.{WritesRun};
 
+use crate::begun::Begun;
 use crate::char_encoder::CharEncoder;
 use crate::character_set::CharacterSet;
 use crate::outcome::EncoderOutcome;
@@ -60,49 +60,32 @@ fn put(dst: &mut [u8], written: usize, bytes: Bytes) -> bool
     true
 }
 
-/// Writes the first characters as [`CharEncoder::write_run`] does, if the first is ASCII.
-///
-/// Returns the number of bytes written. A character beyond ASCII has a step of its own: it may be
-/// unmappable.
-#[tactic(auto, using(crate::proofs::RunLemmas::writes_none))]
-#[inline(always)]
-fn first_run<E: CharEncoder, C: Chars>(encoder: E, src: &mut C, dst: &mut [u8]) -> usize
-    ensures { WritesRun (E.state encoder) (C.rest src.old) (C.rest src.new) dst.old dst.new 0
-        result }
-{
-    if src.begins_with_ascii() {
-        encoder.write_run(src, dst, 0)
-    } else {
-        0
-    }
-}
-
-/// Encodes by an encoder that takes one character at a time: the loop of every encoder's call.
+/// Goes on with a call of an encoder that takes one character at a time: the loop of every
+/// encoder's call.
 ///
 /// It stops when all characters are read, the bytes that come next do not fit, or a character is
 /// unmappable.
-pub fn run<E: CharEncoder, C: Chars>(
+pub fn run_on<E: CharEncoder, C: Chars>(
     encoder: &mut E,
     src: &mut C,
     dst: &mut [u8],
-    last: bool,
+    begun: Begun,
 ) -> EncoderOutcome
     requires lawful { IsLawfulEncoderRule (E.state encoder.old).rule }
-    ensures call { EncoderCallInto C.units_of last
-        (place (E.state encoder.old) (C.rest src.old) dst.old 0)
+    requires begun { HasBegun C.units_of begun (E.state encoder.old) (C.rest src.old) dst.old }
+    ensures call { EndsCall C.units_of begun (E.state encoder.old) (C.rest src.old) dst.old
         (place (E.state encoder.new) (C.rest src.new) dst.new result.written)
         result.result result.read }
     ensures replaced { result.replaced ≡ false }
 {
-    let unread = src.unread();
     let mut state = *encoder;
-    let mut written = first_run(state, src, dst);
+    let mut written = begun.written;
     loop {
-        let Some(taken) = what_comes(state, src, last) else {
+        let Some(taken) = what_comes(state, src, begun.last) else {
             *encoder = state;
             return EncoderOutcome {
                 result: EncoderResult::InputEmpty,
-                read: unread - src.unread(),
+                read: begun.given - src.unread(),
                 written,
                 replaced: false,
             };
@@ -112,7 +95,7 @@ pub fn run<E: CharEncoder, C: Chars>(
             *encoder = taken.next;
             return EncoderOutcome {
                 result: EncoderResult::Unmappable(c),
-                read: unread - src.unread(),
+                read: begun.given - src.unread(),
                 written,
                 replaced: false,
             };
@@ -121,7 +104,7 @@ pub fn run<E: CharEncoder, C: Chars>(
             *encoder = state;
             return EncoderOutcome {
                 result: EncoderResult::OutputFull,
-                read: unread - src.unread(),
+                read: begun.given - src.unread(),
                 written,
                 replaced: false,
             };

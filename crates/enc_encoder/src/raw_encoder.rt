@@ -4,11 +4,14 @@ ghost use Rattle.std.specs.Prelude.{◌≡◌, false};
 ghost use Rattle.enc_encoder.specs.EncoderRule.{RawEncoderState, IsLawfulEncoderRule};
 ghost use Rattle.enc_encoder.specs.EncoderRule.{is_escape_due};
 ghost use Rattle.enc_encoder.specs.Call.{EncoderCallInto};
+ghost use Rattle.enc_encoder.specs.Begun.{HasBegun, EndsCall};
+ghost use Rattle.enc_encoder.specs.Runs.{WritesRun};
 ghost use Rattle.enc_encoder.specs.Writes.{place};
 ghost use Rattle.enc_encoder.specs.Need.{AreEnoughForEncoder};
 ghost use Rattle.enc_encoder.specs.Lengths.{from_utf_8_length, from_utf_16_length};
 ghost use Rattle.enc_encoder.specs.declared.byte_lengths.ByteLengths.{ByteLengths};
 
+use crate::begun::Begun;
 use crate::byte_lengths::ByteLengths;
 use crate::outcome::EncoderOutcome;
 use enc_input::Chars;
@@ -24,6 +27,27 @@ pub trait RawEncoder {
     // the formulas for lengths to allocate
     ghost formulas: { Self → ByteLengths };
 
+    /// Writes the bytes of the first characters to a slice, and returns their number.
+    ///
+    /// The characters are mappable and in the designated character set. The run need not be
+    /// maximal: it may be empty.
+    fn write_first<C: Chars>(&self, src: &mut C, dst: &mut [u8]) -> usize
+        ensures run { WritesRun (state self.now) (C.rest src.old) (C.rest src.new) dst.old dst.new
+            0 result }
+        ensures lawful { IsLawfulEncoderRule (state self.now).rule };
+
+    /// Goes on with a call of `encode`, which has written some bytes of `dst`.
+    ///
+    /// Returns the outcome of the whole call.
+    fn encode_on<C: Chars>(&mut self, src: &mut C, dst: &mut [u8], begun: Begun) -> EncoderOutcome
+        requires begun { HasBegun C.units_of begun (state self.old) (C.rest src.old) dst.old }
+        ensures call { EndsCall C.units_of begun (state self.old) (C.rest src.old) dst.old
+            (place (state self.new) (C.rest src.new) dst.new result.written)
+            result.result result.read }
+        ensures replaced { result.replaced ≡ false }
+        ensures lawful { IsLawfulEncoderRule (state self.old).rule }
+        ensures formulas { formulas self.new ≡ formulas self.old };
+
     /// Encodes a chunk, without replacement (Encoding Standard 4.1, error mode "fatal").
     ///
     /// It stops when all characters are read, the bytes that come next do not fit into `dst`, or a
@@ -38,7 +62,17 @@ pub trait RawEncoder {
             result.result result.read }
         ensures replaced { result.replaced ≡ false }
         ensures lawful { IsLawfulEncoderRule (state self.old).rule }
-        ensures formulas { formulas self.new ≡ formulas self.old };
+        ensures formulas { formulas self.new ≡ formulas self.old }
+    {
+        let given = src.unread();
+        let written = self.write_first(src, dst);
+        let begun = Begun {
+            last,
+            given,
+            written,
+        };
+        self.encode_on(src, dst, begun)
+    }
 
     /// Returns whether an escape sequence is due at the end of the text.
     ///

@@ -5,11 +5,12 @@ ghost use Rattle.enc_encoder.specs.CharLaw.{AreBytesOf};
 ghost use Rattle.enc_encoder.specs.declared.byte_lengths.ByteLengths.{ByteLengths};
 
 use crate::barring::Barring;
+use crate::begun::Begun;
 use crate::byte_lengths::ByteLengths;
 use crate::char_encoder::CharEncoder;
 use crate::character_set::CharacterSet;
 use crate::lawful_repertoire::LawfulRepertoire;
-use crate::machine::run;
+use crate::machine::run_on;
 use crate::made_bytes::one;
 use crate::outcome::EncoderOutcome;
 use crate::raw_encoder::RawEncoder;
@@ -141,16 +142,28 @@ impl<R: RunRepertoire> RawEncoder for StatelessEncoder<Barring<R>> {
 
     ghost formulas = { λ e. R.lengths e.repertoire.repertoire };
 
-    fn encode<C: Chars>(&mut self, src: &mut C, dst: &mut [u8], last: bool) -> EncoderOutcome {
+    /// Writes none if characters are barred.
+    #[inline(always)]
+    fn write_first<C: Chars>(&self, src: &mut C, dst: &mut [u8]) -> usize {
+        let repertoire = self.repertoire.repertoire;
+        repertoire.laws();
+        if !self.repertoire.barred.is_empty() {
+            return 0;
+        }
+        let encoder = StatelessEncoder::new(repertoire);
+        encoder.write_run(src, dst, 0)
+    }
+
+    fn encode_on<C: Chars>(&mut self, src: &mut C, dst: &mut [u8], begun: Begun) -> EncoderOutcome {
         let repertoire = self.repertoire.repertoire;
         let barred = self.repertoire.barred;
         repertoire.laws();
         if barred.is_empty() {
             let mut encoder = StatelessEncoder::new(repertoire);
-            return run(&mut encoder, src, dst, last);
+            return run_on(&mut encoder, src, dst, begun);
         }
         let mut encoder = StatelessEncoder::new(Barring::new(repertoire, barred));
-        run(&mut encoder, src, dst, last)
+        run_on(&mut encoder, src, dst, begun)
     }
 
     fn has_pending_state(&self) -> bool {

@@ -13,8 +13,8 @@ ghost use Rattle.enc_encoder.specs.CharLaw.{AreBytesOf};
 use super::japanese::{is_halfwidth_katakana, with_fullwidth_minus};
 use super::katakana::KATAKANA;
 use enc_encoder::{
-    BarredChars, ByteLengths, CharEncoder, CharList, CharacterSet, EncoderOutcome, NoChars,
-    RawEncoder, one, run, two,
+    BarredChars, Begun, ByteLengths, CharEncoder, CharList, CharacterSet, EncoderOutcome, NoChars,
+    RawEncoder, one, run_on, two,
 };
 use enc_index_pointers::jis0208;
 use enc_input::{ByCharacter, Bytes, Chars, Mapping};
@@ -267,18 +267,31 @@ impl RawEncoder for Iso2022JpEncoder {
 
     ghost formulas = { λ _. lengths.Iso2022Jp };
 
-    fn encode<C: Chars>(&mut self, src: &mut C, dst: &mut [u8], last: bool) -> EncoderOutcome {
+    /// Writes none if characters are barred.
+    #[inline(always)]
+    fn write_first<C: Chars>(&self, src: &mut C, dst: &mut [u8]) -> usize {
+        if !self.barred.is_empty() {
+            return 0;
+        }
+        let encoder = ShiftingEncoder {
+            set: self.set,
+            barred: NoChars,
+        };
+        encoder.write_run(src, dst, 0)
+    }
+
+    fn encode_on<C: Chars>(&mut self, src: &mut C, dst: &mut [u8], begun: Begun) -> EncoderOutcome {
         let set = self.set;
         if self.barred.is_empty() {
             let barred = NoChars;
             let mut unbarred = ShiftingEncoder { set, barred };
-            let outcome = run(&mut unbarred, src, dst, last);
+            let outcome = run_on(&mut unbarred, src, dst, begun);
             self.set = unbarred.set;
             return outcome;
         }
         let barred = CharList { chars: self.barred };
         let mut encoder = ShiftingEncoder { set, barred };
-        let outcome = run(&mut encoder, src, dst, last);
+        let outcome = run_on(&mut encoder, src, dst, begun);
         self.set = encoder.set;
         outcome
     }

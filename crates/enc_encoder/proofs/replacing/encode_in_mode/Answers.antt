@@ -1,75 +1,55 @@
-use Rattle.std.proofs.Common.{arith, rules}
-use Rattle.enc_encoder.proofs.LeavesLemmas.{leaves_of, leaves_on}
-use Rattle.enc_encoder.proofs.MachineLemmas.{units_read}
-use Rattle.enc_encoder.proofs.RawCallLemmas.{unreplaced_call}
-use Rattle.enc_encoder.proofs.ReferenceTurnLemmas.{adds_reference, encodes_part, no_turn, next_turn}
-use Rattle.enc_encoder.proofs.ReferenceCallLemmas.{stop_small, stop_raw, stop_after}
+use Rattle.std.proofs.Common.{◌≡◌, ◌+◌, ◌≤◌, false, length, refl, arith}
+use Rattle.std.proofs.lemmas.Bool.{false≢true}
+use Rattle.enc_encoder.specs.declared.character_set.CharacterSet.{CharacterSet}
+use Rattle.enc_encoder.specs.declared.character_set.CharacterSet.TheVariants.{Ascii, Roman, Jis0208}
+use Rattle.enc_encoder.specs.EncoderRule.{is_escape_due}
+use Rattle.enc_encoder.specs.ErrorMode.{mode_of, kept_in}
+use Rattle.enc_encoder.proofs.LeavesLemmas.{same_length}
+use Rattle.enc_encoder.proofs.BegunLemmas.{begins, room_left, run_in_front}
+use Rattle.enc_encoder.proofs.RawCallLemmas.{run_call}
+use Rattle.enc_encoder.proofs.ReferenceCallLemmas.{stop_small}
 use Rattle.enc_encoder.proofs.replacing.encode_in_mode.Goals as goal
 
-pub returns-in-Fatal : goal.returns-in-Fatal
-returns-in-Fatal g c =
-    let call =
-    unreplaced_call c.encode.ensures.call c.args.mode c.in-Fatal.is c.requires.mappable in
+in_ascii : (set : CharacterSet) → false ≡ is_escape_due set → set ≡ Ascii
+in_ascii Ascii none_due = refl
+in_ascii Roman none_due = absurd (false≢true none_due)
+in_ascii Jis0208 none_due = absurd (false≢true none_due)
+
+pub returns-then-dst-kept : goal.returns-then-dst-kept
+returns-then-dst-kept g c =
+    let call = stop_small g.C.Chars.units_of (mode_of c.args.mode) c.args.last _ _ c.args.dst.now
+    (omega (arith, c.kept_free-kept.ensures, c.if-dst-kept.true)) c.full_result.ensures in
+    record { within = call.within; rest = call.rest_stays; call = call.call }
+
+pub returns-then-not-has_pending_state : goal.returns-then-not-has_pending_state
+returns-then-not-has_pending_state g c =
+    let first = c.write_first-written.ensures in
+    let room : c.write_first-written.result + kept_in (mode_of c.args.mode)
+    ≤ length c.args.dst.now =
+    rw (← c.kept_free-kept.ensures) (room_left _ _ _ c.if-dst-kept.false first.run) in
+    let call = run_call
+    (run_in_front _ c.write_first-written.result (omega arith) first.run c.args.last _
+    (omega arith))
+    (c.if-is_read.ensures refl) (mode_of c.args.mode) first.lawful
+    c.unread-given.ensures (λ _. in_ascii _ c.if-not-has_pending_state.ensures) room in
+    record { within = call.within; rest = call.rest_stays; call = call.call }
+
+pub go_on_in_mode-requires : goal.go_on_in_mode-requires
+go_on_in_mode-requires g c =
+    let start = begins c.args.last c.unread-given.ensures
+    (run_in_front _ _ (omega arith) c.write_first-written.ensures.run) in
+    let left : c.write_first-written.result + kept_in (mode_of c.args.mode)
+    ≤ length c.args.dst.now =
+    rw (← c.kept_free-kept.ensures)
+    (room_left _ _ _ c.if-dst-kept.false c.write_first-written.ensures.run) in
     record {
-      within = call.within;
-      rest = call.rest_stays;
-      call = rw c.encode.ensures.replaced call.call;
+      mappable = c.requires.mappable;
+      begun = start;
+      room = omega (arith, left, same_length start.writes.adds);
     }
 
-pub returns-then-dst-lt-LONGEST_REFERENCE-clause-call :
-    goal.returns-then-dst-lt-LONGEST_REFERENCE-clause-call
-returns-then-dst-lt-LONGEST_REFERENCE-clause-call g c =
-    rw c.in-Html.is (stop_small g.C.Chars.units_of 10 c.args.last _ _ c.args.dst.now
-    c.if-dst-lt-LONGEST_REFERENCE.true c.full_result.ensures).call
-
-pub loop-c-init : goal.loop-c-init
-loop-c-init g c = no_turn _ _ _ (omega arith) (omega arith)
-
-pub overflow_sub-result : goal.overflow_sub-result
-overflow_sub-result g c =
-    let encoded = encodes_part c.loop-c.invariant c.encode-outcome.ensures.call in
-    (units_read g.C.Chars.units_of _ _
-    (leaves_on c.loop-c.invariant.refers.leaves (leaves_of encoded.call)).reads
-    c.unread-unread.ensures c.unread.ensures).0
-
-pub returns-in_default : goal.returns-in_default
-returns-in_default g c =
-    let encoded = encodes_part c.loop-c.invariant c.encode-outcome.ensures.call in
-    let stopped = stop_raw g.C.Chars.units_of 10 c.if-dst-lt-LONGEST_REFERENCE.false
-    c.unread-unread.ensures c.loop-c.invariant c.encode-outcome.ensures.lawful _
-    c.in_default.not-Unmappable encoded c.unread.ensures in
-    record {
-      within = stopped.within;
-      rest = stopped.rest_stays;
-      call = rw c.in-Html.is stopped.call;
-    }
-
-pub overflow_sub-result-then-written-limit : goal.overflow_sub-result-then-written-limit
-overflow_sub-result-then-written-limit g c =
-    let encoded = encodes_part c.loop-c.invariant c.encode-outcome.ensures.call in
-    (units_read g.C.Chars.units_of _ _
-    (leaves_on c.loop-c.invariant.refers.leaves (leaves_of encoded.call)).reads
-    c.unread-unread.ensures c.unread-then-written-limit.ensures).0
-
-pub returns-then-written-limit : goal.returns-then-written-limit
-returns-then-written-limit g c =
-    let encoded = rw c.in-Unmappable.is at
-    (encodes_part c.loop-c.invariant c.encode-outcome.ensures.call) in
-    let put = c.put_reference-written.ensures in
-    let stopped = stop_after g.C.Chars.units_of 10 c.if-dst-lt-LONGEST_REFERENCE.false
-    c.unread-unread.ensures c.loop-c.invariant c.encode-outcome.ensures.lawful encoded
-    (adds_reference _ put.len put.onto put.bound (search rules)) c.if-written-limit.true
-    c.full_result-then-written-limit.ensures c.unread-then-written-limit.ensures in
-    record {
-      within = stopped.within;
-      rest = stopped.rest_stays;
-      call = rw c.in-Html.is stopped.call;
-    }
-
-pub loop-c-preserved : goal.loop-c-preserved
-loop-c-preserved g c =
-    let encoded = rw c.in-Unmappable.is at
-    (encodes_part c.loop-c.invariant c.encode-outcome.ensures.call) in
-    let put = c.put_reference-written.ensures in
-    next_turn c.loop-c.invariant encoded
-    (adds_reference _ put.len put.onto put.bound (search rules)) c.if-written-limit.false
+pub returns : goal.returns
+returns g c =
+    let call = c.go_on_in_mode.ensures (begins c.args.last c.unread-given.ensures
+    (run_in_front _ _ (omega arith) c.write_first-written.ensures.run)) in
+    record { within = call.within; rest = call.rest_stays; call = call.call }
