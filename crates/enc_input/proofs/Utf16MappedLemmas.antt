@@ -10,7 +10,6 @@ use Rattle.std.specs.Char.Utf16.{utf16_lossy_chars}
 use Rattle.enc_input.specs.Mappings.{AreAnyUnits, WritesFront, WritesThemselves}
 use Rattle.enc_utf8.specs.Surrogates.{lossy_unit_char}
 use Rattle.enc_utf8.specs.Validity.{AreAscii}
-use Rattle.enc_utf8.proofs.AsciiLemmas.{one_ascii}
 use Rattle.enc_utf8.proofs.UnitsLemmas.{lossy_lone, lossy_scalars}
 use Rattle.enc_utf8.proofs.LaneLemmas.{all_fewer}
 use Rattle.enc_utf8.proofs.PutLemmas.{put_one}
@@ -30,6 +29,11 @@ low_bytes (u ∷ us) are_ascii =
     let low : u % 0x80 ≡ u = omega arith in
     ap (λ x. x ∷ map (λ u. u % 0x80) us) low
     ∙ ap (λ x. u ∷ x) (low_bytes us (λ k d l. are_ascii (suc k) d (omega arith)))
+
+-- n units that were loaded are their own lower bytes if they are ASCII
+pub loaded_low : (n : ℕ) (us lanes : List ℕ) → AreAscii (take n us)
+    → lanes ≡ map (λ u. u % 0x80) (take n us) → lanes ≡ take n us
+loaded_low n us lanes are_ascii e = e ∙ low_bytes (take n us) are_ascii
 
 -- the first n lanes are the first n code units
 pub own_lanes : (n m : ℕ) (us lanes : List ℕ) → n ≤ m → m ≤ 16
@@ -56,15 +60,6 @@ own_written {units = units} {n = n} own =
     ∙ lossy_scalars (take n units) (drop n units)
     (ascii_scalars (take n units) (λ k d inside. (own.ascii k d inside).0)))
 
--- a first code unit that is ASCII is the first character
-pub first_ascii : (us : List ℕ) → 1 ≤ length us → get_or us 0 0 < 0x80
-    → AreAscii (take 1 (utf16_lossy_chars us))
-first_ascii [] some low = absurd (omega (arith, some))
-first_ascii (u ∷ us) some low =
-    let chars_are = lossy_lone u us (λ p. omega (arith, p.0, low))
-    ∙ ap (λ x. x ∷ utf16_lossy_chars us) (low_unit u (omega (arith, low))) in
-    subst (λ cs. AreAscii (take 1 cs)) (sym chars_are) (one_ascii u low)
-
 -- a first code unit below U+0800 is the first character
 own_unit : (us : List ℕ) → 1 ≤ length us → get_or us 0 0 < 0x800
     → utf16_lossy_chars us ≡ get_or us 0 0 ∷ utf16_lossy_chars (drop 1 us)
@@ -74,6 +69,14 @@ own_unit (u ∷ us) some low =
     ∙ ap (λ x. x ∷ utf16_lossy_chars us) (low_unit u low)
 
 -- its byte is written
+pub unit_written : {Means : List ℕ → ℕ → Type 0} {src dst : List ℕ} {at : ℕ} (byte : ℕ)
+    → 1 ≤ length src → get_or src 0 0 < 0x800 → Means (byte ∷ []) (get_or src 0 0)
+    → at < length dst
+    → WritesFront utf16_lossy_chars AreAnyUnits Means src dst (set dst at byte) at 1 1
+unit_written {src = src} {dst = dst} {at = at} byte some low means room =
+    writes_one means some tt (own_unit src some low) (put_one at byte dst room)
+
+-- and the bytes before it
 pub unit_further : {Means : List ℕ → ℕ → Type 0} {src first dst : List ℕ} {at count : ℕ} (byte : ℕ)
     → WritesFront utf16_lossy_chars AreAnyUnits Means src first dst at count count
     → count < length src → get_or src count 0 < 0x800 → Means (byte ∷ []) (get_or src count 0)
@@ -84,9 +87,8 @@ unit_further {src = src} {dst = dst} {at = at} {count = count} byte writes withi
     let rest = drop count src in
     let here : get_or rest 0 0 ≡ get_or src count 0 =
     get_or-drop count src 0 0 ∙ ap (λ k. get_or src k 0) (omega arith) in
-    writes_then writes (writes_one means (omega (arith, lengths)) tt
-    (own_unit rest (omega (arith, lengths)) (omega (arith, here))
-    ∙ ap (λ x. x ∷ utf16_lossy_chars (drop 1 rest)) here) (put_one (at + count) byte dst room))
+    writes_then writes (unit_written byte (omega (arith, lengths)) (omega (arith, here))
+    (rw here means) room)
 
 -- sixteen units that are ASCII are their own lower bytes
 pub sixteen_low : (us lanes : List ℕ) (n : ℕ) → n ≤ 16 → 16 ≤ n → AreAscii (take n (take 16 us))
@@ -94,7 +96,7 @@ pub sixteen_low : (us lanes : List ℕ) (n : ℕ) → n ≤ 16 → 16 ≤ n → 
 sixteen_low us lanes n most all are e =
     let sixteen : n ≡ 16 = omega (arith, most, all) in
     let whole = rw (sixteen, take-take 16 16 us (omega arith)) at are in
-    (whole, e ∙ low_bytes (take 16 us) whole)
+    (whole, loaded_low 16 us lanes whole e)
 
 -- clamped units
 

@@ -12,7 +12,6 @@ use Rattle.std.specs.Str.{all_scalars, encode_utf8_all, IsCharBoundary}
 use Rattle.enc_input.specs.Mappings.{IsFirstUtf8Char, AreWrittenAsUtf8, WritesFront, WritesThemselves}
 use Rattle.enc_input.specs.Utf8Bytes.{short_unit, lead_bit}
 use Rattle.enc_utf8.specs.Validity.{AreAscii}
-use Rattle.enc_utf8.proofs.AsciiLemmas.{one_ascii}
 use Rattle.enc_utf8.proofs.LengthLemmas.{lengths}
 use Rattle.enc_input.proofs.MappingLemmas.{maps_utf8}
 use Rattle.enc_utf8.proofs.PutLemmas.{Put}
@@ -192,16 +191,6 @@ own_written {text = text} {n = n} utf8 own =
     let begins = ascii_first (take n text) (drop n text)
     (λ k d inside. (own.ascii k d inside).0) (subst IsUtf8 (sym whole) utf8) in
     writes_own own begins.0 (ap chars (sym whole) ∙ begins.1)
-
--- a first byte that is ASCII is the first character
-pub first_ascii : (bytes : List ℕ) → IsUtf8 bytes → 1 ≤ length bytes → get_or bytes 0 0 < 0x80
-    → AreAscii (take 1 (chars bytes))
-first_ascii [] utf8 some low = absurd (omega (arith, some))
-first_ascii (b ∷ bytes) utf8 some low =
-    let is_front : b ∷ bytes ≡ encode_utf8 b ++ bytes =
-    ap (λ x. x ++ bytes) (sym (encode_ascii b low)) in
-    subst (λ cs. AreAscii (take 1 cs)) (sym (chars_past_char (b ∷ bytes) bytes b utf8 is_front))
-    (one_ascii b low)
 
 -- whole characters in front are copied, where each is written as its UTF-8
 pub writes_copied : {Means : List ℕ → ℕ → Type 0} {text before after : List ℕ} {at n : ℕ}

@@ -1,10 +1,8 @@
 //! Inputs of characters.
 
-ghost use Rattle.std.specs.Prelude.{◌≡◌, ◌≢◌, ◌≤◌, ℕ, List, [], ◌∷◌, length, take, drop, MatchOption};
-ghost use Rattle.std.specs.Prelude.{IfSome, IsTrue};
+ghost use Rattle.std.specs.Prelude.{◌≡◌, ◌≢◌, ◌≤◌, ℕ, List, [], ◌∷◌, length, drop, MatchOption, IfSome};
 ghost use Rattle.enc_utf8.specs.Text.{units_of_text};
 ghost use Rattle.enc_input.specs.Mappings.{WritesMapped};
-ghost use Rattle.enc_utf8.specs.Validity.{AreAscii};
 
 use crate::mapping::Mapping;
 use crate::ways::Way;
@@ -26,14 +24,6 @@ pub trait Chars {
         ensures first { MatchOption result (rest self.now ≡ [])
             (λ p. rest self.now ≡ p.0 ∷ drop 1 (rest self.now)) }
         ensures width { IfSome result (λ p. p.1 ≡ length (units_of p.0)) };
-
-    /// Returns whether the next character is ASCII, or false, as it does by default.
-    fn begins_with_ascii(&self) -> bool
-        ensures { IsTrue result → AreAscii (take 1 (rest self.now)) }
-    {
-        let _input = self;
-        false
-    }
 
     /// Reads the next character. Condition: the input is not at its end.
     fn advance(&mut self)

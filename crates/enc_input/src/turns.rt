@@ -62,4 +62,33 @@ pub trait Turns<M: Mapping>: Copy {
         }
         (len, len, len > 0)
     }
+
+    /// Writes the bytes of the first character of UTF-8.
+    ///
+    /// Returns the numbers of bytes read and written, which are 0 if the character ends a run or
+    /// may not fit.
+    #[inline(always)]
+    fn put_utf8_char(mapping: M, src: &[u8], dst: &mut [u8], at: usize) -> (usize, usize)
+        requires some { 1 ≤ length src.now }
+        requires utf8 { IsUtf8 src.now }
+        requires room { at < length dst.old }
+        ensures { WritesFront chars IsUtf8 (M.means mapping) src.now dst.old dst.new at result.0
+            result.1 }
+    {
+        utf8_mapped::put_char(mapping, src, dst, at)
+    }
+
+    /// Writes the bytes of the first character of UTF-16.
+    ///
+    /// Returns the numbers of code units read and of bytes written, which are 0 if the character
+    /// ends a run or may not fit.
+    #[inline(always)]
+    fn put_utf16_char(mapping: M, src: &[u16], dst: &mut [u8], at: usize) -> (usize, usize)
+        requires some { 1 ≤ length src.now }
+        requires room { at < length dst.old }
+        ensures { WritesFront utf16_lossy_chars AreAnyUnits (M.means mapping) src.now dst.old
+            dst.new at result.0 result.1 }
+    {
+        utf16_mapped::put_char(mapping, src, dst, at)
+    }
 }

@@ -102,11 +102,6 @@ impl<'a> Chars for Utf16Chars<'a> {
         first(self.units)
     }
 
-    #[inline(always)]
-    fn begins_with_ascii(&self) -> bool {
-        !self.units.is_empty() && self.units[0] < 0x80
-    }
-
     fn advance(&mut self) {
         if let Some((_, width)) = first(self.units) {
             self.units = &self.units[width..];

@@ -26,16 +26,37 @@ fn ascii_units(units: Simd<u16, 16>) -> usize
     }
 }
 
-/// Returns the lower seven bits of sixteen code units, which are all bits of those that are ASCII.
+/// Returns the lower seven bits of code units, which are all bits of those that are ASCII.
 #[inline(always)]
-fn low_bytes(units: Simd<u16, 16>) -> u8x16
-    ensures { result ≡ map (λ u. u % 0x80) units }
+fn low_bytes<const N: usize>(units: Simd<u16, N>) -> Simd<u8, N>
+    ensures { result ≡ map (λ u. u % 0x80) units.entry }
 {
-    (units & Simd::<u16, 16>::splat(0x7F)).cast::<u8>()
+    (units & Simd::<u16, N>::splat(0x7F)).cast::<u8>()
 }
 
-/// Copies ASCII from the front of `src`, at most `most` characters, in whole steps of sixteen.
-/// Returns their number.
+/// Copies the first eight characters if they are ASCII and at most `most` are copied. Returns their
+/// number, or 0.
+#[inline(always)]
+fn copy_eight(src: &[u16], dst: &mut [u8], most: usize) -> usize
+    requires read { most ≤ length src.now }
+    requires room { most ≤ length dst.old }
+    ensures within { result ≤ most }
+    ensures ascii { AreAscii (take result src.now) }
+    ensures copied { dst.new ≡ take result src.now ++ drop result dst.old }
+{
+    if most < 8 {
+        return 0;
+    }
+    let units = Simd::<u16, 8>::from_slice(src);
+    if units.simd_ge(Simd::<u16, 8>::splat(0x80)).to_bitmask() != 0 {
+        return 0;
+    }
+    low_bytes(units).copy_to_slice(dst);
+    8
+}
+
+/// Copies ASCII from the front of `src`, at most `most` characters, in whole steps of sixteen, and
+/// then one of eight. Returns their number.
 #[inline(always)]
 fn copy_sixteens(src: &[u16], dst: &mut [u8], most: usize) -> usize
     requires read { most ≤ length src.now }
@@ -53,7 +74,7 @@ fn copy_sixteens(src: &[u16], dst: &mut [u8], most: usize) -> usize
         low_bytes(units).copy_to_slice(&mut dst[at..]);
         at += 16;
     }
-    at
+    at + copy_eight(&src[at..], &mut dst[at..], most - at)
 }
 
 /// Writes the ASCII in front that is written as itself, of sixteen code units.
@@ -150,10 +171,10 @@ pub(crate) fn put_beyond<M: Mapping>(
     (width, put_bytes(dst, at, bytes))
 }
 
-/// Writes the bytes of the first character.
+/// Writes the bytes of the first character. One beyond ASCII takes room for four bytes.
 ///
 /// Returns the numbers of code units read and of bytes written, which are 0 if the character ends a
-/// run.
+/// run or has less room.
 #[inline(always)]
 pub(crate) fn put_char<M: Mapping>(
     mapping: M,
@@ -162,18 +183,22 @@ pub(crate) fn put_char<M: Mapping>(
     at: usize,
 ) -> (usize, usize)
     requires some { 1 ≤ length src.now }
-    requires room { at + 4 ≤ length dst.old }
+    requires room { at < length dst.old }
     ensures { WritesFront utf16_lossy_chars AreAnyUnits (M.means mapping) src.now dst.old dst.new at
         result.0 result.1 }
 {
-    if src[0] >= 0x80 {
-        return put_beyond(mapping, src, dst, at);
+    if src[0] < 0x80 {
+        let len = put_own(mapping, src, dst, at);
+        return (len, len);
     }
-    let len = put_own(mapping, src, dst, at);
-    (len, len)
+    if dst.len() - at < MOST_BYTES {
+        return (0, 0);
+    }
+    put_beyond(mapping, src, dst, at)
 }
 
-/// Writes long ASCII in front in whole steps of sixteen, if all of ASCII is written as itself.
+/// Writes ASCII in front in whole steps of sixteen and of eight, if all of ASCII is written as
+/// itself.
 ///
 /// Returns the number of bytes.
 #[inline(always)]
@@ -182,7 +207,7 @@ pub(crate) fn put_strides<M: Mapping>(mapping: M, src: &[u16], dst: &mut [u8], a
     ensures { WritesThemselves (M.means mapping) src.now dst.old dst.new at result }
 {
     // most texts that are not ASCII show it here
-    if src.len() < 64 || src[1] >= 0x80 || src[63] >= 0x80 {
+    if src.len() < 8 || src[1] >= 0x80 || src[src.len().min(64) - 1] >= 0x80 {
         return 0;
     }
     if !mapping.keeps_ascii() {
@@ -219,9 +244,8 @@ pub(crate) fn write_utf16<M: Mapping, T: Turns<M>>(
             return (read, at - from);
         }
     }
-    let end = dst.len().saturating_sub(MOST_BYTES - 1);
-    'ones: while read < src.len() && at < end {
-        let (width, count) = put_char(mapping, &src[read..], dst, at);
+    'ones: while read < src.len() && at < dst.len() {
+        let (width, count) = T::put_utf16_char(mapping, &src[read..], dst, at);
         read += width;
         at += count;
         if width == 0 {

@@ -45,12 +45,6 @@ impl<'a> Chars for Utf8Chars<'a> {
     }
 
     #[inline(always)]
-    fn begins_with_ascii(&self) -> bool {
-        let bytes = self.text.as_bytes();
-        !bytes.is_empty() && bytes[0] < 0x80
-    }
-
-    #[inline(always)]
     #[tactic(auto, using(std::proofs::lemmas::Str::chars_past_char))]
     fn advance(&mut self) {
         let mut rest = self.text.chars();

@@ -26,6 +26,8 @@ pub(crate) fn found_at(src: &[u8], at: usize) -> Found
     ensures first { IsFirstUtf8Char (drop at src.now) result.c result.width }
     ensures some { 1 ≤ result.width }
     ensures few { result.width ≤ 4 }
+    ensures two { slice_index src.now at < 0xE0 → result.width ≡ 2 }
+    ensures short { slice_index src.now at < 0xE0 → result.c < 0x800 }
 {
     let first = src[at] as u32;
     let second = src[at + 1] as u32 % 64;
@@ -108,22 +110,31 @@ pub(crate) fn put_beyond<M: Mapping>(
     (found.width, put_bytes(dst, at, bytes))
 }
 
-/// Writes the bytes of the first character.
+/// Writes the bytes of the first character. One beyond ASCII takes room for four.
 ///
-/// Returns the numbers of bytes read and written, which are 0 if the character ends a run.
+/// Returns the numbers of bytes read and written, which are 0 if the character ends a run or has
+/// less room.
 #[inline(always)]
-fn put_char<M: Mapping>(mapping: M, src: &[u8], dst: &mut [u8], at: usize) -> (usize, usize)
+pub(crate) fn put_char<M: Mapping>(
+    mapping: M,
+    src: &[u8],
+    dst: &mut [u8],
+    at: usize,
+) -> (usize, usize)
     requires some { 1 ≤ length src.now }
     requires utf8 { IsUtf8 src.now }
-    requires room { at + 4 ≤ length dst.old }
+    requires room { at < length dst.old }
     ensures { WritesFront chars IsUtf8 (M.means mapping) src.now dst.old dst.new at result.0
         result.1 }
 {
-    if src[0] >= 0x80 {
-        return put_beyond(mapping, src, dst, at);
+    if src[0] < 0x80 {
+        let len = put_own(mapping, src, dst, at);
+        return (len, len);
     }
-    let len = put_own(mapping, src, dst, at);
-    (len, len)
+    if dst.len() - at < MOST_BYTES {
+        return (0, 0);
+    }
+    put_beyond(mapping, src, dst, at)
 }
 
 /// Writes the ASCII in front in whole steps of 64, if all of ASCII is written as itself.
@@ -172,9 +183,8 @@ pub(crate) fn write_utf8<M: Mapping, T: Turns<M>>(
         read += len;
         at += count;
     }
-    let end = dst.len().saturating_sub(MOST_BYTES - 1);
-    'ones: while read < src.len() && at < end {
-        let (width, count) = put_char(mapping, &src[read..], dst, at);
+    'ones: while read < src.len() && at < dst.len() {
+        let (width, count) = T::put_utf8_char(mapping, &src[read..], dst, at);
         read += width;
         at += count;
         if width == 0 {

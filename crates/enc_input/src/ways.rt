@@ -6,7 +6,7 @@ ghost use Rattle.enc_input.specs.Mappings.{WritesFront};
 use crate::mapping::{Mapping, UnitBytes, Utf8Bytes};
 use crate::turns::Turns;
 use crate::utf8_bytes::put_by_lanes;
-use crate::utf8_mapped::write_utf8;
+use crate::utf8_mapped::{self, found_at, write_utf8};
 use crate::utf16_mapped::{put_char, put_strides, put_units};
 use crate::utf16_text::put_text;
 
@@ -52,8 +52,13 @@ impl<M: UnitBytes> Turns<M> for ByUnit {
         dst: &mut [u8],
         at: usize,
     ) -> (usize, usize, bool) {
-        let (len, count, goes_on) = ByCharacter::put_utf8(mapping, done, src, dst, at);
-        if !goes_on {
+        let (len, count) = if src[0] < 0x80 {
+            let len = utf8_mapped::put_ascii(mapping, src, dst, at);
+            (len, len)
+        } else {
+            Self::put_utf8_char(mapping, src, dst, at)
+        };
+        if len == 0 {
             return (len, count, false);
         }
         let (more, added) = put_by_lanes(mapping, done + len, &src[len..], dst, at + count);
@@ -70,6 +75,32 @@ impl<M: UnitBytes> Turns<M> for ByUnit {
         }
         let (width, count) = put_char(mapping, &src[len..], dst, at + len);
         (len + width, len + count, width > 0)
+    }
+
+    /// Looks a character of two bytes up by [`UnitBytes::unit_byte`] first.
+    #[inline(always)]
+    fn put_utf8_char(mapping: M, src: &[u8], dst: &mut [u8], at: usize) -> (usize, usize) {
+        if src[0] < 0xC0 || 0xE0 <= src[0] {
+            return utf8_mapped::put_char(mapping, src, dst, at);
+        }
+        let unit = found_at(src, 0).c as u32 as u16;
+        let byte = mapping.unit_byte(unit.min(0x7FF));
+        if byte == 0 {
+            return utf8_mapped::put_char(mapping, src, dst, at);
+        }
+        dst[at] = byte;
+        (2, 1)
+    }
+
+    /// Looks a code unit up by [`UnitBytes::unit_byte`] first.
+    #[inline(always)]
+    fn put_utf16_char(mapping: M, src: &[u16], dst: &mut [u8], at: usize) -> (usize, usize) {
+        let byte = mapping.unit_byte(src[0].min(0x7FF));
+        if byte > 0 {
+            dst[at] = byte;
+            return (1, 1);
+        }
+        put_char(mapping, src, dst, at)
     }
 }
 

@@ -9,8 +9,9 @@ use Rattle.std.proofs.lemmas.List.Elements.{All-append, All-more}
 use Rattle.std.proofs.Math.Seq.{drop-append_seam}
 use Rattle.std.proofs.Math.ListN.{set}
 use lib.Lanes.{put_chunk}
-use Rattle.enc_utf8.proofs.LengthLemmas.{lengths}
-use Rattle.enc_utf8.proofs.PutLemmas.{Put, put_lanes, put_one}
+use borrow.Rule.Slice.PartMut.{put_mid}
+use Rattle.enc_utf8.proofs.LengthLemmas.{lengths, rest_is}
+use Rattle.enc_utf8.proofs.PutLemmas.{Put, put_copied, put_lanes, put_one}
 use Rattle.enc_utf8.specs.Validity.{AreAscii}
 
 -- n bytes more are ASCII
@@ -55,29 +56,42 @@ module _ {src old dst : List ℕ} {most at : ℕ} (copies : CopiesAscii src old 
   dst_long : length dst ≡ length old
   dst_long = omega (arith, ap length copies.copied, lengths, copies.within)
 
+  -- n bytes more are put after them
+  pub copies_put : {n : ℕ} {new : List ℕ} → at + n ≤ most → AreAscii (take n (drop at src))
+      → Put at n dst (take n (drop at src)) new → CopiesAscii src old new most (at + n)
+  copies_put {n} fits ascii put = record {
+    within = fits;
+    ascii = ascii_more at n src copies.ascii ascii;
+    copied = copied_further fits put;
+  }
+
   pub copies_more : (n : ℕ) {lanes : List ℕ} → at + n ≤ most → lanes ≡ take n (drop at src)
       → AreAscii (take n (drop at src)) → CopiesAscii src old (put_chunk at dst lanes) most (at + n)
   copies_more n {lanes} fits are_lanes ascii =
       let long : length lanes ≡ n = omega (arith, ap length are_lanes, lengths) in
       let front = take_all n lanes (omega arith) ∙ are_lanes in
-      record {
-        within = fits;
-        ascii = ascii_more at n src copies.ascii ascii;
-        copied = copied_further fits (rw front at (put_lanes n at dst lanes
-            (omega (arith, dst_long)) long));
-      }
+      copies_put fits ascii
+      (rw front at (put_lanes n at dst lanes (omega (arith, dst_long)) long))
 
   pub copies_one : at < most → get_or src at 0 < 0x80
       → CopiesAscii src old (set dst at (get_or src at 0)) most (at + 1)
   copies_one fits low =
       let one : get_or src at 0 ∷ [] ≡ take 1 (drop at src) =
       ap (take 1) (sym (drop-cons src at 0 (omega arith))) in
-      record {
-        within = omega arith;
-        ascii = ascii_one at src copies.ascii (omega arith) low;
-        copied = copied_further (omega arith)
-            (rw one at (put_one at (get_or src at 0) dst (omega (arith, dst_long))));
-      }
+      copies_put (omega arith) (subst AreAscii one (one_ascii (get_or src at 0) low))
+      (rw one at (put_one at (get_or src at 0) dst (omega (arith, dst_long))))
+
+  -- by a copy from the rest to the rest
+  pub copies_on : (n : ℕ) {new : List ℕ} → n ≤ most - at
+      → AreAscii (take n (take (length src - at) (drop at src)))
+      → new ≡ take n (take (length src - at) (drop at src))
+      ++ drop n (take (length dst - at) (drop at dst))
+      → CopiesAscii src old (put_mid at (length dst - at) dst new) most (at + n)
+  copies_on n {new} few ascii copied =
+      let from = rest_is at src in
+      copies_put (omega (arith, copies.within)) (rw from at ascii)
+      (put_copied at n dst (drop at src) new (omega (arith, copies.within, dst_long))
+      (omega (arith, lengths)) (omega (arith, dst_long)) (rw from at copied))
 
 pub low_fails : (x : ℕ) → x < 0x80 → leb 128 x ≡ false
 low_fails x h = grind (arith, nat_tests)
@@ -98,3 +112,23 @@ ascii_ends i n xs front overlaps back k d h = elim (cases_lt k i) [
 
 pub ascii_all : (xs : List ℕ) → AreAscii xs → AreAscii (take (length xs) xs)
 ascii_all xs a = subst AreAscii (sym (take_all (length xs) xs (omega arith))) a
+
+-- n bytes more are ASCII, of m that were loaded
+pub ascii_front : (i n m : ℕ) (xs : List ℕ) → AreAscii (take i xs) → n ≤ m
+    → AreAscii (take n (take m (drop i xs))) → AreAscii (take (i + n) xs)
+ascii_front i n m xs front few more =
+    ascii_more i n xs front (subst AreAscii (take-take n m (drop i xs) few) more)
+
+-- the byte after them is not ASCII, if the m bytes are not all ASCII
+pub other_after : (i n m : ℕ) (xs : List ℕ) → n ≤ m → ¬ (AreAscii (take m (drop i xs)))
+    → AreAscii (take n (take m (drop i xs)))
+    → (n < m → 0x80 ≤ get_or (take m (drop i xs)) n 0) → 0x80 ≤ get_or xs (i + n) 0
+other_after i n m xs few some front ends = elim (cases_lt n m) [
+  | inl below ↦
+      let here = get_or-take m (drop i xs) n 0 below ∙ get_or-drop i xs n 0 in
+      omega (arith, ends below, here)
+  | inr whole ↦
+      let all : n ≡ m = omega arith in
+      absurd (some (subst AreAscii (take-take n m (drop i xs) few
+      ∙ ap (λ k. take k (drop i xs)) all) front))
+]

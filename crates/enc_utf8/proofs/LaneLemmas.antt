@@ -1,11 +1,11 @@
 -- How many of some lanes come before the first that passes a test, by the mask of those that do.
 use Rattle.std.proofs.Common.{◌≡◌, ℕ, zero, suc, ◌+◌, ◌*◌, ◌/◌, ◌%◌, ◌^◌, ◌<◌, ◌≤◌, ◌≢◌, Bool, true, false, not}
-use Rattle.std.proofs.Common.{◌||◌, take-add, leb, leb-false, cond, eqb, eqb-true, List, [], ◌∷◌, map, length, get_or}
-use Rattle.std.proofs.Common.{replicate, take, drop, ap, ◌∙◌, sym, subst, arith, inl, inr}
+use Rattle.std.proofs.Common.{◌||◌, take-add, leb, leb-false, cond, eqb, eqb-true, eq-eqb, List, [], ◌∷◌, map, length}
+use Rattle.std.proofs.Common.{get_or, replicate, take, drop, refl, ap, ◌∙◌, sym, subst, arith, inl, inr}
 use Rattle.std.specs.Prelude.{All}
 use Rattle.std.specs.List.{prefix_len}
 use Rattle.std.proofs.lemmas.Bool.Decides.{nat_tests}
-use Rattle.std.proofs.lemmas.Bool.{not-true, not-false, cases_eq, cases_lt, true≢false}
+use Rattle.std.proofs.lemmas.Bool.{not-true, not-false, lt-leb, cases_eq, cases_lt, true≢false}
 use Rattle.std.proofs.lemmas.List.{get_or-take, take-take, take_all, get_or_default}
 use Rattle.std.proofs.lemmas.List.Elements.{All-append, All-more}
 use Rattle.std.proofs.lemmas.List.Sums.{prefix_len_passes, prefix_len_stops, prefix_len-le-length}
@@ -32,6 +32,7 @@ pub record AreBefore (p : ℕ → Bool) (xs : List ℕ) (n : ℕ) : Type 0 where
   pub bound : n ≤ length xs
   pub fail : All (λ x. p x ≡ false) (take n xs)
   pub some : p (get_or xs 0 0) ≡ false → 0 < length xs → 0 < n
+  pub stops : n < length xs → p (get_or xs n 0) ≡ true
 
 front_fails : (p : ℕ → Bool) (xs : List ℕ) (n : ℕ) → n ≤ prefix_len (λ x. not (p x)) xs
     → All (λ x. p x ≡ false) (take n xs)
@@ -53,6 +54,8 @@ module _ (p : ℕ → Bool) (xs : List ℕ) (n : ℕ) (long : length xs ≡ n) (
           let none_before : prefix_len (λ x. not (p x)) xs ≡ 0 = omega arith in
           absurd (true≢false (sym (not-false _ (rw none_before at stops)) ∙ first_fails))
     ];
+    stops = λ inside.
+        rw all (not-false _ (prefix_len_stops (λ x. not (p x)) xs 0 (omega arith)));
   }
 
   pub none_passes : mask ≡ 0 → AreBefore p xs n
@@ -62,6 +65,13 @@ module _ (p : ℕ → Bool) (xs : List ℕ) (n : ℕ) (long : length xs ≡ n) (
   some_passes some =
       before _
       (ap (count_trailing_zeros 64) is ∙ trailing_mask_l p 64 xs (omega arith) (omega arith))
+
+-- no bit is set if no lane passes
+no_bit : (p : ℕ → Bool) (xs : List ℕ) → All (λ x. p x ≡ false) xs → mask_l (map p xs) ≡ 0
+no_bit p [] fail = refl
+no_bit p (x ∷ xs) fail =
+    let here : p x ≡ false = fail 0 0 (omega arith) in
+    rw here (omega (arith, no_bit p xs (λ k d l. fail (suc k) d (omega arith))))
 
 -- lanes that are not ASCII
 
@@ -84,6 +94,11 @@ module _ (w : Width) (n : ℕ) (few : n ≤ 64) (xs : List ℕ) (long : length x
   pub ascii_of_mask : eqb others 0 ≡ true → AreAscii xs
   ascii_of_mask none =
       subst AreAscii (take_all n xs (omega arith)) (no_others (eqb-true _ _ none))
+
+  pub mask_of_ascii : AreAscii xs → eqb others 0 ≡ true
+  mask_of_ascii ascii =
+      eq-eqb others 0 (splat_mask_of n few w leb 128 xs long
+      ∙ no_bit (leb 128) xs (λ k d l. lt-leb _ _ (ascii k d l)))
 
 -- a mask shifted right is that of the lanes after the first k
 pub mask_after : (k : ℕ) (ms : List Bool) → mask_l ms / 2 ^ k ≡ mask_l (drop k ms)

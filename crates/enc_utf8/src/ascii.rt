@@ -1,6 +1,7 @@
 //! Runs of ASCII bytes, sixteen at a time.
 
-ghost use Rattle.std.specs.Prelude.{◌≡◌, ◌≢◌, ◌-◌, ◌≤◌, ◌<◌, ◌++◌, All, length, take, drop, slice_index, IsTrue, ◌+◌};
+ghost use Rattle.std.specs.Prelude.{◌≡◌, ◌≢◌, ◌↔◌, ◌+◌, ◌-◌, ◌≤◌, ◌<◌, ◌++◌, All, length, take, drop};
+ghost use Rattle.std.specs.Prelude.{slice_index, IsTrue};
 ghost use Rattle.enc_utf8.specs.Validity.{AreAscii};
 
 use std::simd::prelude::*;
@@ -8,7 +9,7 @@ use std::simd::prelude::*;
 /// Returns whether all of sixteen bytes are ASCII.
 #[inline(always)]
 pub fn are_ascii(lanes: u8x16) -> bool
-    ensures { IsTrue result → AreAscii lanes }
+    ensures { IsTrue result ↔ AreAscii lanes }
 {
     lanes.simd_ge(u8x16::splat(0x80)).to_bitmask() == 0
 }
@@ -36,10 +37,13 @@ pub fn len_before(lanes: u8x16, byte: u8) -> usize
 }
 
 /// Returns the length of a prefix that is ASCII, in whole steps of 64 and then of sixteen bytes.
+/// Fewer than sixteen bytes follow, or sixteen that are not all ASCII.
 #[inline(always)]
 fn ascii_steps(bytes: &[u8]) -> usize
     ensures within { result ≤ length bytes.now }
     ensures ascii { AreAscii (take result bytes.now) }
+    ensures stops { result + 16 ≤ length bytes.now
+        → ¬ (AreAscii (take 16 (drop result bytes.now))) }
 {
     let mut at = 0;
     'strides: while 64 <= bytes.len() - at {
@@ -76,7 +80,10 @@ pub fn ascii_len(bytes: &[u8]) -> usize
     ensures ends { result < length bytes.now → 0x80 ≤ slice_index bytes.now result }
 {
     let mut at = ascii_steps(bytes);
-    if bytes.len() - at < 16 && ends_as_ascii(bytes) {
+    if 16 <= bytes.len() - at {
+        return at + ascii_in(u8x16::from_slice(&bytes[at..]));
+    }
+    if at < bytes.len() && ends_as_ascii(bytes) {
         return bytes.len();
     }
     while at < bytes.len() && bytes[at] < 0x80 {
@@ -147,6 +154,7 @@ pub fn ascii_in(lanes: u8x16) -> usize
     ensures bound { result ≤ 16 }
     ensures ascii { AreAscii (take result lanes) }
     ensures some { slice_index lanes 0 < 0x80 → 0 < result }
+    ensures ends { result < 16 → 0x80 ≤ slice_index lanes result }
 {
     let others = lanes.simd_ge(u8x16::splat(0x80)).to_bitmask();
     if others == 0 {

@@ -7,10 +7,11 @@ low_bits : (u : ℕ) → bit_and u 127 ≡ u % 128
 low_bits u = and_mask u 7
 
 pub overflow_cast-result : goal.overflow_cast-result
-overflow_cast-result c =
-    Each1-zip2 _ _ _ _ (Each2-splat _ _ 16 127 (Each1-all _ (λ u. omega (arith, low_bits u)) _))
+overflow_cast-result g c =
+    Each1-zip2 _ _ _ _
+    (Each2-splat _ _ g.row.N 127 (Each1-all _ (λ u. omega (arith, low_bits u)) _))
 
 pub returns : goal.returns
-returns c = ap (map _) (zip2_splat bit_and c.args.units 16 127 c.fits-units.0)
+returns g c = ap (map _) (zip2_splat bit_and c.args.units g.row.N 127 c.fits-units.0)
     ∙ map-map _ _ c.args.units
     ∙ ap (λ f. map f c.args.units) (λ i u. low_bits u i)

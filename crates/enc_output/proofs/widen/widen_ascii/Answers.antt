@@ -6,7 +6,7 @@ use Rattle.enc_output.proofs.widen.widen_ascii.Goals as goal
 pub loop-at-preserved : goal.loop-at-preserved
 loop-at-preserved c =
     copies_more c.loop-at.invariant (omega arith) (omega arith) 16 (omega arith) (map-id _)
-    (c.are_ascii.ensures c.if-not-are_ascii.false)
+    (c.are_ascii.ensures.0 c.if-not-are_ascii.false)
 
 pub loop-at-2-preserved : goal.loop-at-2-preserved
 loop-at-2-preserved c =

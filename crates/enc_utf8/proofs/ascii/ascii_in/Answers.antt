@@ -1,4 +1,4 @@
-use Rattle.std.proofs.Common.{arith, w8}
+use Rattle.std.proofs.Common.{arith, leb-true, w8}
 use Rattle.enc_utf8.proofs.AsciiLemmas.{low_fails}
 use Rattle.enc_utf8.proofs.LaneLemmas.{ascii_before, no_others, before_others}
 use Rattle.enc_utf8.proofs.ascii.ascii_in.Goals as goal
@@ -20,3 +20,8 @@ pub returns-else-others-eq0-clause-some : goal.returns-else-others-eq0-clause-so
 returns-else-others-eq0-clause-some c low =
     let before = before_others w8 16 (omega arith) _ c.fits-lanes.0 c.if-others-eq0.false in
     before.some (low_fails _ low) (omega arith)
+
+pub returns-else-others-eq0-clause-ends : goal.returns-else-others-eq0-clause-ends
+returns-else-others-eq0-clause-ends c few =
+    let before = before_others w8 16 (omega arith) _ c.fits-lanes.0 c.if-others-eq0.false in
+    leb-true _ _ (before.stops (omega arith))

@@ -13,5 +13,5 @@ pub steps-preserved : goal.steps-preserved
 steps-preserved c = (
   omega arith,
   ascii_more _ _ _ c.steps.invariant.1
-      (c.are_ascii.ensures c.if-not-are_ascii.false),
+      (c.are_ascii.ensures.0 c.if-not-are_ascii.false),
 )

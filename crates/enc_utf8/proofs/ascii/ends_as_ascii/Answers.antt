@@ -9,4 +9,4 @@ returns-then-bytes-ge16-clause-ascii c = λ t.
     let bytes = c.args.bytes.now in
     let first = length bytes - 16 in
     subst AreAscii (take_all 16 (drop first bytes) (omega (arith, lengths)))
-    (c.are_ascii.ensures t)
+    (c.are_ascii.ensures.0 t)
