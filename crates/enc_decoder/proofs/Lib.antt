@@ -25,6 +25,7 @@ pub mod TwoCallsLemmas
 pub mod OutputStageLemmas
 pub mod TakenRunLemmas
 pub mod EventLeavesLemmas
+pub mod SkippedEndLemmas
 pub mod JoinedCallLemmas
 pub mod PrefixLaws
 pub mod PrefixLemmas

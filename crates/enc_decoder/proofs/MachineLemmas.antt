@@ -1,6 +1,7 @@
 -- The steps of the loop over the bytes of one call.
 use Rattle.std.proofs.Common.{◌≡◌, ℕ, ◌+◌, Bool, true, false, List, [], ◌∷◌, length, drop, refl}
 use Rattle.std.proofs.Common.{ap, ◌∙◌, sym, arith, subst, append-nil, nat_le, ◌||◌, get_or, zero-add}
+use Rattle.std.proofs.Common.{length-drop}
 use Rattle.std.proofs.lemmas.Bool.{false≢true, true≢false, leb-true, leb-false}
 use Rattle.enc_decoder.specs.declared.byte_codec.Emission.{Emission}
 use Rattle.enc_decoder.specs.declared.machine.NextEvent.TheVariants.{NeedsInput, HoldsByte, Emits}
@@ -19,11 +20,12 @@ use Rattle.enc_decoder.specs.Call.{IsCallInto, is_replacement_mode, reports}
 use Rattle.enc_decoder.proofs.SequenceLemmas.{or_false, or_true}
 use Rattle.enc_decoder.proofs.StageLemmas.{Stage, stage_after, nothing_written}
 use Rattle.enc_decoder.proofs.StateLeavesLemmas.{unread}
-use Rattle.enc_decoder.specs.Taking.{TakesRun, TakesSequences}
+use Rattle.enc_decoder.specs.Taking.{TakesRun, TakesSequences, SkipsEnd}
 use Rattle.enc_decoder.proofs.TakenRunLemmas.{reaches_run}
 use Rattle.enc_decoder.proofs.OutputStageLemmas.{Reaches, Progress, progress_at, room_at, call_to, call_over}
 use Rattle.enc_decoder.proofs.OutputStageLemmas.{reaches_state, start}
 use Rattle.enc_decoder.proofs.NextEventLemmas.{end_after, end_is}
+use Rattle.enc_decoder.proofs.SkippedEndLemmas.{skipped_end}
 use Rattle.enc_decoder.proofs.EventLeavesLemmas as event
 
 -- in error mode "fatal" what is not reported is not malformed
@@ -55,6 +57,13 @@ module _ {C : Type 0} {units_of : ℕ → List ℕ} (state : C → CodecState) {
       (call_to stage before at InputEmpty stage.read)
   stays needs = call_over reaches (event.input_empty state c stage needs) (λ e. cc) refl
       (omega arith)
+
+  -- the unread bytes end the input, and are skipped
+  pub skips : {w : CodecState} → SkipsEnd (state c) w (unread stage) → stage.last ≡ true
+      → IsCallInto units_of old (remainder_of w)
+      (call_to stage before at InputEmpty (length stage.src))
+  skips skipped is_last = call_over reaches (skipped_end stage skipped is_last) (λ e. cc) refl
+      (omega (arith, length-drop stage.read stage.src, reaches.leaves.within))
 
   pub holds : {n : C} → IsNextEvent state c stage.src stage.read stage.last (HoldsByte n)
       → Progress units_of old (remainder_of (state n)) stage.src stage.last stage.mode before at

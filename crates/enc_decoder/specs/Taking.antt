@@ -55,3 +55,13 @@ pub record TakesRun {C : Type 0} (units_of : ℕ → List ℕ) (state : C → Co
     (src : List ℕ) (read : ℕ) (before after : Output) : Type 0 where
   pub run : TakesSequences units_of (state c) (state n) src read before after
   pub none_malformed : any_malformed run.taken ≡ false
+
+-- Whole sequences that end the input: if nothing follows `src`, the pending bytes and those of
+-- `src` are these sequences. They have no text, none of them is malformed, and the codec continues
+-- after them.
+pub record SkipsEnd (old new : CodecState) (src : List ℕ) : Type 0 where
+  pub taken : List Sequence
+  pub all : (remainder_of old).sequences src ≡ taken
+  pub no_text : sequence_text taken ≡ []
+  pub none_malformed : any_malformed taken ≡ false
+  pub next_state : new ≡ record old { set = set_after old.set taken; pending = [] }

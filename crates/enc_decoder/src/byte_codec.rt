@@ -3,7 +3,7 @@
 ghost use Rattle.std.specs.Prelude.{◌≡◌, ◌<◌, ◌≤◌, length, drop, IfSome, IsTrue};
 ghost use Rattle.enc_decoder.specs.CodecState.{CodecState};
 ghost use Rattle.enc_decoder.specs.CodecLaw.{HandlesByte, IsNextOfPending, IsNextAtEnd, lone_fault};
-ghost use Rattle.enc_decoder.specs.Taking.{TakesRun, TakesSequences, IsReplacedCharAt};
+ghost use Rattle.enc_decoder.specs.Taking.{TakesRun, TakesSequences, SkipsEnd, IsReplacedCharAt};
 ghost use Rattle.enc_decoder.specs.declared.byte_codec.HandlerResult.TheVariants as steps;
 ghost use Rattle.enc_decoder.specs.Sequence.{is_malformed as malformed_kind};
 
@@ -89,6 +89,18 @@ pub trait ByteCodec: Copy {
         let _bytes = src;
         let _output = out;
         (self, 0)
+    }
+
+    /// Returns the state after `src`, if nothing follows and its bytes are skipped.
+    ///
+    /// `None` says nothing. It is called after a run, since a text may end with bytes that have no
+    /// text.
+    #[inline(always)]
+    fn take_end(self, src: &[u8]) -> Option<Self>
+        ensures { IfSome result (λ next. SkipsEnd (state self) (state next) src.now) }
+    {
+        let _end = (self, src.len());
+        None
     }
 
     /// Returns whether the next byte is malformed by itself, with this state after it.

@@ -1,13 +1,14 @@
 //! The loop over the bytes of a call, for every codec and every output.
 
-ghost use Rattle.std.specs.Prelude.{◌≡◌, ◌<◌, ◌≤◌, Bool, length, nat_le, IsTrue, IsFalse};
+ghost use Rattle.std.specs.Prelude.{◌≡◌, ◌<◌, ◌≤◌, Bool, true, length, drop, nat_le, IsTrue};
+ghost use Rattle.std.specs.Prelude.{IsFalse, IfSome, IsSome};
 ghost use Rattle.enc_utf8.specs.Text.{AreScalars, units_of_text};
 ghost use Rattle.enc_output.specs.Output.{Output, with_appended};
 ghost use Rattle.enc_decoder.specs.CodecLaw.{IsNextEvent, text_chars, lone_fault};
 ghost use Rattle.enc_decoder.specs.declared.machine.NextEvent.TheVariants as comings;
 ghost use Rattle.enc_decoder.specs.Call.{IsCodecCall, reports};
 ghost use Rattle.enc_decoder.specs.CallRecord.{call_into};
-ghost use Rattle.enc_decoder.specs.Taking.{TakesRun};
+ghost use Rattle.enc_decoder.specs.Taking.{TakesRun, SkipsEnd};
 
 use crate::byte_codec::{ByteCodec, Emission, HandlerResult, Kind, Text};
 use crate::error_mode::{CallOptions, ErrorMode};
@@ -171,6 +172,21 @@ fn run_on<C: ByteCodec, U: Units>(
     }
 }
 
+/// Returns the state after the bytes from `read` on, if they end the input and are skipped.
+#[inline(always)]
+fn at_skipped_end<C: ByteCodec>(codec: C, src: &[u8], read: usize, last: bool) -> Option<C>
+    requires within { read ≤ length src.now }
+    ensures last { IsSome result → last ≡ true }
+    ensures skips { IfSome result (λ next.
+        SkipsEnd (C.state codec) (C.state next) (drop read src.now)) }
+{
+    if !last {
+        return None;
+    }
+    let (_, rest) = src.split_at(read);
+    codec.take_end(rest)
+}
+
 /// Decodes a chunk (Encoding Standard 4.1, "process a queue").
 ///
 /// It stops when all of `src` is read, when the next sequence does not fit into `out`, and in error
@@ -191,6 +207,14 @@ pub fn run<C: ByteCodec, U: Units>(
         return DecoderOutcome {
             result: DecoderResult::InputEmpty,
             read: taken,
+            replaced: false,
+        };
+    }
+    if let Some(next) = at_skipped_end(ahead, src, taken, options.last) {
+        *codec = next;
+        return DecoderOutcome {
+            result: DecoderResult::InputEmpty,
+            read: src.len(),
             replaced: false,
         };
     }

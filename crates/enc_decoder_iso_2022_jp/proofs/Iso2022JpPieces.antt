@@ -1,8 +1,8 @@
 -- Characters of ISO-2022-JP are pieces, and a run may begin with an escape sequence.
 use Rattle.std.proofs.Common.{◌≡◌, ℕ, ◌+◌, ◌<◌, true, false, eqb, Option, Some, None, List, [], ◌∷◌, ◌++◌, length, take}
 use Rattle.std.proofs.Common.{drop, get_or, refl, ap, ◌∙◌, sym, subst, arith, append_assoc, length-drop, take-add}
-use Rattle.std.proofs.Common.{drop-cons}
-use Rattle.std.proofs.lemmas.List.{take-append-drop}
+use Rattle.std.proofs.Common.{drop-cons, append-nil}
+use Rattle.std.proofs.lemmas.List.{take-append-drop, take_all}
 use Rattle.std.proofs.lemmas.Bool.{lt-ltb, ne_eqb}
 use Rattle.std.specs.Prelude.{◌≢◌}
 use Rattle.std.specs.Option.{IfSome}
@@ -25,8 +25,8 @@ use Rattle.enc_decoder_iso_2022_jp.specs.Iso2022Jp.{two_byte_char, is_jis0208_by
 use Rattle.enc_decoder_iso_2022_jp.specs.Iso2022JpState.{Iso2022JpState, state_with_held, intermediate_byte}
 use Rattle.enc_decoder_iso_2022_jp.specs.Iso2022JpState.{escape_bytes, escape_set, StandsAlone}
 use Rattle.enc_decoder_iso_2022_jp.specs.Iso2022JpState.{iso_2022_jp_state as jp_state}
-use Rattle.enc_decoder.specs.Taking.{TakesSequences, TakesRun, IsWholeChar, IsReplacedChar}
-use Rattle.enc_decoder.proofs.SegmentationLemmas.{sequences_of-head}
+use Rattle.enc_decoder.specs.Taking.{TakesSequences, TakesRun, SkipsEnd, IsWholeChar, IsReplacedChar}
+use Rattle.enc_decoder.proofs.SegmentationLemmas.{sequences_of-head, sequences_of-nil}
 use Rattle.enc_decoder.proofs.TakingLemmas.{front, follows_second, takes_none}
 use Rattle.enc_decoder.proofs.PieceLemmas.{takes_pieces, takes_replaced, three_of}
 use Rattle.enc_decoder_iso_2022_jp.proofs.Iso2022JpLemmas.{found_for_other, has_escape_bytes, skipped_escape}
@@ -100,6 +100,17 @@ three_first : (e : Escape) (z : List ℕ) → (take 3 (escape_bytes e ++ z) ≡ 
     × (drop 3 (escape_bytes e ++ z) ≡ z)
 three_first e z = rw (has_escape_bytes e).bytes (refl, refl)
 
+-- the three bytes in front are an escape sequence
+escape_front : (src : List ℕ) (i : Intermediate) (e : Escape) → 2 < length src
+    → get_or src 0 0 ≡ 0x1B
+    → get_or src 1 0 ≡ intermediate_byte i
+    → escape_bytes e ≡ 0x1B ∷ intermediate_byte i ∷ get_or src 2 0 ∷ []
+    → take 3 src ≡ escape_bytes e
+escape_front src i e there first second bytes_are =
+    let names_set : get_or src 0 0 ∷ get_or src 1 0 ∷ get_or src 2 0 ∷ [] ≡ escape_bytes e =
+    rw (first, second) (sym bytes_are) in
+    three_of src 0 (omega arith) ∙ names_set
+
 -- the escape sequence of three bytes in front, if they are one
 pub stands_alone : (src : List ℕ) (i : Intermediate) (found : Option Escape) → 3 < length src
     → get_or src 0 0 ≡ 0x1B
@@ -109,17 +120,26 @@ pub stands_alone : (src : List ℕ) (i : Intermediate) (found : Option Escape) �
     0 ∷ [])
     → IfSome found (λ e. StandsAlone src e)
 stands_alone src i None there first second other bytes_are = tt
-stands_alone src i (Some e) there first second other bytes_are =
-    let names_set : get_or src 0 0 ∷ get_or src 1 0 ∷ get_or src 2 0 ∷ [] ≡ escape_bytes e =
-    rw (first, second) (sym bytes_are) in
-    record {
-      byte = get_or src 3 0;
-      rest = drop 4 src;
-      bytes = sym (take-append-drop 3 src)
-          ∙ ap (λ x. x ++ drop 3 src) (three_of src 0 (omega arith) ∙ names_set)
-          ∙ ap (λ x. escape_bytes e ++ x) (drop-cons src 3 0 there);
-      other = other;
-    }
+stands_alone src i (Some e) there first second other bytes_are = record {
+  byte = get_or src 3 0;
+  rest = drop 4 src;
+  bytes = sym (take-append-drop 3 src)
+      ∙ ap (λ x. x ++ drop 3 src) (escape_front src i e (omega arith) first second bytes_are)
+      ∙ ap (λ x. escape_bytes e ++ x) (drop-cons src 3 0 there);
+  other = other;
+}
+
+-- the escape sequence that three bytes are, if they are one
+pub is_whole : (src : List ℕ) (i : Intermediate) (found : Option Escape) → length src ≡ 3
+    → get_or src 0 0 ≡ 0x1B
+    → get_or src 1 0 ≡ intermediate_byte i
+    → IfSome found (λ e. escape_bytes e ≡ 0x1B ∷ intermediate_byte i ∷ get_or src 2
+    0 ∷ [])
+    → IfSome found (λ e. src ≡ escape_bytes e)
+is_whole src i None three first second bytes_are = tt
+is_whole src i (Some e) three first second bytes_are =
+    sym (take_all 3 src (omega arith))
+    ∙ escape_front src i e (omega arith) first second bytes_are
 
 after_escape : (units_of : ℕ → List ℕ) (s : CharacterSet) (e : Escape) (n : Iso2022JpState)
     (src : List ℕ) (more : ℕ)
@@ -175,6 +195,24 @@ takes_escape units_of c n e {src} {rest} {more} {before} {after} none_held next_
     (subst (λ o. TakesRun units_of jp_state (state_with_held c.set o) next src (3 + more) before
     after) (sym none_held)
     (after_escape units_of c.set e next src more before after is_alone some taken))
+
+-- An escape sequence that ends the input is skipped.
+pub skips_escape : (c n : Iso2022JpState) (e : Escape) {src : List ℕ}
+    → c.held ≡ None → n ≡ state_with_held (escape_set e) None → src ≡ escape_bytes e
+    → SkipsEnd (jp_state c) (jp_state n) src
+skips_escape c n e none_held next_is is_escape =
+    let same_state = ap (λ o. state_with_held c.set o) none_held in
+    rw (next_is, is_escape)
+    (subst (λ v. SkipsEnd (jp_state v) (jp_state (state_with_held (escape_set e) None))
+    (escape_bytes e)) (sym same_state) (record {
+      taken = skipped e ∷ [];
+      all = ap (sequences_of jp_rule (set_number c.set)) (sym (append-nil (escape_bytes e)))
+          ∙ skipped_escape (set_number c.set) e [] refl
+          ∙ ap (λ ss. skipped e ∷ ss) (sequences_of-nil jp_rule (set_number (escape_set e)));
+      no_text = refl;
+      none_malformed = refl;
+      next_state = refl;
+    }))
 
 -- No piece is taken, of whatever bytes.
 pub takes_no_pieces : {units_of : ℕ → List ℕ} {Means : List ℕ → ℕ → Type 0} (c : Iso2022JpState)

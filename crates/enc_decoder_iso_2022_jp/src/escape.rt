@@ -118,3 +118,14 @@ pub(crate) fn escape_in_front(src: &[u8]) -> Option<Escape>
     let intermediate = Intermediate::of_byte(src[1])?;
     Escape::of_bytes(intermediate, src[2])
 }
+
+/// Returns the escape sequence that these bytes are.
+pub(crate) fn whole_escape(src: &[u8]) -> Option<Escape>
+    ensures { IfSome result (λ e. src.now ≡ escape_bytes e) }
+{
+    if src.len() != 3 || src[0] != 0x1B {
+        return None;
+    }
+    let intermediate = Intermediate::of_byte(src[1])?;
+    Escape::of_bytes(intermediate, src[2])
+}

@@ -5,10 +5,10 @@ ghost use Rattle.enc_decoder_iso_2022_jp.specs.Iso2022JpState.{Iso2022JpState, s
 ghost use Rattle.enc_decoder_iso_2022_jp.specs.Iso2022JpState.{CanHold, iso_2022_jp_state};
 
 use crate::character_set::CharacterSet;
-use crate::escape::{Escape, Intermediate};
+use crate::escape::{Escape, Intermediate, whole_escape};
 use crate::handler::{step_first, step_start, step_started, step_trail, step_whole};
 use crate::replaced_ascii::{ReplacedAscii, has_many_malformed};
-use crate::runs::{is_seven_bit, put_in_set, take_escape};
+use crate::runs::{is_seven_bit, put_before_escape, take_escape};
 use crate::sequences::{cut_off, show_given_back};
 use enc_decoder::{
     ByteCodec, CallOptions, DecoderOutcome, Emission, HandlerResult, RawDecoder, TextLengths,
@@ -107,7 +107,7 @@ impl ByteCodec for Iso2022JpDecoder {
             return (self, 0);
         }
         let mut state = self;
-        let mut read = put_in_set(self, src, out);
+        let mut read = put_before_escape(self, src, out);
         loop {
             let (_, rest) = src.split_at(read);
             let (next, taken) = take_escape(state, rest, out);
@@ -117,6 +117,16 @@ impl ByteCodec for Iso2022JpDecoder {
                 return (state, read);
             }
         }
+    }
+
+    /// Skips an escape sequence, which no other one follows.
+    #[inline(always)]
+    fn take_end(self, src: &[u8]) -> Option<Iso2022JpDecoder> {
+        let None = self.held else {
+            return None;
+        };
+        let escape = whole_escape(src)?;
+        Some(with_held(escape.set(), None))
     }
 
     /// In each character set a byte with the high bit set is malformed by itself.

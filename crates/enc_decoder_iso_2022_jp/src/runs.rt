@@ -1,6 +1,6 @@
 //! Runs of characters in the designated set, and the escape sequences between them.
 
-ghost use Rattle.std.specs.Prelude.{◌≡◌, Option};
+ghost use Rattle.std.specs.Prelude.{◌≡◌, ◌≤◌, Option, IsTrue, length};
 ghost use Rattle.enc_decoder_iso_2022_jp.specs.Iso2022JpState.{iso_2022_jp_state};
 ghost use Rattle.enc_decoder_iso_2022_jp.specs.Iso2022Jp.{set_number, iso_2022_jp_rule};
 ghost use Rattle.enc_output.specs.PieceRuns.{PutsPieces};
@@ -19,7 +19,9 @@ use std::simd::prelude::*;
 /// Returns whether looking for a run pays: the first two bytes have no high bit set, as in all
 /// well-formed text.
 #[inline(always)]
-pub(crate) fn is_seven_bit(src: &[u8]) -> bool {
+pub(crate) fn is_seven_bit(src: &[u8]) -> bool
+    ensures { IsTrue result → 2 ≤ length src.now }
+{
     src.len() >= 2 && (src[0] | src[1]) < 0x80
 }
 
@@ -107,6 +109,24 @@ pub(crate) fn put_in_set<U: Units>(decoder: Iso2022JpDecoder, src: &[u8], out: &
         CharacterSet::Jis0208 => out.put_pieces(Pairs { pieces: InJis0208 }, src),
         set => out.put_pieces(OneByOne { pieces: set }, src),
     }
+}
+
+/// Writes characters of the designated set from the front, and none if an escape sequence begins
+/// there. Returns their length in bytes.
+#[inline(always)]
+pub(crate) fn put_before_escape<U: Units>(
+    decoder: Iso2022JpDecoder,
+    src: &[u8],
+    out: &mut U,
+) -> usize
+    requires some { 1 ≤ length src.now }
+    ensures { PutsPieces U.units_of (IsWholeChar iso_2022_jp_rule (set_number decoder.set))
+        (U.output out.old) (U.output out.new) src.now result }
+{
+    if src[0] == 0x1B {
+        return 0;
+    }
+    put_in_set(decoder, src, out)
 }
 
 /// Takes an escape sequence that no other one directly follows, with the characters after it.

@@ -20,7 +20,7 @@ loop-state-init g c =
     record {
       run = takes_pieces g.U.Units.units_of iso_2022_jp_state c.args.self _ _ _ _
           (ap bytes_of_held none)
-          c.put_in_set-read.ensures;
+          c.put_before_escape-read.ensures;
       none_held = none;
     }
 
