@@ -1,7 +1,6 @@
 -- Characters of one code unit of UTF-16.
-use Rattle.std.proofs.Common.{◌≡◌, ℕ, zero, suc, ◌+◌, ◌*◌, ◌≤◌, Bool, List, [], ◌∷◌, ◌++◌, length, take, refl, ap, ◌∙◌}
-use Rattle.std.proofs.Common.{◌-◌, sym, subst, arith, take-add, drop, drop-drop}
-use Rattle.std.proofs.lemmas.List.{take_all}
+use Rattle.std.proofs.Common.{◌≡◌, ℕ, zero, suc, ◌+◌, ◌*◌, ◌≤◌, Bool, List, [], ◌∷◌, length, take, refl, ap, ◌∙◌}
+use Rattle.std.proofs.Common.{◌-◌, sym, subst, arith, drop}
 use Rattle.std.proofs.lemmas.Bool.{and_parts}
 use Rattle.std.specs.Char.Escape.{encode_utf16}
 use Rattle.enc_utf8.proofs.LengthLemmas.{lengths}
@@ -13,7 +12,6 @@ use borrow.Rule.Slice.PartMut.{put_mid}
 use Rattle.enc_output.proofs.GatherLemmas.{lanes_put}
 use Rattle.enc_utf8.specs.Text.{AreScalars, units_of_text}
 use Rattle.enc_output.specs.PieceRuns.{ReadsPieces, PutsPieces}
-use Rattle.enc_utf8.proofs.UnitsLemmas.{units-append}
 use Rattle.enc_output.proofs.PiecesLemmas.{reads_none, reads_one, reads_then, reads_wider}
 
 -- characters of one code unit each

@@ -142,6 +142,51 @@ units_of_utf8 src (c ∷ t) a at y x s =
     let parts = and_parts _ _ a in
     one_more src c t (units_of_utf8 src t parts.1) at y x parts.0 (form_of c) s
 
+-- one character of three bytes
+
+-- its third byte continues, and its first begins no character of four
+third_of_char : (src : List ℕ) (c : ℕ) (bytes : List ℕ) → Form c
+    → Stand src 0 (encode_utf8 c ++ bytes) → length (encode_utf8 c ++ bytes) ≡ 3
+    → 0xE0 ≤ get_or src 0 0
+    → (get_or src 0 0 < 0xF0) × (0x80 ≤ get_or src 2 0) × (get_or src 2 0 < 0xC0)
+third_of_char src c bytes (One low code) s three from =
+    let stand = rw code at s in
+    absurd (omega (arith, stand.0))
+third_of_char src c bytes (Two above below code) s three from =
+    let stand = rw code at s in
+    absurd (omega (arith, stand.0))
+third_of_char src c bytes (Three above below code) s three from =
+    let stand = rw code at s in
+    (omega (arith, stand.0), omega (arith, stand.1.1.0), omega (arith, stand.1.1.0))
+third_of_char src c bytes (Four above code) s three from =
+    let long = rw code at three in
+    absurd (omega (arith, long))
+
+third_of : (src t : List ℕ) → Stand src 0 (units_of_text encode_utf8 t)
+    → length (units_of_text encode_utf8 t) ≡ 3 → 0xE0 ≤ get_or src 0 0
+    → (get_or src 0 0 < 0xF0) × (0x80 ≤ get_or src 2 0) × (get_or src 2 0 < 0xC0)
+third_of src [] s three from = absurd (omega arith)
+third_of src (c ∷ t) s three from =
+    third_of_char src c (units_of_text encode_utf8 t) (form_of c) s three from
+
+-- so its first byte alone gives a code unit
+pub three_bytes_unit : (src : List ℕ) → 3 ≤ length src → IsWellFormedUtf8 (take 3 src)
+    → 0xE0 ≤ get_or src 0 0 → (0x80 ≤ get_or src 1 0) × (get_or src 1 0 < 0xC0)
+    → units_from src 0 3
+    ≡ code_unit_of_byte (get_or src 0 0) (get_or src 1 0) (get_or src 2 0) ∷ []
+three_bytes_unit src within utf8 from second_in =
+    let bytes : units_of_text encode_utf8 utf8.0 ≡ take 3 src = their_units utf8.0 ∙ utf8.1.1 in
+    let last = third_of src utf8.0 (subst (Stand src 0) (sym bytes) (stands src 0 3 within))
+    (omega (arith, lengths, ap length bytes)) from in
+    let first : unit_at src 0
+    ≡ code_unit_of_byte (get_or src 0 0) (get_or src 1 0) (get_or src 2 0) ∷ [] =
+    gives_one 0 (get_or src 0 0) (get_or src 1 0) (get_or src 2 0) _ (grind (arith, nat_tests)) refl
+    in
+    let second : unit_at src 1 ≡ [] = gives_none 0 (get_or src 1 0) _ (omega arith) second_in in
+    let third : unit_at src 2 ≡ [] =
+    gives_none (get_or src 0 0) (get_or src 2 0) _ last.0 (last.1, last.2) in
+    rw (first, second, third) refl
+
 -- the code units of well-formed bytes in front are put out
 pub puts_units : (before after : Output) (src : List ℕ) (n : ℕ) → n ≤ length src
     → length (units_from src 0 n) ≤ before.room → IsWellFormedUtf8 (take n src)

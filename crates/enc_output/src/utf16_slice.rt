@@ -17,7 +17,7 @@ use crate::run::Run;
 use crate::unit_slice::{UnitSlice, append_ascii_of, append_each};
 use crate::units::Units;
 use crate::utf8_pieces::Utf8Pieces;
-use crate::utf8_units::write_units;
+use crate::utf8_units::{narrow_char, write_units};
 use crate::widen::{is_nearly_ascii, widen_ascii};
 use crate::windows::{WINDOW, Windows};
 use enc_utf8::{char_len, utf8_front};
@@ -172,6 +172,44 @@ impl<'a> Utf16Slice<'a> {
         self.append_part(src)
     }
 
+    /// Writes the character at the front, if it has at most three bytes and fits. Returns its
+    /// length in bytes.
+    #[inline(always)]
+    fn append_narrow(&mut self, src: &[u8]) -> usize
+        ensures { PutsPieces encode_utf16 IsUtf8Char (borrowed_output self.old.len self.old.dst)
+            (borrowed_output self.new.len self.new.dst) src.now result }
+    {
+        if src.is_empty() || self.len == self.dst.len() {
+            return 0;
+        }
+        let Some((unit, len)) = narrow_char(src) else {
+            return 0;
+        };
+        self.dst[self.len] = unit;
+        self.len += 1;
+        len
+    }
+
+    /// Writes characters of at most three bytes from the front, one by one. Returns their length in
+    /// bytes.
+    ///
+    /// Short input has no use for lanes.
+    #[inline(always)]
+    fn append_narrows(&mut self, src: &[u8]) -> usize
+        ensures { PutsPieces encode_utf16 IsUtf8Char (borrowed_output self.old.len self.old.dst)
+            (borrowed_output self.new.len self.new.dst) src.now result }
+    {
+        let mut at = 0;
+        loop {
+            let (_, rest) = src.split_at(at);
+            let len = self.append_narrow(rest);
+            if len == 0 {
+                return at;
+            }
+            at += len;
+        }
+    }
+
     /// Writes well-formed UTF-8 from the front, in parts with the ASCII after each, and then one by
     /// one. Returns its length.
     #[inline(never)]
@@ -179,7 +217,14 @@ impl<'a> Utf16Slice<'a> {
         ensures { PutsPieces encode_utf16 IsUtf8Char (borrowed_output self.old.len self.old.dst)
             (borrowed_output self.new.len self.new.dst) src.now result }
     {
-        let mut at = 0;
+        let mut at = if src.len() < FEW {
+            self.append_narrows(src)
+        } else {
+            0
+        };
+        if at == src.len() {
+            return at;
+        }
         loop {
             let (_, rest) = src.split_at(at);
             let taken = self.append_some(rest);

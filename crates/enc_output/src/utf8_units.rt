@@ -1,14 +1,14 @@
 //! Well-formed UTF-8 as UTF-16, sixteen bytes at a time, with no branch on whether characters have
 //! one, two or three bytes.
 
-ghost use Rattle.std.specs.Prelude.{◌≡◌, ℕ, ◌+◌, ◌-◌, ◌/◌, ◌%◌, ◌^◌, ◌<◌, ◌≤◌, ◌++◌, length, take, drop};
-ghost use Rattle.std.specs.Prelude.{slice_index, IsTrue, if◌then◌else◌};
+ghost use Rattle.std.specs.Prelude.{◌≡◌, ℕ, ◌+◌, ◌-◌, ◌/◌, ◌%◌, ◌^◌, ◌<◌, ◌≤◌, [], ◌∷◌, ◌++◌, length, take};
+ghost use Rattle.std.specs.Prelude.{drop, slice_index, IsTrue, IfSome, if◌then◌else◌};
 ghost use Rattle.enc_output.specs.Utf8Units.{gives_unit, code_unit_of_byte, byte_two_before, units_from};
 ghost use Rattle.enc_output.specs.Utf8Units.{marked_code_units};
 ghost use Rattle.enc_utf8.specs.Validity.{IsWellFormedUtf8};
 
 use crate::marked::MARKED;
-use enc_utf8::pick;
+use enc_utf8::{char_len, pick};
 use std::simd::prelude::*;
 
 /// The length of the buffer.
@@ -169,6 +169,33 @@ fn gives(src: &[u8], at: usize) -> bool
 {
     let byte = src[at];
     byte < 0x80 || 0xC0 <= byte || 0xF0 <= byte_before(src, at)
+}
+
+/// Returns the code unit and the length in bytes of the character at the front, if it has at most
+/// three bytes.
+#[inline(always)]
+pub(crate) fn narrow_char(src: &[u8]) -> Option<(u16, usize)>
+    requires some { 1 ≤ length src.now }
+    ensures within { IfSome result (λ p. p.1 ≤ length src.now) }
+    ensures some { IfSome result (λ p. 0 < p.1) }
+    ensures utf8 { IfSome result (λ p. IsWellFormedUtf8 (take p.1 src.now)) }
+    ensures unit { IfSome result (λ p. units_from src.now 0 p.1 ≡ p.0 ∷ []) }
+{
+    let first = src[0];
+    if first < 0x80 {
+        return Some((first as u16, 1));
+    }
+    if first < 0xC2 || src.len() < 2 || src[1] < 0x80 || 0xC0 <= src[1] {
+        return None;
+    }
+    let pair = first as u16 * 0x40 + src[1] as u16;
+    if first < 0xE0 {
+        return Some((pair.wrapping_add(0xCF80), 2));
+    }
+    if char_len(src) != 3 {
+        return None;
+    }
+    Some((unit_of(first, src[1], src[2]), 3))
 }
 
 /// Stores the code unit of the byte at `at`, if it gives one. Returns its end.

@@ -8,7 +8,7 @@ use Rattle.enc_output.proofs.utf16_slice.Utf16Slice.append_utf8.Given as goal
 abbrev pub invariant-loop-self : goal.invariant-loop-self
 invariant-loop-self l =
     PutsPieces encode_utf16 IsUtf8Char
-    (borrowed_output l.initial.self.len l.initial.self.dst)
+    (borrowed_output l.fn.self.len l.fn.self.dst)
     (borrowed_output l.self.len l.self.dst) l.src l.at
 
 abbrev pub decreases-loop-self : goal.decreases-loop-self
