@@ -1,6 +1,6 @@
 -- One-shot calls: the text and the state after calls of a decoder that are offered the whole input.
 use Rattle.std.proofs.Common.{◌≡◌, ℕ, Bool, true, false, true≢false, List, [], ◌∷◌, ◌++◌, length, take, drop, refl, ap}
-use Rattle.std.proofs.Common.{◌∙◌, sym, arith, append_assoc, append-nil, ◌||◌, if◌then◌else◌}
+use Rattle.std.proofs.Common.{◌∙◌, sym, subst, arith, append_assoc, append-nil, ◌||◌, if◌then◌else◌}
 use Rattle.std.proofs.lemmas.List.{take-append-drop}
 use Rattle.std.specs.Prelude.{Option, Some, None, IfSome, ◌==◌, ◌≢◌}
 use Rattle.std.specs.Char.{encode_utf8}
@@ -13,16 +13,19 @@ use Rattle.enc_utf8.specs.declared.coder_result.CoderResult.{CoderResult}
 use Rattle.enc_utf8.specs.declared.coder_result.CoderResult.TheVariants as coder
 use Rattle.enc_output.specs.Results.{decoder_result_of}
 use Rattle.enc_utf8.specs.Text.{units_of_text}
+use Rattle.enc_utf8.proofs.UnitsLemmas.{text_utf8}
+use Rattle.std.specs.Str.{IsUtf8}
 use Rattle.enc_decoder.specs.Sequence.{Sequence, sequence_text, is_malformed, any_malformed}
 use Rattle.enc_decoder.specs.declared.error_mode.ErrorMode.{ErrorMode}
 use Rattle.enc_decoder.specs.Call.{reaches_end}
+use Rattle.enc_decoder.specs.CallRecord.{Call}
 use Rattle.enc_decoder.specs.Remainder.{Remainder, AreBytes}
 use Rattle.enc_decoder.proofs.SequenceLemmas.{units-append, any_malformed-append}
 use Rattle.enc_decoder.proofs.SegmentationLemmas.{sequences_of-nil}
 use Rattle.enc_stream.specs.Encodings.{rule_of}
 use Rattle.enc_stream.specs.Bom.{find_mark, sequences_by_mark}
 use Rattle.enc_stream.specs.Decoding.{DecoderState, has_finished, fresh_decoder, remaining_sequences}
-use Rattle.enc_stream.specs.Decoding.{whole_sequences, whole_malformed, DecodesChunk}
+use Rattle.enc_stream.specs.Decoding.{whole_sequences, whole_utf_8, whole_malformed, DecodesChunk}
 use Rattle.enc_stream.specs.Decoding.{replacing_call, reporting_call}
 use Rattle.enc_stream.specs.Decoding.{AnswersDecode, HasDecoded}
 use Rattle.enc_utf8.specs.Checked.{checked_add}
@@ -125,6 +128,31 @@ next_call coder.InputEmpty decoded src_is before_is decodes keeps =
 next_call coder.OutputFull decoded src_is before_is decodes keeps =
     goes_on (rw (src_is, before_is) decoded) decodes keeps (sym decodes.call.stops.only_put)
 
+-- a call writes UTF-8
+pub utf_8_written : {least : ℕ} {old new : DecoderState} {c : Call}
+    → AnswersDecode encode_utf8 least old new c → IsUtf8 c.wrote
+utf_8_written answers = text_utf8 _ _ answers.decodes.call.scalars answers.decodes.call.text
+
+-- A call with replacement of a new decoder, which is given the whole input and comes to its end,
+-- writes the whole text.
+module _ (handling : BomHandling) (e : Encoding) (result : CoderResult) {new : DecoderState}
+    {c : Call} (answers : AnswersDecode encode_utf8 4 (fresh_decoder handling e) new c)
+    (call_is : c ≡ replacing_call c.src true c.room result c.read c.wrote c.replaced)
+    (at_end : result ≡ coder.InputEmpty) where
+  decodes_all : DecodesChunk encode_utf8 (fresh_decoder handling e) new
+      (replacing_call c.src true c.room result c.read c.wrote c.replaced)
+  decodes_all = subst (DecodesChunk encode_utf8 (fresh_decoder handling e) new) call_is
+      answers.decodes
+
+  decoded_at_once : HasDecoded handling e c.src (drop c.read c.src) true new c.wrote c.replaced
+  decoded_at_once = next_call result (none_decoded handling e c.src) refl refl decodes_all refl
+
+  pub text_at_once : c.wrote ≡ whole_utf_8 handling e c.src
+  text_at_once = whole_text decoded_at_once (rw at_end at decodes_all.finished)
+
+  pub flag_at_once : c.replaced ≡ whole_malformed handling e c.src
+  flag_at_once = whole_flag decoded_at_once (rw at_end at decodes_all.finished)
+
 -- a malformed sequence is one of all
 any_of_last : (ss ts : List Sequence) (s : Sequence) → is_malformed s.kind ≡ true
     → any_malformed ((ss ++ s ∷ []) ++ ts) ≡ true
@@ -175,9 +203,9 @@ pub asks_for_memory : {handling : BomHandling} {e : Encoding} {bytes : List ℕ}
     {decoder : DecoderState} → decoder ≡ fresh_decoder handling e
     → {length_answered : Option ℕ}
     → length_answered ≡ max_length Utf8Reporting decoder (length bytes)
-    → false ≡ (length bytes == 0) → length_answered ≢ None → MayLackMemory handling e bytes
-asks_for_memory {bytes} is_fresh length_is not_empty fits = record {
-  some = something not_empty;
+    → bytes ≢ [] → length_answered ≢ None → MayLackMemory handling e bytes
+asks_for_memory {bytes} is_fresh length_is some fits = record {
+  some = some;
   length_fits = rw (length_is, is_fresh) at fits;
 }
 

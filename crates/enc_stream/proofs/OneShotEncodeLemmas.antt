@@ -1,7 +1,7 @@
 -- One-shot calls: the bytes and the state after calls of an encoder that are offered the whole
 -- text.
 use Rattle.std.proofs.Common.{◌≡◌, ℕ, ◌≤◌, Bool, true, ◌||◌, List, [], ◌∷◌, ◌++◌, length, take, drop, refl, ap}
-use Rattle.std.proofs.Common.{◌∙◌, sym, subst, append_assoc, append-nil, chars}
+use Rattle.std.proofs.Common.{◌∙◌, sym, append_assoc, append-nil, chars}
 use Rattle.std.specs.Prelude.{Option, None, ◌≢◌}
 use Rattle.std.proofs.lemmas.List.{take-append-drop}
 use Rattle.std.specs.Char.{encode_utf8}
@@ -26,7 +26,7 @@ use Rattle.enc_stream.specs.OneShot.{HasWritten, length_to_encode, remaining_len
 use Rattle.enc_stream.specs.OneShot.{AreFullRounds, IsTooLongToEncode}
 use Rattle.enc_decoder.proofs.SequenceLemmas.{or_assoc}
 use Rattle.enc_stream.proofs.EncoderProgressLemmas.{none_due, output_rule_is}
-use Rattle.std.proofs.Common.{IsUtf8, false}
+use Rattle.std.proofs.Common.{IsUtf8, false, rules}
 use Rattle.enc_decoder.proofs.SequenceLemmas.{or_false}
 use Rattle.enc_stream.proofs.UnreadTextLemmas.{all_read, chars_after}
 
@@ -60,6 +60,14 @@ pub record HasEncoded (e : Encoding) (text : List ℕ) (state : EncoderState) (u
   -- only the first call asks for a length that is not there
   pub start : length_to_encode (output_encoding_of e) (length text) ≡ None → unread ≡ text
 
+-- There is room for a call with the unread text, after `written` bytes: at least the answer of the
+-- length query, which does not overflow usize.
+pub record HasRoomForCall (state : EncoderState) (unread : List ℕ) (written room : ℕ)
+    : Type 0 where
+  pub fits : checked_add (remaining_length state (length unread)) written ≢ None
+  pub enough : HasRoomFor (remaining_length state (length unread)) room
+  pub least : 14 ≤ room
+
 -- no call
 pub none_encoded : (e : Encoding) (text : List ℕ)
     → HasEncoded e text (fresh_encoder [] e) text [] false
@@ -79,6 +87,15 @@ none_encoded e text = record {
 -- no text
 pub nothing_written : (e : Encoding) (text : List ℕ) → text ≡ [] → [] ≡ whole_bytes [] e text
 nothing_written e text none = sym (none_due [] e) ∙ ap (whole_bytes [] e) (sym none)
+
+-- Before the first call there is room, once there is room for the answer to its length query.
+pub has_first_room : (state : EncoderState) (text : List ℕ) {answer : Option ℕ} {room : ℕ}
+    → answer ≡ remaining_length state (length text) → HasRoomFor answer room → 14 ≤ room
+    → HasRoomForCall state text 0 room
+has_first_room state text {answer} {room} answer_is enough least =
+    let is_enough : HasRoomFor (remaining_length state (length text)) room = rw answer_is at enough
+    in
+    record { fits = search rules; enough = is_enough; least = least }
 
 -- no reference is left to the caller
 none_after : (stop : CoderResult) → reference_after (encoder_result_of stop) ≡ []
@@ -175,10 +192,9 @@ module _ {e : Encoding} {text : List ℕ} {old : EncoderState} {unread before : 
 
     -- and otherwise others follow
     pub one_more : ¬ (stop ≡ InputEmpty) → {left : List ℕ} → left ≡ drop read unread
-        → IsUtf8 unread → {answer : Option ℕ} → answer ≡ remaining_length old (length unread)
-        → checked_add answer (length before) ≢ None → HasRoomFor answer room → 14 ≤ room
+        → IsUtf8 unread → HasRoomForCall old unread (length before) room
         → HasEncoded e text new left after (had || replaced)
-    one_more goes_on left_is utf8 answer_is fits enough least =
+    one_more goes_on left_is utf8 has_room =
         let left_chars = ap chars left_is
         ∙ chars_after _ _ _ _ utf8 encodes.call.reads encodes.call.units in
         record {
@@ -200,15 +216,15 @@ module _ {e : Encoding} {text : List ℕ} {old : EncoderState} {unread before : 
               } in
               so_far.full (round ∷ rounds) last rest all (
                 record {
-                  length_fits = subst (λ n. checked_add n (length before) ≢ None) answer_is fits;
-                  enough = subst (λ n. HasRoomFor n room) answer_is enough;
-                  least = least;
+                  length_fits = has_room.fits;
+                  enough = has_room.enough;
+                  least = has_room.least;
                   call = rw (full_otherwise stop goes_on) at encodes;
                 },
                 rw (← left_is, ← joined) full,
               );
-          start = λ none. absurd (fits (ap (λ n. checked_add n (length before))
-              (answer_is ∙ none_asked none)));
+          start = λ none. absurd (has_room.fits
+              (ap (λ n. checked_add n (length before)) (none_asked none)));
         }
 
 -- the first length query overflows usize

@@ -1,5 +1,5 @@
 -- A codec's call over a chunk, if no bytes of a byte order mark are held, as a call of the decoder.
-use Rattle.std.proofs.Common.{◌≡◌, ℕ, Bool, true, false, List, [], ◌++◌, length, take}
+use Rattle.std.proofs.Common.{◌≡◌, ℕ, true, false, List, [], ◌++◌, length, take}
 use Rattle.std.proofs.Common.{drop, refl, ap, ◌∙◌, sym, arith, append-nil, subst, inl, inr, eqb, eqb-true}
 use Rattle.std.proofs.lemmas.Bool.{eqb-false, false≢true}
 use Rattle.enc_stream.specs.declared.encoding.Encoding.{Encoding}

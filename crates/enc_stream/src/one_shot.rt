@@ -1,14 +1,18 @@
 //! One-shot calls, for whole inputs.
 
-ghost use Rattle.std.specs.Prelude.{◌≡◌, ◌≢◌, ◌-◌, ◌≤◌, [], true, false, chars, length, option_map};
+ghost use Rattle.std.specs.Prelude.{◌≡◌, ◌≢◌, ◌↔◌, ◌-◌, ◌<◌, ◌≤◌, [], true, false, chars, length};
+ghost use Rattle.std.specs.Prelude.{option_map, IsTrue};
 ghost use Rattle.std.specs.Prelude.{IfOk, IsOk, IfErr, IsErrOf, IfSome, OnOk, OnErr, Some, None};
 ghost use Rattle.std.specs.Vec.{vec_len, vec_capacity};
 ghost use Rattle.std.specs.String.{string_bytes, string_len, string_capacity};
 ghost use Rattle.enc_utf8.specs.Checked.{checked_add};
 ghost use Rattle.enc_encoder.specs.Unmappable.{any_unmappable};
 ghost use Rattle.enc_stream.specs.declared.bom.BomHandling.TheVariants as handling;
+ghost use Rattle.enc_stream.specs.declared.lengths.Query.TheVariants as query;
 ghost use Rattle.enc_stream.specs.Encodings.{output_rule};
 ghost use Rattle.enc_stream.specs.Properties.{output_encoding_of};
+ghost use Rattle.enc_stream.specs.Lengths.{max_length};
+ghost use Rattle.enc_stream.specs.Decoding.{fresh_decoder};
 ghost use Rattle.enc_stream.specs.Decoding.{whole_encoding, whole_utf_8, whole_malformed};
 ghost use Rattle.enc_stream.specs.Encoder.{whole_bytes};
 ghost use Rattle.enc_stream.specs.OneShot.{utf_8_without_replacement, HasRoomFor};
@@ -27,6 +31,21 @@ use crate::sniffing::Sniffed;
 use enc_output::DecoderResult;
 use enc_utf8::CoderResult;
 use std::alloc::Global;
+
+/// A length in bytes for which no length to allocate overflows.
+const MODEST: usize = 0x1000_0000_0000_0000;
+
+/// The most bytes of a short input.
+const SHORT: usize = 64;
+
+/// The most bytes of an input of medium length.
+const MEDIUM: usize = 320;
+
+/// The length of a buffer in which the longest text of a short input fits.
+const SHORT_TEXT: usize = 208;
+
+/// The length of a buffer in which the longest text of an input of medium length fits.
+const MEDIUM_TEXT: usize = 1024;
 
 /// Returns a length to allocate, if it does not overflow after `written` bytes.
 fn length_after(length: Option<usize>, written: usize) -> Result<usize, OneShotError>
@@ -88,6 +107,23 @@ fn make_room(text: &mut String, length: Option<usize>) -> Result<(), OneShotErro
     Ok(())
 }
 
+/// Returns an empty Vec with room for `length` bytes, and for a reference and one character at
+/// least.
+fn bytes_with_room(alloc: Global, length: Option<usize>) -> Result<Vec<u8>, OneShotError>
+    ensures bytes { IfOk result (λ bytes. bytes.items ≡ []) }
+    ensures room { IfOk result (λ bytes. 14 ≤ vec_capacity bytes - vec_len bytes) }
+    ensures enough { IfOk result (λ bytes.
+        HasRoomFor length (vec_capacity bytes - vec_len bytes)) }
+    ensures too_long { IsErrOf result OneShotError.TooLong → length ≡ None }
+    ensures none { length ≡ None → IsErrOf result OneShotError.TooLong }
+    ensures memory { IsErrOf result OneShotError.Memory → length ≢ None }
+{
+    let Some(room) = length else {
+        return Err(OneShotError::TooLong);
+    };
+    Ok(Vec::with_capacity(alloc, room.max(14))?)
+}
+
 /// Makes room in a Vec for `length` more bytes, and for a reference and one character at least.
 fn make_byte_room(bytes: &mut Vec<u8>, length: Option<usize>) -> Result<(), OneShotError>
     ensures bytes { bytes.new.items ≡ bytes.old.items }
@@ -105,11 +141,106 @@ fn make_byte_room(bytes: &mut Vec<u8>, length: Option<usize>) -> Result<(), OneS
     Ok(())
 }
 
+/// Copies a text into memory of its length.
+fn copy_text(alloc: Global, text: &str) -> Result<String, OneShotError>
+    ensures text { IfOk result (λ copy. string_bytes copy ≡ text.now) }
+    ensures memory { IfErr result (λ fault. fault ≡ OneShotError.Memory) }
+{
+    Ok(String::from_str(alloc, text)?)
+}
+
 /// Decodes a whole input by calls of a decoder, with U+FFFD for each malformed sequence.
 ///
 /// `sniffed` is the result of the search for a byte order mark at its start. One call is enough if
 /// nothing is malformed. Otherwise a second call may follow, after a growth for the rest of the
-/// input.
+/// input. Condition: the input is not empty.
+#[inline(never)]
+fn convert_long(
+    alloc: Global,
+    encoding: Encoding,
+    handling: BomHandling,
+    sniffed: (Sniffed, usize),
+    bytes: &[u8],
+) -> Result<(String, bool), OneShotError>
+    requires within { sniffed.1 ≤ length bytes.now }
+    requires sniffed { IsSniffed (start_life handling encoding.id) bytes.now true sniffed.0
+        sniffed.1 }
+    requires some { bytes.now ≢ [] }
+    ensures text { IfOk result (λ answer.
+        string_bytes answer.0 ≡ whole_utf_8 handling encoding bytes.now) }
+    ensures flag { IfOk result (λ answer. answer.1 ≡ whole_malformed handling encoding bytes.now) }
+    ensures too_long { IsErrOf result OneShotError.TooLong → IsTooLong handling encoding bytes.now }
+    ensures first { first_length handling encoding bytes.now ≡ None
+        → IsErrOf result OneShotError.TooLong }
+    ensures memory { IsErrOf result OneShotError.Memory
+        → MayLackMemory handling encoding bytes.now }
+{
+    let length = whole_length(encoding, handling, bytes.len());
+    let mut text = text_with_room(alloc, length)?;
+    let (mut decoder, stop, read, had_errors) = Decoder::whole_to_string(
+        encoding, handling, sniffed, bytes, &mut text,
+    );
+    if stop == CoderResult::InputEmpty {
+        return Ok((text, had_errors));
+    }
+    let (_, unread) = bytes.split_at(read);
+    let length = decoder.max_utf8_buffer_length(unread.len());
+    make_room(&mut text, length)?;
+    match decoder.decode_to_string(unread, &mut text, true) {
+        (CoderResult::InputEmpty, _, replaced) => Ok((text, had_errors | replaced)),
+        (CoderResult::OutputFull, _, _) => unreachable!(),
+    }
+}
+
+/// Decodes a short whole input through a buffer of N bytes, with U+FFFD for each malformed
+/// sequence, and copies its text into memory of its length.
+///
+/// If the text does not fit, it is decoded as a long one. It is a function of its own, so that its
+/// callers have no buffer to clear. Conditions: the input is not empty, and shorter than `MODEST`
+/// bytes, and N is at most `MEDIUM_TEXT`.
+#[inline(never)]
+fn convert_through<const N: usize>(
+    alloc: Global,
+    encoding: Encoding,
+    handling: BomHandling,
+    sniffed: (Sniffed, usize),
+    bytes: &[u8],
+) -> Result<(String, bool), OneShotError>
+    requires within { sniffed.1 ≤ length bytes.now }
+    requires sniffed { IsSniffed (start_life handling encoding.id) bytes.now true sniffed.0
+        sniffed.1 }
+    requires some { bytes.now ≢ [] }
+    requires short { length bytes.now < MODEST }
+    requires room { N ≤ MEDIUM_TEXT }
+    ensures text { IfOk result (λ answer.
+        string_bytes answer.0 ≡ whole_utf_8 handling encoding bytes.now) }
+    ensures flag { IfOk result (λ answer. answer.1 ≡ whole_malformed handling encoding bytes.now) }
+    ensures too_long { IsErrOf result OneShotError.TooLong → IsTooLong handling encoding bytes.now }
+    ensures first { first_length handling encoding bytes.now ≡ None
+        → IsErrOf result OneShotError.TooLong }
+    ensures memory { IsErrOf result OneShotError.Memory
+        → MayLackMemory handling encoding bytes.now }
+{
+    let mut buffer = [0; N];
+    let (stop, len, had_errors) = Decoder::whole_to_utf8(
+        encoding,
+        handling,
+        sniffed,
+        bytes,
+        &mut buffer,
+    );
+    match stop {
+        CoderResult::InputEmpty => {
+            let text = unsafe { str::from_utf8_unchecked(&buffer[..len]) };
+            Ok((copy_text(alloc, text)?, had_errors))
+        }
+        CoderResult::OutputFull => convert_long(alloc, encoding, handling, sniffed, bytes),
+    }
+}
+
+/// Decodes a whole input, with U+FFFD for each malformed sequence: a short one through a buffer.
+///
+/// `sniffed` is the result of the search for a byte order mark at its start.
 pub(crate) fn convert_whole(
     alloc: Global,
     encoding: Encoding,
@@ -134,29 +265,22 @@ pub(crate) fn convert_whole(
     if bytes.is_empty() {
         return Ok((empty_text(alloc), false));
     }
-    let length = whole_length(encoding, handling, bytes.len());
-    let mut text = text_with_room(alloc, length)?;
-    let (mut decoder, stop, read, had_errors) = Decoder::whole_to_string(
-        encoding, handling, sniffed, bytes, &mut text,
-    );
-    if stop == CoderResult::InputEmpty {
-        return Ok((text, had_errors));
+    if bytes.len() <= SHORT {
+        return convert_through::<SHORT_TEXT>(alloc, encoding, handling, sniffed, bytes);
     }
-    let (_, unread) = bytes.split_at(read);
-    let length = decoder.max_utf8_buffer_length(unread.len());
-    make_room(&mut text, length)?;
-    match decoder.decode_to_string(unread, &mut text, true) {
-        (CoderResult::InputEmpty, _, replaced) => Ok((text, had_errors | replaced)),
-        (CoderResult::OutputFull, _, _) => unreachable!(),
+    if bytes.len() <= MEDIUM {
+        return convert_through::<MEDIUM_TEXT>(alloc, encoding, handling, sniffed, bytes);
     }
+    convert_long(alloc, encoding, handling, sniffed, bytes)
 }
 
-/// Copies a text into memory of its length.
-fn copy_text(alloc: Global, text: &str) -> Result<String, OneShotError>
-    ensures text { IfOk result (λ copy. string_bytes copy ≡ text.now) }
-    ensures memory { IfErr result (λ fault. fault ≡ OneShotError.Memory) }
+/// Returns whether the length to allocate for the text of a whole input does not overflow.
+#[inline(always)]
+fn has_whole_length(encoding: Encoding, handling: BomHandling, len: usize) -> bool
+    ensures { IsTrue result
+        ↔ (max_length query.Utf8Reporting (fresh_decoder handling encoding) len ≢ None) }
 {
-    Ok(String::from_str(alloc, text)?)
+    len < MODEST || whole_length(encoding, handling, len).is_some()
 }
 
 /// Copies the text of a whole input that is its own text, without its byte order mark.
@@ -181,10 +305,10 @@ fn copy_own_text(
     if bytes.is_empty() {
         return Ok(empty_text(alloc));
     }
-    match whole_length(encoding, handling, bytes.len()) {
-        Some(_) => copy_text(alloc, text),
-        None => Err(OneShotError::TooLong),
+    if has_whole_length(encoding, handling, bytes.len()) {
+        return copy_text(alloc, text);
     }
+    Err(OneShotError::TooLong)
 }
 
 /// Decodes a whole input, with U+FFFD for each malformed sequence.
@@ -280,16 +404,15 @@ pub(crate) fn convert_text(
     ensures empty { text.now ≡ [] → IsOk result }
     ensures capacity { text.now ≡ [] → IfOk result (λ answer. vec_capacity answer.0 ≡ 0) }
 {
-    let mut bytes = Vec::new(alloc);
     let mut encoder = encoding.new_encoder();
+    if text.is_empty() {
+        return Ok((Vec::new(alloc), encoder.encoding(), false));
+    }
+    let length = encoder.max_buffer_length_from_utf8_if_no_unmappables(text.len());
+    let mut bytes = bytes_with_room(alloc, length)?;
     let mut had_unmappables = false;
     let mut unread = text;
-    if text.is_empty() {
-        return Ok((bytes, encoder.encoding(), false));
-    }
     'calls: loop {
-        let length = encoder.max_buffer_length_from_utf8_if_no_unmappables(unread.len());
-        make_byte_room(&mut bytes, length)?;
         let (stop, read, replaced) = encoder.encode_from_utf8_to_vec(unread, &mut bytes, true);
         had_unmappables |= replaced;
         if stop == CoderResult::InputEmpty {
@@ -297,7 +420,17 @@ pub(crate) fn convert_text(
         }
         let (_, rest) = unread.split_at(read);
         unread = rest;
+        let length = encoder.max_buffer_length_from_utf8_if_no_unmappables(unread.len());
+        make_byte_room(&mut bytes, length)?;
     }
+}
+
+/// Returns the length to allocate for the bytes of a whole text, if all of it is mappable.
+fn first_byte_length(encoding: Encoding, len: usize) -> Option<usize>
+    ensures { result ≡ length_to_encode (output_encoding_of encoding) len }
+{
+    let encoder = encoding.new_encoder();
+    encoder.max_buffer_length_from_utf8_if_no_unmappables(len)
 }
 
 /// Copies a text into memory of its length, as the bytes that it is encoded as.
@@ -316,10 +449,9 @@ fn copy_own_bytes(alloc: Global, encoding: Encoding, text: &str) -> Result<Vec<u
     if text.is_empty() {
         return Ok(Vec::new(alloc));
     }
-    let encoder = encoding.new_encoder();
-    let Some(_) = encoder.max_buffer_length_from_utf8_if_no_unmappables(text.len()) else {
+    if text.len() >= MODEST && first_byte_length(encoding, text.len()).is_none() {
         return Err(OneShotError::TooLong);
-    };
+    }
     Ok(Vec::from_slice(alloc, text.as_bytes())?)
 }
 

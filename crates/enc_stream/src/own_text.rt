@@ -1,6 +1,7 @@
 //! Input that is its own text, which a one-shot call lends or copies at once.
 
 ghost use Rattle.std.specs.Prelude.{◌≡◌, ◌↔◌, ◌≤◌, true, length, IsTrue, IsSome, IfSome};
+ghost use Rattle.enc_utf8.specs.Validity.{IsWellFormedUtf8};
 ghost use Rattle.enc_stream.specs.Decoding.{whole_encoding};
 ghost use Rattle.enc_stream.specs.LifeCycle.{start_life};
 ghost use Rattle.enc_stream.specs.Properties.{output_encoding_of};
@@ -11,7 +12,7 @@ use crate::bom::BomHandling;
 use crate::constants::{ISO_2022_JP, UTF_8};
 use crate::encoding::Encoding;
 use crate::life_cycle::first_life;
-use crate::sniffing::{Sniffed, sniff};
+use crate::sniffing::{Sniffed, begins_as_text, sniff};
 use enc_utf8::{ascii_valid_up_to, iso_2022_jp_ascii_valid_up_to, utf8_valid_up_to};
 
 /// Returns whether two encodings are the same.
@@ -21,15 +22,26 @@ fn are_same(one: Encoding, other: Encoding) -> bool
     one == other
 }
 
+/// Returns whether bytes are well-formed UTF-8.
+///
+/// It is a function of its own, so that its caller saves no registers where all is ASCII.
+#[inline(never)]
+fn are_utf8(bytes: &[u8]) -> bool
+    ensures { IsTrue result ↔ IsWellFormedUtf8 bytes.now }
+{
+    utf8_valid_up_to(bytes) == bytes.len()
+}
+
 /// Returns whether bytes in this encoding equal their text in UTF-8.
 ///
 /// In UTF-8 they do if they are well-formed, in an ASCII-compatible encoding if they are ASCII, and
 /// in ISO-2022-JP if they are ASCII without 0x0E, 0x0F and 0x1B. In the other encodings none do.
+#[inline(never)]
 fn are_their_own_text(encoding: Encoding, bytes: &[u8]) -> bool
     ensures { IsTrue result ↔ AreTheirOwnText encoding bytes.now }
 {
     if are_same(encoding, UTF_8) {
-        return utf8_valid_up_to(bytes) == bytes.len();
+        return are_utf8(bytes);
     }
     if are_same(encoding, ISO_2022_JP) {
         return iso_2022_jp_ascii_valid_up_to(bytes) == bytes.len();
@@ -38,6 +50,7 @@ fn are_their_own_text(encoding: Encoding, bytes: &[u8]) -> bool
 }
 
 /// Returns the text of bytes in this encoding that are their own text.
+#[inline(always)]
 pub(crate) fn own_text(encoding: Encoding, bytes: &[u8]) -> Option<&str>
     ensures own { IsSome result ↔ AreTheirOwnText encoding bytes.now }
     ensures bytes { IfSome result (λ text. text.now ≡ bytes.now) }
@@ -60,6 +73,7 @@ pub(crate) struct WholeInput<'a> {
 }
 
 /// Searches the start of a whole input for the byte order mark that is looked for.
+#[inline(always)]
 pub(crate) fn search(encoding: Encoding, handling: BomHandling, bytes: &[u8]) -> WholeInput<'_>
     ensures within { result.sniffed.1 ≤ length bytes.now }
     ensures sniffed { IsSniffed (start_life handling encoding.id) bytes.now true result.sniffed.0
@@ -67,7 +81,15 @@ pub(crate) fn search(encoding: Encoding, handling: BomHandling, bytes: &[u8]) ->
     ensures encoding { result.encoding ≡ whole_encoding handling encoding bytes.now }
     ensures rest { result.rest.now ≡ unmarked_bytes handling encoding bytes.now }
 {
-    let sniffed = sniff(first_life(encoding, handling), bytes, true);
+    let life = first_life(encoding, handling);
+    if begins_as_text(life, bytes) {
+        return WholeInput {
+            sniffed: (Sniffed::Text(life), 0),
+            encoding,
+            rest: bytes,
+        };
+    }
+    let sniffed = sniff(life, bytes, true);
     match sniffed.0 {
         Sniffed::Mark(marked) => WholeInput {
             sniffed,

@@ -36,7 +36,9 @@ pub(crate) fn begins_as_text(life: LifeCycle, src: &[u8]) -> bool
 
 /// Scans the held bytes and `src` for a byte order mark. With `last` nothing follows `src`.
 ///
-/// Also returns the number of bytes of `src` that are part of it, or might have been.
+/// Also returns the number of bytes of `src` that are part of it, or might have been. It is a
+/// function of its own, since few inputs begin with one.
+#[inline(never)]
 pub(crate) fn sniff(life: LifeCycle, src: &[u8], last: bool) -> (Sniffed, usize)
     ensures within { result.1 ≤ length src.now }
     ensures sniffed { IsSniffed life src.now last result.0 result.1 }

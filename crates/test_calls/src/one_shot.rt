@@ -38,10 +38,8 @@ fn empty_inputs_take_no_memory(rt: HostRuntime) -> Result<(), Fail> {
 }
 
 /// Inputs of n bytes that are not their own text, and the length that is asked for first, at least
-/// 4: n + 3 in UTF-8, (n + 1) / 2 times 3, and 1 more, in UTF-16, and 3 n in others.
+/// 4: (n + 1) / 2 times 3, and 1 more, in UTF-16, and 3 n in others.
 const FIRST_LENGTHS: &[(Encoding, &[u8], usize)] = &[
-    (UTF_8, b"\xFF", 4),
-    (UTF_8, b"ab\xFF", 6),
     (UTF_16LE, b"a\x00", 4),
     (UTF_16LE, b"a\x00b\x00c\x00", 10),
     (WINDOWS_1252, b"\xE4", 4),
@@ -50,10 +48,40 @@ const FIRST_LENGTHS: &[(Encoding, &[u8], usize)] = &[
 ];
 
 #[test]
-fn a_text_has_the_capacity_of_the_first_length(rt: HostRuntime) -> Result<(), Fail> {
+fn a_strict_text_has_the_capacity_of_the_first_length(rt: HostRuntime) -> Result<(), Fail> {
     for (encoding, bytes, capacity) in FIRST_LENGTHS {
-        let (text, _) = encoding.decode_without_bom_handling(rt.alloc(), bytes)?;
+        let answer = encoding.decode_without_bom_handling_and_without_replacement(
+            rt.alloc(),
+            bytes,
+        )?;
+        let Some(text) = answer else {
+            return Err(Fail::new("nothing is malformed"));
+        };
         assert!(rt; text.capacity() == *capacity, "{encoding:?} {bytes:?}");
+    }
+    Ok(())
+}
+
+/// The length of a long input, in bytes, and the lengths that are asked for first if it begins with
+/// these bytes: n + 3 in UTF-8, and others as above.
+const LONG_INPUT: usize = 400;
+
+const LONG_LENGTHS: &[(Encoding, &[u8], usize)] = &[
+    (UTF_8, b"\xFF", 403),
+    (UTF_16LE, b"a\x00", 601),
+    (WINDOWS_1252, b"\xE4", 1200),
+    (SHIFT_JIS, b"\x88\xEA", 1200),
+];
+
+#[test]
+fn a_long_text_has_the_capacity_of_the_first_length(rt: HostRuntime) -> Result<(), Fail> {
+    for (encoding, front, capacity) in LONG_LENGTHS {
+        let mut bytes = Vec::from_slice(rt.alloc(), front)?;
+        bytes.resize(LONG_INPUT, b'a')?;
+        let (text, _) = encoding.decode_without_bom_handling(rt.alloc(), &bytes)?;
+        assert!(rt; text.capacity() == *capacity, "{encoding:?} {front:?}");
+        let (text, _) = encoding.decode_without_bom_handling(rt.alloc(), front)?;
+        assert!(rt; text.capacity() == text.len(), "{encoding:?} {front:?}");
     }
     Ok(())
 }

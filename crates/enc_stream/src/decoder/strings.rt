@@ -10,6 +10,7 @@ ghost use Rattle.enc_output.specs.Results.{decoder_result_of};
 ghost use Rattle.enc_decoder.specs.declared.error_mode.ErrorMode.TheVariants.{Replacement, Fatal};
 ghost use Rattle.enc_decoder.specs.Call.{reaches_end};
 ghost use Rattle.enc_stream.specs.Decoding.{fresh_decoder, has_finished, LeavesFewerBytes};
+ghost use Rattle.enc_stream.specs.Decoding.{whole_utf_8, whole_malformed};
 ghost use Rattle.enc_stream.specs.Decoding.{AnswersDecode, ReportsBytesSoFar};
 ghost use Rattle.enc_stream.specs.LifeCycle.{start_life};
 ghost use Rattle.enc_stream.specs.Sniffing.{IsSniffed};
@@ -20,7 +21,7 @@ use crate::encoding::Encoding;
 use crate::parts::DecoderParts;
 use crate::sniffing::Sniffed;
 use enc_decoder::{CallOptions, ErrorMode};
-use enc_output::{DecoderResult, StringTail, clear_rest};
+use enc_output::{DecoderResult, StringTail, Utf8Slice, clear_rest};
 use enc_utf8::CoderResult;
 
 impl Decoder {
@@ -153,6 +154,39 @@ impl Decoder {
         let mut tail = StringTail::new(dst);
         let outcome = self.decode_chunk(src, &mut tail, last, ErrorMode::Replacement);
         (unreported(outcome.result), outcome.read, outcome.replaced)
+    }
+
+    /// Decodes a whole input by one call into UTF-8, with replacement.
+    ///
+    /// The start of the input has been searched for a byte order mark. Returns why the call of a
+    /// new decoder stops, the number of bytes written to `dst`, and whether a malformed sequence
+    /// was replaced.
+    #[inline(always)]
+    pub(crate) fn whole_to_utf8(
+        encoding: Encoding,
+        handling: BomHandling,
+        sniffed: (Sniffed, usize),
+        src: &[u8],
+        dst: &mut [u8],
+    ) -> (CoderResult, usize, bool)
+        requires within { sniffed.1 ≤ length src.now }
+        requires sniffed { IsSniffed (start_life handling encoding.id) src.now true sniffed.0
+            sniffed.1 }
+        ensures written { result.1 ≤ length dst.old }
+        ensures utf8 { IsUtf8 (take result.1 dst.new) }
+        ensures text { result.0 ≡ CoderResult.InputEmpty
+            → take result.1 dst.new ≡ whole_utf_8 handling encoding src.now }
+        ensures flag { result.0 ≡ CoderResult.InputEmpty
+            → result.2 ≡ whole_malformed handling encoding src.now }
+    {
+        let mut parts = DecoderParts::start(encoding, handling);
+        let mut out = Utf8Slice::new(dst);
+        let options = CallOptions {
+            last: true,
+            mode: ErrorMode::Replacement,
+        };
+        let outcome = parts.decode_sniffed(sniffed, src, &mut out, options);
+        (unreported(outcome.result), out.len(), outcome.replaced)
     }
 
     /// Decodes a whole input by one call, and appends its text to a String, with replacement.

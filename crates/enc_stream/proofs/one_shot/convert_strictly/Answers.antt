@@ -1,6 +1,6 @@
 use Rattle.std.proofs.Common.{rules}
 use Rattle.enc_decoder.proofs.ByteLemmas.{bytes_of_slice}
-use Rattle.enc_stream.proofs.OneShotDecodeLemmas.{nothing, none_strict, strict_end, strict_report}
+use Rattle.enc_stream.proofs.OneShotDecodeLemmas.{nothing, something, none_strict, strict_end, strict_report}
 use Rattle.enc_stream.proofs.OneShotDecodeLemmas.{never_full, has_room, asks_for_memory}
 use Rattle.enc_stream.proofs.one_shot.convert_strictly.Goals as goal
 
@@ -13,8 +13,8 @@ returns-then-is_empty-clause-text c =
 pub returns-in_err-text-clause-memory : goal.returns-in_err-text-clause-memory
 returns-in_err-text-clause-memory c = λ memory.
     asks_for_memory c.start-decoder.ensures
-    c.max_utf8_buffer_length_without_replacement-length.ensures.length c.if-is_empty.ensures
-    (search rules)
+    c.max_utf8_buffer_length_without_replacement-length.ensures.length
+    (something c.if-is_empty.ensures) (search rules)
 
 pub unreachable-requires : goal.unreachable-requires
 unreachable-requires c =

@@ -1,6 +1,6 @@
 use Rattle.std.proofs.Common.{◌∙◌, sym, inl, inr}
 use Rattle.std.proofs.lemmas.Bool.{false≢true}
-use Rattle.enc_utf8.specs.Validity.{IsWellFormedUtf8, AreAscii, AreIso2022JpAscii}
+use Rattle.enc_utf8.specs.Validity.{AreAscii, AreIso2022JpAscii}
 use Rattle.enc_stream.specs.OwnText.{AreTheirOwnText}
 use Rattle.enc_stream.proofs.OwnTextLemmas.{prefix_decides, own_utf_8, only_plain, only_ascii}
 use Rattle.enc_stream.proofs.own_text.are_their_own_text.Goals as goal
@@ -9,9 +9,10 @@ pub returns-then-are_same : goal.returns-then-are_same
 returns-then-are_same c =
     let encoding = c.args.encoding in
     let bytes = c.args.bytes.now in
-    let same = c.are_same.ensures.0 c.if-are_same.true in
-    prefix_decides IsWellFormedUtf8 bytes c.utf8_valid_up_to.result (AreTheirOwnText encoding bytes)
-    c.utf8_valid_up_to.ensures (λ utf8. inl (same, utf8)) (own_utf_8 encoding bytes)
+    let same = c.are_same.ensures.0 c.if-are_same.true in (
+      λ utf8. inl (same, c.are_utf8.ensures.0 utf8),
+      λ own. c.are_utf8.ensures.1 (own_utf_8 encoding bytes own),
+    )
 
 pub returns-then-are_same-2 : goal.returns-then-are_same-2
 returns-then-are_same-2 c =
