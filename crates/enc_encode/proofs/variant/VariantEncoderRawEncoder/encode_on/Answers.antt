@@ -22,7 +22,8 @@ pub returns-in-Gb18030-clause-call : goal.returns-in-Gb18030-clause-call
 returns-in-Gb18030-clause-call g c = rw c.in-Gb18030.is c.encode_on-in-Gb18030.ensures.call
 
 pub returns-in-XUserDefined-clause-call : goal.returns-in-XUserDefined-clause-call
-returns-in-XUserDefined-clause-call g c = rw c.in-XUserDefined.is c.encode_on-in-XUserDefined.ensures.call
+returns-in-XUserDefined-clause-call g c =
+    rw c.in-XUserDefined.is c.encode_on-in-XUserDefined.ensures.call
 
 pub returns-in-Iso2022Jp-clause-call : goal.returns-in-Iso2022Jp-clause-call
 returns-in-Iso2022Jp-clause-call g c = rw c.in-Iso2022Jp.is c.encode_on-in-Iso2022Jp.ensures.call
