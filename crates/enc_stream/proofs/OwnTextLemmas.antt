@@ -172,6 +172,11 @@ own_utf_8 e bytes (inr (inr japanese)) = ascii_utf_8 bytes (plain_ascii bytes ja
 
 -- a whole input
 
+pub own_unmarked : (handling : BomHandling) (e : Encoding) (bytes : List ℕ)
+    → whole_encoding handling e bytes ≡ e → unmarked_bytes handling e bytes ≡ bytes
+    → AreTheirOwnText e bytes → IsItsOwnText handling e bytes
+own_unmarked handling e bytes encoding rest own = rw (encoding, rest) own
+
 module _ (handling : BomHandling) (e : Encoding) (bytes : List ℕ)
     (is_own : IsItsOwnText handling e bytes) where
   whole_has : HasOwnText (rule_of (whole_encoding handling e bytes))

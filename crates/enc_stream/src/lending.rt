@@ -20,12 +20,16 @@ use crate::bom::BomHandling;
 use crate::encoding::Encoding;
 use crate::one_shot::{convert_strictly, convert_text, convert_whole};
 use crate::one_shot_error::OneShotError;
-use crate::own_text::{encodes_as_itself, own_text, search};
+use crate::own_text::{begins_unmarked, encodes_as_itself, own_text, search};
 use std::alloc::Global;
 use std::borrow::{CowSlice, CowStr};
 
-/// Decodes a whole input, with U+FFFD for each malformed sequence, or lends its own text.
-fn lend_whole<'a>(
+/// Decodes a whole input that may begin with a byte order mark, with U+FFFD for each malformed
+/// sequence, or lends its own text.
+///
+/// It is a function of its own, since few inputs begin so.
+#[inline(never)]
+fn lend_marked<'a>(
     alloc: Global,
     encoding: Encoding,
     handling: BomHandling,
@@ -53,8 +57,43 @@ fn lend_whole<'a>(
     if let Some(text) = own_text(input.encoding, input.rest) {
         return Ok((CowStr::Borrowed(text), input.encoding, false));
     }
-    let (text, had_errors) = convert_whole(alloc, encoding, handling, input.sniffed, bytes)?;
+    let (text, had_errors) = convert_whole(alloc, encoding, handling, bytes)?;
     Ok((CowStr::Owned(text), input.encoding, had_errors))
+}
+
+/// Decodes a whole input, with U+FFFD for each malformed sequence, or lends its own text.
+fn lend_whole<'a>(
+    alloc: Global,
+    encoding: Encoding,
+    handling: BomHandling,
+    bytes: &'a [u8],
+) -> Result<(CowStr<'a>, Encoding, bool), OneShotError>
+    ensures text { IfOk result (λ answer.
+        cow_str_bytes answer.0 ≡ whole_utf_8 handling encoding bytes.now) }
+    ensures encoding { IfOk result (λ answer.
+        answer.1 ≡ whole_encoding handling encoding bytes.now) }
+    ensures flag { IfOk result (λ answer. answer.2 ≡ whole_malformed handling encoding bytes.now) }
+    ensures lends { IsOkAnd result (λ answer. IsBorrowedStr answer.0)
+        ↔ IsItsOwnText handling encoding bytes.now }
+    ensures part { IfOk result (λ answer. IsBorrowedStr answer.0
+        → cow_str_bytes answer.0 ≡ unmarked_bytes handling encoding bytes.now) }
+    ensures too_long { IsErrOf result OneShotError.TooLong → IsTooLong handling encoding bytes.now }
+    ensures first { ¬ (IsItsOwnText handling encoding bytes.now) → bytes.now ≢ []
+        → first_length handling encoding bytes.now ≡ None → IsErrOf result OneShotError.TooLong }
+    ensures memory { IsErrOf result OneShotError.Memory
+        → MayLackMemory handling encoding bytes.now }
+    ensures empty { bytes.now ≡ [] → IsOk result }
+    ensures capacity { bytes.now ≡ [] → IfOk result (λ answer.
+        owned_str_capacity answer.0 ≡ 0) }
+{
+    if !begins_unmarked(encoding, handling, bytes) {
+        return lend_marked(alloc, encoding, handling, bytes);
+    }
+    if let Some(text) = own_text(encoding, bytes) {
+        return Ok((CowStr::Borrowed(text), encoding, false));
+    }
+    let (text, had_errors) = convert_whole(alloc, encoding, handling, bytes)?;
+    Ok((CowStr::Owned(text), encoding, had_errors))
 }
 
 impl Encoding {

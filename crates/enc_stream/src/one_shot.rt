@@ -19,15 +19,12 @@ ghost use Rattle.enc_stream.specs.OneShot.{utf_8_without_replacement, HasRoomFor
 ghost use Rattle.enc_stream.specs.OneShot.{HasRoomExactlyFor, first_length, length_to_encode};
 ghost use Rattle.enc_stream.specs.OneShot.{IsTooLong, IsTooLongToEncode};
 ghost use Rattle.enc_stream.specs.OneShot.{MayLackMemory, MayLackMemoryToEncode};
-ghost use Rattle.enc_stream.specs.LifeCycle.{start_life};
-ghost use Rattle.enc_stream.specs.Sniffing.{IsSniffed};
 
 use crate::bom::BomHandling;
 use crate::decoder::{Decoder, whole_length};
 use crate::encoding::Encoding;
 use crate::one_shot_error::OneShotError;
-use crate::own_text::{encodes_as_itself, own_text, search};
-use crate::sniffing::Sniffed;
+use crate::own_text::{begins_unmarked, encodes_as_itself, own_text, search};
 use enc_output::DecoderResult;
 use enc_utf8::CoderResult;
 use std::alloc::Global;
@@ -142,6 +139,7 @@ fn make_byte_room(bytes: &mut Vec<u8>, length: Option<usize>) -> Result<(), OneS
 }
 
 /// Copies a text into memory of its length.
+#[inline(always)]
 fn copy_text(alloc: Global, text: &str) -> Result<String, OneShotError>
     ensures text { IfOk result (λ copy. string_bytes copy ≡ text.now) }
     ensures memory { IfErr result (λ fault. fault ≡ OneShotError.Memory) }
@@ -151,20 +149,15 @@ fn copy_text(alloc: Global, text: &str) -> Result<String, OneShotError>
 
 /// Decodes a whole input by calls of a decoder, with U+FFFD for each malformed sequence.
 ///
-/// `sniffed` is the result of the search for a byte order mark at its start. One call is enough if
-/// nothing is malformed. Otherwise a second call may follow, after a growth for the rest of the
-/// input. Condition: the input is not empty.
+/// One call is enough if nothing is malformed. Otherwise a second call may follow, after a growth
+/// for the rest of the input. Condition: the input is not empty.
 #[inline(never)]
 fn convert_long(
     alloc: Global,
     encoding: Encoding,
     handling: BomHandling,
-    sniffed: (Sniffed, usize),
     bytes: &[u8],
 ) -> Result<(String, bool), OneShotError>
-    requires within { sniffed.1 ≤ length bytes.now }
-    requires sniffed { IsSniffed (start_life handling encoding.id) bytes.now true sniffed.0
-        sniffed.1 }
     requires some { bytes.now ≢ [] }
     ensures text { IfOk result (λ answer.
         string_bytes answer.0 ≡ whole_utf_8 handling encoding bytes.now) }
@@ -175,10 +168,11 @@ fn convert_long(
     ensures memory { IsErrOf result OneShotError.Memory
         → MayLackMemory handling encoding bytes.now }
 {
+    let input = search(encoding, handling, bytes);
     let length = whole_length(encoding, handling, bytes.len());
     let mut text = text_with_room(alloc, length)?;
     let (mut decoder, stop, read, had_errors) = Decoder::whole_to_string(
-        encoding, handling, sniffed, bytes, &mut text,
+        encoding, handling, input.sniffed, bytes, &mut text,
     );
     if stop == CoderResult::InputEmpty {
         return Ok((text, had_errors));
@@ -203,12 +197,8 @@ fn convert_through<const N: usize>(
     alloc: Global,
     encoding: Encoding,
     handling: BomHandling,
-    sniffed: (Sniffed, usize),
     bytes: &[u8],
 ) -> Result<(String, bool), OneShotError>
-    requires within { sniffed.1 ≤ length bytes.now }
-    requires sniffed { IsSniffed (start_life handling encoding.id) bytes.now true sniffed.0
-        sniffed.1 }
     requires some { bytes.now ≢ [] }
     requires short { length bytes.now < MODEST }
     requires room { N ≤ MEDIUM_TEXT }
@@ -221,11 +211,12 @@ fn convert_through<const N: usize>(
     ensures memory { IsErrOf result OneShotError.Memory
         → MayLackMemory handling encoding bytes.now }
 {
+    let input = search(encoding, handling, bytes);
     let mut buffer = [0; N];
     let (stop, len, had_errors) = Decoder::whole_to_utf8(
         encoding,
         handling,
-        sniffed,
+        input.sniffed,
         bytes,
         &mut buffer,
     );
@@ -234,23 +225,18 @@ fn convert_through<const N: usize>(
             let text = unsafe { str::from_utf8_unchecked(&buffer[..len]) };
             Ok((copy_text(alloc, text)?, had_errors))
         }
-        CoderResult::OutputFull => convert_long(alloc, encoding, handling, sniffed, bytes),
+        CoderResult::OutputFull => convert_long(alloc, encoding, handling, bytes),
     }
 }
 
 /// Decodes a whole input, with U+FFFD for each malformed sequence: a short one through a buffer.
-///
-/// `sniffed` is the result of the search for a byte order mark at its start.
+#[inline(always)]
 pub(crate) fn convert_whole(
     alloc: Global,
     encoding: Encoding,
     handling: BomHandling,
-    sniffed: (Sniffed, usize),
     bytes: &[u8],
 ) -> Result<(String, bool), OneShotError>
-    requires within { sniffed.1 ≤ length bytes.now }
-    requires sniffed { IsSniffed (start_life handling encoding.id) bytes.now true sniffed.0
-        sniffed.1 }
     ensures text { IfOk result (λ answer.
         string_bytes answer.0 ≡ whole_utf_8 handling encoding bytes.now) }
     ensures flag { IfOk result (λ answer. answer.1 ≡ whole_malformed handling encoding bytes.now) }
@@ -266,12 +252,12 @@ pub(crate) fn convert_whole(
         return Ok((empty_text(alloc), false));
     }
     if bytes.len() <= SHORT {
-        return convert_through::<SHORT_TEXT>(alloc, encoding, handling, sniffed, bytes);
+        return convert_through::<SHORT_TEXT>(alloc, encoding, handling, bytes);
     }
     if bytes.len() <= MEDIUM {
-        return convert_through::<MEDIUM_TEXT>(alloc, encoding, handling, sniffed, bytes);
+        return convert_through::<MEDIUM_TEXT>(alloc, encoding, handling, bytes);
     }
-    convert_long(alloc, encoding, handling, sniffed, bytes)
+    convert_long(alloc, encoding, handling, bytes)
 }
 
 /// Returns whether the length to allocate for the text of a whole input does not overflow.
@@ -284,6 +270,7 @@ fn has_whole_length(encoding: Encoding, handling: BomHandling, len: usize) -> bo
 }
 
 /// Copies the text of a whole input that is its own text, without its byte order mark.
+#[inline(always)]
 fn copy_own_text(
     alloc: Global,
     encoding: Encoding,
@@ -311,10 +298,13 @@ fn copy_own_text(
     Err(OneShotError::TooLong)
 }
 
-/// Decodes a whole input, with U+FFFD for each malformed sequence.
+/// Decodes a whole input that may begin with a byte order mark, with U+FFFD for each malformed
+/// sequence.
 ///
-/// Input that is its own text is copied at once.
-fn decode_whole(
+/// Input that is its own text is copied at once. It is a function of its own, since few inputs
+/// begin so.
+#[inline(never)]
+fn decode_marked(
     alloc: Global,
     encoding: Encoding,
     handling: BomHandling,
@@ -340,14 +330,45 @@ fn decode_whole(
             Ok((text, input.encoding, false))
         }
         None => {
-            let (text, had_errors) = convert_whole(
-                alloc,
-                encoding,
-                handling,
-                input.sniffed,
-                bytes,
-            )?;
+            let (text, had_errors) = convert_whole(alloc, encoding, handling, bytes)?;
             Ok((text, input.encoding, had_errors))
+        }
+    }
+}
+
+/// Decodes a whole input, with U+FFFD for each malformed sequence.
+///
+/// Input that is its own text is copied at once.
+fn decode_whole(
+    alloc: Global,
+    encoding: Encoding,
+    handling: BomHandling,
+    bytes: &[u8],
+) -> Result<(String, Encoding, bool), OneShotError>
+    ensures text { IfOk result (λ answer.
+        string_bytes answer.0 ≡ whole_utf_8 handling encoding bytes.now) }
+    ensures encoding { IfOk result (λ answer.
+        answer.1 ≡ whole_encoding handling encoding bytes.now) }
+    ensures flag { IfOk result (λ answer. answer.2 ≡ whole_malformed handling encoding bytes.now) }
+    ensures too_long { IsErrOf result OneShotError.TooLong → IsTooLong handling encoding bytes.now }
+    ensures first { bytes.now ≢ [] → first_length handling encoding bytes.now ≡ None
+        → IsErrOf result OneShotError.TooLong }
+    ensures memory { IsErrOf result OneShotError.Memory
+        → MayLackMemory handling encoding bytes.now }
+    ensures empty { bytes.now ≡ [] → IsOk result }
+    ensures capacity { bytes.now ≡ [] → IfOk result (λ answer. string_capacity answer.0 ≡ 0) }
+{
+    if !begins_unmarked(encoding, handling, bytes) {
+        return decode_marked(alloc, encoding, handling, bytes);
+    }
+    match own_text(encoding, bytes) {
+        Some(text) => {
+            let text = copy_own_text(alloc, encoding, handling, bytes, text)?;
+            Ok((text, encoding, false))
+        }
+        None => {
+            let (text, had_errors) = convert_whole(alloc, encoding, handling, bytes)?;
+            Ok((text, encoding, had_errors))
         }
     }
 }

@@ -1,10 +1,11 @@
 //! Input that is its own text, which a one-shot call lends or copies at once.
 
-ghost use Rattle.std.specs.Prelude.{◌≡◌, ◌↔◌, ◌≤◌, true, length, IsTrue, IsSome, IfSome};
+ghost use Rattle.std.specs.Prelude.{◌≡◌, ◌≢◌, ◌↔◌, ◌≤◌, true, length, IsTrue, IsSome, IfSome};
 ghost use Rattle.enc_utf8.specs.Validity.{IsWellFormedUtf8};
 ghost use Rattle.enc_stream.specs.Decoding.{whole_encoding};
 ghost use Rattle.enc_stream.specs.LifeCycle.{start_life};
 ghost use Rattle.enc_stream.specs.Properties.{output_encoding_of};
+ghost use Rattle.enc_stream.specs.declared.constants.TheConstants.{UTF_8 as utf_8};
 ghost use Rattle.enc_stream.specs.OwnText.{AreTheirOwnText, unmarked_bytes};
 ghost use Rattle.enc_stream.specs.Sniffing.{IsSniffed};
 
@@ -32,21 +33,31 @@ fn are_utf8(bytes: &[u8]) -> bool
     utf8_valid_up_to(bytes) == bytes.len()
 }
 
-/// Returns whether bytes in this encoding equal their text in UTF-8.
+/// Returns whether bytes in this encoding equal their text in UTF-8, and are ASCII.
 ///
-/// In UTF-8 they do if they are well-formed, in an ASCII-compatible encoding if they are ASCII, and
-/// in ISO-2022-JP if they are ASCII without 0x0E, 0x0F and 0x1B. In the other encodings none do.
+/// In an ASCII-compatible encoding they do if they are ASCII, and in ISO-2022-JP if they are ASCII
+/// without 0x0E, 0x0F and 0x1B. In the other encodings none do.
 #[inline(never)]
+fn are_own_ascii(encoding: Encoding, bytes: &[u8]) -> bool
+    requires other { encoding ≢ utf_8 }
+    ensures { IsTrue result ↔ AreTheirOwnText encoding bytes.now }
+{
+    if encoding.is_ascii_compatible() {
+        return ascii_valid_up_to(bytes) == bytes.len();
+    }
+    are_same(encoding, ISO_2022_JP) && iso_2022_jp_ascii_valid_up_to(bytes) == bytes.len()
+}
+
+/// Returns whether bytes in this encoding equal their text in UTF-8: if it is UTF-8, whether they
+/// are well-formed.
+#[inline(always)]
 fn are_their_own_text(encoding: Encoding, bytes: &[u8]) -> bool
     ensures { IsTrue result ↔ AreTheirOwnText encoding bytes.now }
 {
     if are_same(encoding, UTF_8) {
         return are_utf8(bytes);
     }
-    if are_same(encoding, ISO_2022_JP) {
-        return iso_2022_jp_ascii_valid_up_to(bytes) == bytes.len();
-    }
-    encoding.is_ascii_compatible() && ascii_valid_up_to(bytes) == bytes.len()
+    are_own_ascii(encoding, bytes)
 }
 
 /// Returns the text of bytes in this encoding that are their own text.
@@ -59,6 +70,17 @@ pub(crate) fn own_text(encoding: Encoding, bytes: &[u8]) -> Option<&str>
         return Some(unsafe { str::from_utf8_unchecked(bytes) });
     }
     None
+}
+
+/// Returns whether text begins at the front of a whole input, with no byte order mark.
+///
+/// False says nothing: [`search`] finds out.
+#[inline(always)]
+pub(crate) fn begins_unmarked(encoding: Encoding, handling: BomHandling, bytes: &[u8]) -> bool
+    ensures encoding { IsTrue result → whole_encoding handling encoding bytes.now ≡ encoding }
+    ensures rest { IsTrue result → unmarked_bytes handling encoding bytes.now ≡ bytes.now }
+{
+    begins_as_text(first_life(encoding, handling), bytes)
 }
 
 /// A whole input, whose start has been searched for a byte order mark.
