@@ -172,7 +172,11 @@ fn convert_long(
     let length = whole_length(encoding, handling, bytes.len());
     let mut text = text_with_room(alloc, length)?;
     let (mut decoder, stop, read, had_errors) = Decoder::whole_to_string(
-        encoding, handling, input.sniffed, bytes, &mut text,
+        encoding,
+        handling,
+        input.sniffed,
+        bytes,
+        &mut text,
     );
     if stop == CoderResult::InputEmpty {
         return Ok((text, had_errors));

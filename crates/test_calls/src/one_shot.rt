@@ -86,6 +86,24 @@ fn a_long_text_has_the_capacity_of_the_first_length(rt: HostRuntime) -> Result<(
     Ok(())
 }
 
+/// Lengths of inputs in bytes: the greatest that is decoded in one way, and the least in another.
+const EDGES: &[usize] = &[1, 64, 65, 320, 321];
+
+#[test]
+fn texts_of_three_bytes_a_byte_are_whole_at_every_length(rt: HostRuntime) -> Result<(), Fail> {
+    for len in EDGES {
+        let mut bytes = Vec::new(rt.alloc());
+        bytes.resize(*len, 0x80)?;
+        let (text, _, had_errors) = WINDOWS_1252.decode(rt.alloc(), &bytes)?;
+        assert!(rt; (text.len(), had_errors) == (3 * *len, false), "{len}");
+        assert!(rt; text.chars().all(|c| c == '€'), "{len}");
+        let (text, _, had_errors) = UTF_8.decode(rt.alloc(), &bytes)?;
+        assert!(rt; (text.len(), had_errors) == (3 * *len, true), "{len}");
+        assert!(rt; text.chars().all(|c| c == '\u{FFFD}'), "{len}");
+    }
+    Ok(())
+}
+
 #[test]
 fn a_string_with_room_for_two_chunks_is_not_full(rt: HostRuntime) -> Result<(), Fail> {
     let mut decoder = WINDOWS_1252.new_decoder_without_bom_handling();
