@@ -6,10 +6,12 @@ A word is a text, and a list has words for each of its items. Both have the name
 import textwrap
 
 from common import paths, read
-from lists import byte_ranges, constant_of, first_of, encodings, labels_of, lists, pairs_of, snake_of, texts_of_encodings
-from tables import BY, DATA, INDEXES, NO_POINTER, PAGE, PAGES, SINGLE_BYTE, pages_of, pointers_of, sources
+from lists import byte_ranges, constant_of, entries_of, first_of, encodings, labels_of, lists, pairs_of, snake_of, texts_of_encodings
+from tables import BY, DATA, INDEXES, NO_POINTER, PAGE, PAGES, SINGLE_BYTE, pages_of, pointers_of, runs_of, sources
 
 POINTERS = "crates/enc_index_pointers/src/pointers"
+# The fewest letters in a row that are worth lanes.
+LEAST_LETTERS = 16
 
 
 def names_of(ident, constant):
@@ -160,10 +162,24 @@ def modules_in(folder, made):
     return [{"module": it} for it in sorted(set(names))]
 
 
+def letters_of(name):
+    """The run of a single-byte index with the most letters that are no capitals, if they are sixteen and more."""
+    def small(run):
+        first, last, code_point = run
+        return sum(chr(code_point + it - first).isalpha() and not chr(code_point + it - first).isupper()
+                   for it in range(first, last + 1))
+
+    first, last, code_point = max(runs_of(entries_of(name.lower())), key=small)
+    if small((first, last, code_point)) < LEAST_LETTERS:
+        first, last, code_point = 127, -128, 255
+    return {"first_letter": f"0x{first + 128:X}", "last_letter": f"0x{last + 128:X}",
+            "letter_shift": f"0x{code_point - first - 128:X}"}
+
+
 def of_indexes():
     indexes, lookups = map(words_of_index, lists().indexes), [words_of_lookup(it) for it in lists().lookups]
     indexes, made = list(indexes), sources()
-    single_bytes = [{"Name": it.ident, "NAME": it.constant, "title": it.name, "number": place}
+    single_bytes = [{"Name": it.ident, "NAME": it.constant, "title": it.name, "number": place, **letters_of(it.name)}
                     for place, it in enumerate(SINGLE_BYTE)]
     by_hand = [it for it in paths(f"{POINTERS}/*.rt") if BY not in read(it)]
     tables = [it for it in indexes if not it["grid"]]

@@ -1,6 +1,8 @@
 -- The rules of encodings in which each byte stands alone: the legacy single-byte encodings
 -- (Encoding Standard 9.1, "single-byte decoder") and x-user-defined (14.5.1).
-use Rattle.std.specs.Prelude.{◌≡◌, ℕ, ◌+◌, ◌-◌, ◌<◌, nat_lt, Option, Some, List, [], ◌∷◌, if◌then◌else◌}
+use Rattle.std.specs.Prelude.{◌≡◌, ℕ, ◌+◌, ◌-◌, ◌<◌, ◌≤◌, nat_lt, Option, Some, List, [], ◌∷◌, if◌then◌else◌}
+use Rattle.std.specs.Char.{IsScalar}
+use Rattle.enc_output.specs.declared.letters.Letters.{Letters}
 use Rattle.enc_decoder.specs.declared.prefix.Prefix.{Prefix}
 use Rattle.enc_decoder.specs.declared.prefix.Prefix.TheVariants.{Incomplete}
 use Rattle.enc_decoder.specs.Segmentation.{Rule}
@@ -30,3 +32,10 @@ one_byte_rule character = prefix_rule (one_byte_prefix character)
 pub record AreOneByteChars (character : ℕ → Option ℕ) : Type 0 where
   pub ascii : (b : ℕ) → b < 0x80 → character b ≡ Some b
   pub basic : (b c : ℕ) → b < 256 → character b ≡ Some c → c < 0x1_0000
+
+-- Letters: each byte from the first to the last has the character of one code unit that the shift
+-- says.
+abbrev pub HasLetters : (ℕ → Option ℕ) → Letters → Type 0
+HasLetters character letters = (b : ℕ) → letters.first ≤ b → b ≤ letters.last
+    → (character b ≡ Some (b + letters.shift)) × IsScalar (b + letters.shift)
+    × (b + letters.shift < 0x1_0000)

@@ -3,10 +3,10 @@
 ghost use Rattle.std.specs.Prelude.{◌≡◌, ℕ, ◌<◌, Option, Some};
 ghost use Rattle.std.specs.Char.{IsScalar};
 ghost use Rattle.enc_index.specs.Grid.{HasWord};
-ghost use Rattle.enc_decoder_single_byte.specs.OneByte.{AreOneByteChars};
+ghost use Rattle.enc_decoder_single_byte.specs.OneByte.{AreOneByteChars, HasLetters};
 
 use enc_decoder::{Pending, Prefix, PrefixCodec, Text, TextLengths};
-use enc_output::{BytePieces, Pieces, SingleBytes, Units, put_run};
+use enc_output::{BytePieces, Letters, Pieces, SingleBytes, Units, put_run};
 
 /// An encoding in which each byte stands alone, as its character or malformed.
 pub trait OneByte: Copy {
@@ -30,6 +30,10 @@ pub trait OneByte: Copy {
     /// Returns the UTF-16 code unit of a byte's character, or 0 if it has none.
     fn unit_of(self, byte: u8) -> u16
         ensures { 0 < result → (character self byte ≡ Some result) × IsScalar result };
+
+    /// Returns letters whose characters follow one by one, if there are many.
+    fn letters_of(self) -> Letters
+        ensures { HasLetters (character self) result };
 }
 
 /// The decoder of an encoding in which each byte stands alone. Nothing is ever pending.
@@ -67,6 +71,11 @@ impl<E: OneByte> BytePieces for OneByteDecoder<E> {
     #[inline(always)]
     fn unit(self, byte: u8) -> u16 {
         self.encoding.unit_of(byte)
+    }
+
+    #[inline(always)]
+    fn letters(self) -> Letters {
+        self.encoding.letters_of()
     }
 }
 

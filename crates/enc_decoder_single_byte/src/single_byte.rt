@@ -4,6 +4,7 @@ ghost use Rattle.std.specs.Prelude.{◌≡◌};
 
 use crate::one_byte::{OneByte, OneByteDecoder};
 use enc_index::SingleByteIndex;
+use enc_output::Letters;
 
 /// The decoder of a legacy single-byte encoding, by its index (Encoding Standard 9.1).
 ///
@@ -48,5 +49,11 @@ impl OneByte for SingleByteIndex {
     #[inline(always)]
     fn unit_of(self, byte: u8) -> u16 {
         self.unit(byte)
+    }
+
+    #[inline(always)]
+    fn letters_of(self) -> Letters {
+        let (first, last, shift) = self.letters();
+        Letters { first, last, shift }
     }
 }

@@ -2,6 +2,7 @@
 
 use crate::one_byte::{OneByte, OneByteDecoder};
 use crate::user_defined_words::{USER_DEFINED_UNITS, USER_DEFINED_WORDS};
+use enc_output::Letters;
 
 /// x-user-defined (Encoding Standard 14.5).
 #[derive(Clone, Copy)]
@@ -47,5 +48,14 @@ impl OneByte for XUserDefined {
     #[inline(always)]
     fn unit_of(self, byte: u8) -> u16 {
         USER_DEFINED_UNITS[byte as usize]
+    }
+
+    #[inline(always)]
+    fn letters_of(self) -> Letters {
+        Letters {
+            first: 0x80,
+            last: 0xFF,
+            shift: 0xF700,
+        }
     }
 }

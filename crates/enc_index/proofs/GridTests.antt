@@ -8,7 +8,7 @@ use Rattle.std.proofs.Math.Nat.{suc-mul}
 use Rattle.enc_index.specs.declared.table.Planes.{Planes}
 use Rattle.enc_index.specs.Index.{entry_character, is_entry_code_point}
 
-or_last : (x y : Bool) → x ≡ false → (x || y) ≡ true → y ≡ true
+pub or_last : (x y : Bool) → x ≡ false → (x || y) ≡ true → y ≡ true
 or_last true y e h = absurd (true≢false e)
 or_last false y e h = h
 

@@ -4,6 +4,7 @@ ghost use Rattle.std.specs.Prelude.{◌≡◌, ◌-◌, ◌<◌, ◌≤◌, Some
 ghost use Rattle.std.specs.Char.{IsScalar};
 ghost use Rattle.enc_index.specs.Grid.{HasWord};
 ghost use Rattle.enc_index.specs.Index.{index_at};
+ghost use Rattle.enc_index.specs.Letters.{HasLetters};
 ghost use Rattle.enc_index.specs.Runs.{single_byte_runs};
 ghost use Rattle.enc_index.specs.declared.table.Planes.TheVariants.{Basic};
 
@@ -51,5 +52,15 @@ impl SingleByteIndex {
     {
         let from = self.number() * 256;
         unit_in(&SINGLE_BYTE_UNITS[from..from + 256], byte)
+    }
+
+    /// Returns letters whose code points follow one by one, if there are many: the first byte, the
+    /// last, and how much greater than a byte its code point is. There is none if the first is
+    /// greater than the last.
+    #[inline(always)]
+    pub fn letters(self) -> (u8, u8, u16)
+        ensures { HasLetters (single_byte_runs self) result }
+    {
+        self.listed_letters()
     }
 }

@@ -5,7 +5,7 @@
 
 ghost use Rattle.std.specs.Prelude.{◌≡◌, ◌<◌};
 ghost use Rattle.enc_index.specs.Runs.{single_byte_runs};
-ghost use Rattle.enc_index.specs.SingleByteTables.{table_number};
+ghost use Rattle.enc_index.specs.SingleByteTables.{table_number, letters_of};
 
 use crate::data::single_byte;
 
@@ -140,6 +140,43 @@ impl SingleByteIndex {
             SingleByteIndex::Windows1257 => 24,
             SingleByteIndex::Windows1258 => 25,
             SingleByteIndex::XMacCyrillic => 26,
+        }
+    }
+
+    /// Returns the first and the last of letters whose code points follow one by one, and how much
+    /// greater than a byte its code point is.
+    #[inline(always)]
+    pub(crate) fn listed_letters(self) -> (u8, u8, u16)
+        ensures { result ≡ letters_of self }
+    {
+        match self {
+            SingleByteIndex::Ibm866 => (0x80, 0xAF, 0x390),
+            SingleByteIndex::Iso88592 => (0xFF, 0x0, 0x0),
+            SingleByteIndex::Iso88593 => (0xFF, 0x0, 0x0),
+            SingleByteIndex::Iso88594 => (0xFF, 0x0, 0x0),
+            SingleByteIndex::Iso88595 => (0xAE, 0xEF, 0x360),
+            SingleByteIndex::Iso88596 => (0xC1, 0xDA, 0x560),
+            SingleByteIndex::Iso88597 => (0xD3, 0xFE, 0x2D0),
+            SingleByteIndex::Iso88598 => (0xE0, 0xFA, 0x4F0),
+            SingleByteIndex::Iso885910 => (0xFF, 0x0, 0x0),
+            SingleByteIndex::Iso885913 => (0xFF, 0x0, 0x0),
+            SingleByteIndex::Iso885914 => (0xDF, 0xEF, 0x0),
+            SingleByteIndex::Iso885915 => (0xBF, 0xFF, 0x0),
+            SingleByteIndex::Iso885916 => (0xFF, 0x0, 0x0),
+            SingleByteIndex::Koi8R => (0xFF, 0x0, 0x0),
+            SingleByteIndex::Koi8U => (0xFF, 0x0, 0x0),
+            SingleByteIndex::Macintosh => (0xFF, 0x0, 0x0),
+            SingleByteIndex::Windows874 => (0xA1, 0xDA, 0xD60),
+            SingleByteIndex::Windows1250 => (0xFF, 0x0, 0x0),
+            SingleByteIndex::Windows1251 => (0xC0, 0xFF, 0x350),
+            SingleByteIndex::Windows1252 => (0xA0, 0xFF, 0x0),
+            SingleByteIndex::Windows1253 => (0xD3, 0xFE, 0x2D0),
+            SingleByteIndex::Windows1254 => (0xDF, 0xEF, 0x0),
+            SingleByteIndex::Windows1255 => (0xE0, 0xFA, 0x4F0),
+            SingleByteIndex::Windows1256 => (0xC1, 0xD6, 0x560),
+            SingleByteIndex::Windows1257 => (0xFF, 0x0, 0x0),
+            SingleByteIndex::Windows1258 => (0xFF, 0x0, 0x0),
+            SingleByteIndex::XMacCyrillic => (0xE0, 0xFE, 0x350),
         }
     }
 }

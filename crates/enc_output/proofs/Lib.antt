@@ -2,6 +2,7 @@ pub mod AsciiPrefixLemmas
 pub mod CodeUnitLanes
 pub mod CodeUnitsLemmas
 pub mod GatherLemmas
+pub mod LetterLemmas
 pub mod MaskedUnitLemmas
 pub mod OutputLemmas
 pub mod OverwrittenTextLemmas

@@ -1,5 +1,6 @@
 pub mod AsciiRun
 pub mod CodeUnits
+pub mod Letters
 pub mod Output
 pub mod Pairs
 pub mod PieceRuns

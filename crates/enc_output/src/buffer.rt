@@ -212,6 +212,19 @@ impl<'a> Buffer<'a, u16> {
         self.len += 1;
     }
 
+    /// Stores sixteen code units.
+    #[inline(always)]
+    pub(crate) fn store_sixteen_units(&mut self, units: u16x16)
+        requires room { 16 ≤ room_in self.old.len self.old.units }
+        ensures bound { room_in self.old.len self.old.units
+            ≤ room_in self.new.len self.new.units + 16 }
+        ensures stored { buffer_output self.new.len self.new.units
+            ≡ with_appended (buffer_output self.old.len self.old.units) units }
+    {
+        units.copy_to_slice(&mut self.units[self.len..]);
+        self.len += 16;
+    }
+
     /// Stores the characters of sixteen bytes and of sixteen more, two bytes each, up to the first
     /// that is of more. Returns their number: sixteen, or at most eight.
     #[inline(always)]

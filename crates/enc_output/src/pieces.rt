@@ -4,10 +4,12 @@ ghost use Rattle.std.specs.Prelude.{ℕ, ◌<◌, ◌≤◌, List, [], ◌∷◌
 ghost use Rattle.enc_output.specs.PieceRuns.{PutsPieces};
 ghost use Rattle.enc_utf8.specs.Pieces.{AreWrittenAsThemselves, IsUtf8Char};
 ghost use Rattle.enc_output.specs.CodeUnits.{AreCodeUnits};
+ghost use Rattle.enc_output.specs.Letters.{AreLetters};
 ghost use Rattle.enc_output.specs.Pairs.{MeansWord, MeansUnit};
 ghost use Rattle.enc_output.specs.Places.{ArePlaces, IsPlace};
 
 use crate::gather::NEAR;
+use crate::letters::Letters;
 use crate::places::Places;
 use crate::run::Run;
 use crate::units::Units;
@@ -99,6 +101,20 @@ pub trait BytePieces: Pieces {
     /// Returns the same character as a code unit of UTF-16, or 0.
     fn unit(self, byte: u8) -> u16
         ensures { 0 < result → MeansUnit (Self.means self) (byte ∷ []) result };
+
+    /// Returns letters that are many, if there are some. Text in them is written sixteen bytes at a
+    /// time.
+    #[inline(always)]
+    fn letters(self) -> Letters
+        ensures { AreLetters (Self.means self) result }
+    {
+        let _pieces = self;
+        Letters {
+            first: 0xFF,
+            last: 0,
+            shift: 0,
+        }
+    }
 }
 
 /// Pieces of UTF-16: code units, and surrogate pairs.

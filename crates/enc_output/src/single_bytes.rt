@@ -4,12 +4,14 @@ ghost use Rattle.std.specs.Prelude.{◌≡◌, ℕ, ◌+◌, ◌*◌, ◌<◌, �
 ghost use Rattle.std.specs.Prelude.{IsTrue};
 ghost use Rattle.std.specs.Char.{encode_utf8};
 ghost use Rattle.std.specs.Char.Escape.{encode_utf16};
+ghost use Rattle.enc_output.specs.Letters.{AreLetters};
 ghost use Rattle.enc_output.specs.Output.{borrowed_output, buffer_output, room_in};
 ghost use Rattle.enc_output.specs.PieceRuns.{PutsPieces};
 ghost use Rattle.enc_utf8.specs.Validity.{AreAscii};
 
 use crate::buffer::{Buffer, UnitBuffer};
 use crate::gather::Gather;
+use crate::letters::{Letters, are_plain, units_of_plain};
 use crate::pieces::{BytePieces, Pieces};
 use crate::run::Run;
 use crate::unit_slice::{UnitSlice, append_each};
@@ -184,6 +186,33 @@ fn store_units_step<P: BytePieces>(
     read
 }
 
+/// Stores the code units of sixteen bytes, by lanes if each is ASCII or a letter, and else by
+/// look-ups. It stops at a byte that has none. Returns their number.
+#[inline(always)]
+fn store_units_turn<P: BytePieces>(
+    out: &mut Buffer<'_, u16>,
+    pieces: P,
+    letters: Letters,
+    src: &[u8],
+    from: usize,
+) -> usize
+    requires from { from + 16 ≤ length src.now }
+    requires room { 16 ≤ room_in out.old.len out.old.units }
+    requires letters { AreLetters (P.means pieces) letters }
+    ensures bound { result ≤ 16 }
+    ensures puts { PutsPieces encode_utf16 (P.means pieces)
+        (buffer_output out.old.len out.old.units)
+        (buffer_output out.new.len out.new.units) (drop from src.now) result }
+{
+    let (_, rest) = src.split_at(from);
+    let bytes = u8x16::from_slice(rest);
+    if pieces.has_ascii() && are_plain(letters, bytes) {
+        out.store_sixteen_units(units_of_plain(letters, bytes));
+        return STEP;
+    }
+    store_units_step(out, pieces, src, from)
+}
+
 /// Writes the characters at the front of a long run as UTF-8. Returns their length in bytes.
 ///
 /// It is a function of its own, since a function clears its arrays at each call, even if it does
@@ -248,13 +277,14 @@ impl<P: BytePieces> Gather for SingleBytes<P> {
     #[inline(always)]
     fn gather_units(self, out: &mut Buffer<'_, u16>, src: &[u8]) -> usize {
         let pieces = self.pieces;
+        let letters = pieces.letters();
         if out.capacity() < STEP {
             return 0;
         }
         let most = out.capacity() - STEP;
         let mut read = 0;
         while STEP <= src.len() - read && out.len() <= most {
-            let more = store_units_step(out, pieces, src, read);
+            let more = store_units_turn(out, pieces, letters, src, read);
             read += more;
             if more < STEP {
                 break;

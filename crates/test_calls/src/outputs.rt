@@ -145,3 +145,43 @@ fn long_runs_come_to_what_single_bytes_come_to(rt: HostRuntime) -> Result<(), Fa
     }
     Ok(())
 }
+
+/// The number of encodings.
+const COUNT: u32 = 40;
+
+/// The number of equal bytes in a row: some sixteens and a rest.
+const REPEATED: usize = 117;
+
+#[test]
+fn a_byte_that_is_repeated_is_its_character_repeated(rt: HostRuntime) -> Result<(), Fail> {
+    for number in 0..COUNT {
+        let Some(encoding) = Encoding::from_number(number) else {
+            return Err(Fail::new("there are 40 encodings"));
+        };
+        if !encoding.is_single_byte() {
+            continue;
+        }
+        for byte in 0..256 {
+            let bytes = [byte as u8; REPEATED];
+            let mut unit = [0; 1];
+            let mut units = [0; REPEATED];
+            let mut decoder = encoding.new_decoder_without_bom_handling();
+            let one = decoder.decode_to_utf16_without_replacement(&bytes[..1], &mut unit, true);
+            let mut decoder = encoding.new_decoder_without_bom_handling();
+            let all = decoder.decode_to_utf16_without_replacement(&bytes, &mut units, true);
+            if one.0 == DecoderResult::InputEmpty {
+                assert!(rt;
+                    all == (DecoderResult::InputEmpty, REPEATED, REPEATED),
+                    "{encoding:?}"
+                );
+                assert!(rt; units == [unit[0]; REPEATED], "{encoding:?} {byte}");
+            } else {
+                assert!(rt;
+                    all == (DecoderResult::Malformed(1, 0), 1, 0),
+                    "{encoding:?} {byte}"
+                );
+            }
+        }
+    }
+    Ok(())
+}
