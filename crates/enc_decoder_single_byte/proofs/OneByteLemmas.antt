@@ -13,11 +13,11 @@ use Rattle.enc_decoder.proofs.PrefixLemmas.{complete_one}
 use Rattle.enc_decoder.proofs.PrefixRule.{prefixes_have_bytes}
 use Rattle.enc_decoder.specs.Latin1.{HasNoByteSequences}
 use Rattle.enc_decoder.proofs.EnoughLemmas.{same_some}
-use Rattle.enc_index.specs.Letters.{HasLetters as IndexHasLetters}
+use Rattle.enc_index.specs.Letters.{HasLetters}
 use Rattle.enc_index.specs.Index.{Run, index_at, entry_character, is_entry_code_point}
 use Rattle.enc_index.specs.declared.table.Planes.TheVariants.{Basic}
 use Rattle.enc_decoder_single_byte.specs.OneByte.{one_byte_prefix, one_byte_rule, AreOneByteChars}
-use Rattle.enc_decoder_single_byte.specs.OneByte.{single_byte_char, x_user_defined_char, HasLetters}
+use Rattle.enc_decoder_single_byte.specs.OneByte.{single_byte_char, x_user_defined_char, FollowOneByOne}
 
 -- a byte has no more bytes after it
 pub no_more : (set : ℕ) (found : Option ℕ) → (one_byte_head set found).more ≡ 0
@@ -114,13 +114,13 @@ x_user_defined_laws = record {
 
 -- letters
 
-pub single_byte_letters : (runs : List Run) (l : ℕ × ℕ × ℕ) → IndexHasLetters runs l
-    → HasLetters (single_byte_char runs) (record { first = l.0; last = l.1; shift = l.2 })
+pub single_byte_letters : (runs : List Run) (l : ℕ × ℕ × ℕ) → HasLetters runs l
+    → FollowOneByOne (single_byte_char runs) (record { first = l.0; last = l.1; shift = l.2 })
 single_byte_letters runs l letters b low high =
     let is = letters b low high in
     (cond-false _ _ _ (le-ltb b 0x80 is.0) ∙ is.1, is.2, is.3)
 
-pub x_user_defined_letters : HasLetters x_user_defined_char
+pub x_user_defined_letters : FollowOneByOne x_user_defined_char
     (record { first = 0x80; last = 0xFF; shift = 0xF700 })
 x_user_defined_letters b low high =
     let shifted : 0xF780 + (b - 0x80) ≡ b + 0xF700 = omega (arith, low) in (

@@ -35,7 +35,7 @@ pub record AreOneByteChars (character : ℕ → Option ℕ) : Type 0 where
 
 -- Letters: each byte from the first to the last has the character of one code unit that the shift
 -- says.
-abbrev pub HasLetters : (ℕ → Option ℕ) → Letters → Type 0
-HasLetters character letters = (b : ℕ) → letters.first ≤ b → b ≤ letters.last
+abbrev pub FollowOneByOne : (ℕ → Option ℕ) → Letters → Type 0
+FollowOneByOne character letters = (b : ℕ) → letters.first ≤ b → b ≤ letters.last
     → (character b ≡ Some (b + letters.shift)) × IsScalar (b + letters.shift)
     × (b + letters.shift < 0x1_0000)

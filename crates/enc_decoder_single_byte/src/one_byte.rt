@@ -3,7 +3,7 @@
 ghost use Rattle.std.specs.Prelude.{◌≡◌, ℕ, ◌<◌, Option, Some};
 ghost use Rattle.std.specs.Char.{IsScalar};
 ghost use Rattle.enc_index.specs.Grid.{HasWord};
-ghost use Rattle.enc_decoder_single_byte.specs.OneByte.{AreOneByteChars, HasLetters};
+ghost use Rattle.enc_decoder_single_byte.specs.OneByte.{AreOneByteChars, FollowOneByOne};
 
 use enc_decoder::{Pending, Prefix, PrefixCodec, Text, TextLengths};
 use enc_output::{BytePieces, Letters, Pieces, SingleBytes, Units, put_run};
@@ -33,7 +33,7 @@ pub trait OneByte: Copy {
 
     /// Returns letters whose characters follow one by one, if there are many.
     fn letters_of(self) -> Letters
-        ensures { HasLetters (character self) result };
+        ensures { FollowOneByOne (character self) result };
 }
 
 /// The decoder of an encoding in which each byte stands alone. Nothing is ever pending.

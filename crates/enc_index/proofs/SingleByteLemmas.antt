@@ -1,6 +1,7 @@
 -- The tables of the single-byte indexes have what their runs say.
 use Rattle.std.proofs.Common.{◌≡◌, ◌∙◌, ℕ, ◌+◌, ◌-◌, ◌*◌, ◌<◌, ◌≤◌, Bool, true, ◌&&◌, Some, List}
-use Rattle.std.proofs.Common.{get_or, slice_range, refl, sym, ap, arith, length, ◌||◌, ◌==◌, nat_lt, nat_le, leb-true, le-ltb, ltb-true, eqb-true}
+use Rattle.std.proofs.Common.{get_or, slice_range, refl, sym, ap, arith, length, ◌||◌, ◌==◌, nat_lt, nat_le, leb-true}
+use Rattle.std.proofs.Common.{le-ltb, ltb-true, eqb-true}
 use Rattle.std.proofs.lemmas.Bool.{and_parts}
 use Rattle.enc_index.specs.declared.table.Planes.TheVariants.{Basic}
 use Rattle.enc_index.specs.declared.single_byte_index.SingleByteIndex.{SingleByteIndex}
@@ -116,5 +117,6 @@ single_byte_letters index b low high =
     let some = and_parts _ _ letter.1 in
     let is : get_or units b 0 ≡ b + letters.2 = eqb-true _ _ letter.0 in
     let found = unit_found _ _ (pointer_found is_unit index units b (get_or units b 0)
-    (units_fit index refl) refl (ltb-true _ _ some.0) (omega (arith, first)) (omega (arith, last))) in
+    (units_fit index refl) refl (ltb-true _ _ some.0) (omega (arith, first))
+    (omega (arith, last))) in
     (omega (arith, first), rw is at found.0, rw is at found.1, rw is at (ltb-true _ _ some.1))

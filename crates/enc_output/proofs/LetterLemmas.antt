@@ -81,7 +81,8 @@ units_put {Means} (b ∷ bs) (u ∷ us) before src long front room are =
     let one = are 0 (omega arith) in
     let within : suc (length bs) ≤ length src = omega (arith, lengths, ap length front) in
     let first = unit_put {before = before} {after = mid} {src = src} {bytes = b ∷ []} {n = 1} one.1
-    (take_one b bs src front) one.0 (omega arith) (omega (arith, within)) (omega (arith, room)) refl in
+    (take_one b bs src front) one.0 (omega arith) (omega (arith, within)) (omega (arith, room))
+    refl in
     let more = units_put bs us mid (drop 1 src) (omega (arith, long)) (rest_is b bs src front)
     (omega (arith, room)) (λ k below. are (suc k) (omega (arith, below))) in
     subst (λ o. PutsPieces encode_utf16 Means before o src (suc (length bs)))
@@ -101,7 +102,10 @@ plain_put {Means} {before} letters src units are keeps within long room plain ea
     let count : length bytes ≡ 16 = omega (arith, lengths, within) in
     let front : take (length bytes) src ≡ bytes = ap (λ n. take n src) count in
     let one : (k : ℕ) → k < length bytes → IsUnitOf Means (get_or bytes k 0) (get_or units k 0) =
-    λ k below. subst (IsUnitOf Means (get_or bytes k 0)) (sym (each k (omega (arith, count, below))))
+    λ k below. subst (IsUnitOf Means (get_or bytes k 0))
+    (sym (each k (omega (arith, count, below))))
     (plain_is Means letters (get_or bytes k 0) are keeps (plain k (omega (arith, count, below)))) in
-    let put = units_put bytes units before src (long ∙ sym count) front (omega (arith, count, room)) one in
-    rw appended (subst (PutsPieces encode_utf16 Means before (with_appended before units) src) count put)
+    let put = units_put bytes units before src (long ∙ sym count) front
+    (omega (arith, count, room)) one in
+    rw appended (subst (PutsPieces encode_utf16 Means before (with_appended before units) src) count
+    put)
