@@ -161,8 +161,8 @@ fn a_byte_that_is_repeated_is_its_character_repeated(rt: HostRuntime) -> Result<
         if !encoding.is_single_byte() {
             continue;
         }
-        for byte in 0..256 {
-            let bytes = [byte as u8; REPEATED];
+        for byte in 0..=u8::MAX {
+            let bytes = [byte; REPEATED];
             let mut unit = [0; 1];
             let mut units = [0; REPEATED];
             let mut decoder = encoding.new_decoder_without_bom_handling();
