@@ -6,7 +6,8 @@ A word is a text, and a list has words for each of its items. Both have the name
 import textwrap
 
 from common import paths, read
-from lists import byte_ranges, constant_of, entries_of, first_of, encodings, labels_of, lists, pairs_of, snake_of, texts_of_encodings
+from lists import byte_ranges, constant_of, encodings, entries_of, first_of, labels_of, lists, pairs_of, snake_of
+from lists import texts_of_encodings
 from tables import BY, DATA, INDEXES, NO_POINTER, PAGE, PAGES, SINGLE_BYTE, pages_of, pointers_of, runs_of, sources
 
 POINTERS = "crates/enc_index_pointers/src/pointers"
