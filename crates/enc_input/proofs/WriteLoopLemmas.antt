@@ -110,6 +110,14 @@ module _ {chars_in : List ℕ → List ℕ} {Rest : List ℕ → Type 0} {Means 
       }
 
   -- the loop goes on
+  -- nothing is written yet
+  pub written_none : {text dst : List ℕ} {from : ℕ} → from ≤ length dst → Rest text
+      → Written chars_in Rest Means text dst dst from 0 from
+  written_none {text} {dst} {from} room rest =
+      let same : from + 0 ≡ from = omega arith in
+      subst (Written chars_in Rest Means text dst dst from 0) same
+      (written_from (writes_none room rest))
+
   pub written_then : {text first dst new : List ℕ} {from read at n k : ℕ}
       → Written chars_in Rest Means text first dst from read at
       → WritesFront chars_in Rest Means (take (length text - read) (drop read text)) dst new at n k

@@ -156,6 +156,35 @@ fn put_strides<M: Mapping>(mapping: M, src: &[u8], dst: &mut [u8], at: usize) ->
     copy_strides(src, &mut dst[at..], most)
 }
 
+/// Writes the bytes of the first characters of UTF-8 to a slice, from `from` on, one by one.
+///
+/// Returns the numbers of bytes read and written. It counts from where it begins: with the numbers
+/// of the loop before it, the compiler would keep each of that loop's in two registers.
+#[inline(always)]
+fn write_ones<M: Mapping, T: Turns<M>>(
+    mapping: M,
+    src: &[u8],
+    dst: &mut [u8],
+    from: usize,
+) -> (usize, usize)
+    requires utf8 { IsUtf8 src.now }
+    requires within { from ≤ length dst.old }
+    ensures { WritesFront chars IsUtf8 (M.means mapping) src.now dst.old dst.new from result.0
+        result.1 }
+{
+    let mut read = 0;
+    let mut at = from;
+    'ones: while read < src.len() && at < dst.len() {
+        let (width, count) = T::put_utf8_char(mapping, &src[read..], dst, at);
+        read += width;
+        at += count;
+        if width == 0 {
+            return (read, at - from);
+        }
+    }
+    (read, at - from)
+}
+
 /// Writes the bytes of the first characters of UTF-8 to a slice, from `from` on.
 ///
 /// Returns the numbers of bytes read and written. The run need not be maximal.
@@ -183,13 +212,6 @@ pub(crate) fn write_utf8<M: Mapping, T: Turns<M>>(
         read += len;
         at += count;
     }
-    'ones: while read < src.len() && at < dst.len() {
-        let (width, count) = T::put_utf8_char(mapping, &src[read..], dst, at);
-        read += width;
-        at += count;
-        if width == 0 {
-            return (read, at - from);
-        }
-    }
-    (read, at - from)
+    let (more, count) = write_ones::<M, T>(mapping, &src[read..], dst, at);
+    (read + more, at + count - from)
 }

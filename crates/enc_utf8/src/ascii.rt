@@ -80,10 +80,13 @@ pub fn ascii_len(bytes: &[u8]) -> usize
     ensures ends { result < length bytes.now → 0x80 ≤ slice_index bytes.now result }
 {
     let mut at = ascii_steps(bytes);
+    if at == bytes.len() {
+        return at;
+    }
     if 16 <= bytes.len() - at {
         return at + ascii_in(u8x16::from_slice(&bytes[at..]));
     }
-    if at < bytes.len() && ends_as_ascii(bytes) {
+    if ends_as_ascii(bytes) {
         return bytes.len();
     }
     while at < bytes.len() && bytes[at] < 0x80 {

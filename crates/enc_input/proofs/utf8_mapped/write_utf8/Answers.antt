@@ -12,8 +12,5 @@ pub returns-then-not-goes_on : goal.returns-then-not-goes_on
 returns-then-not-goes_on g c =
     (written_then c.sixteens.invariant c.put_utf8-len.ensures.writes).front
 
-pub ones-preserved : goal.ones-preserved
-ones-preserved g c = written_then c.ones.invariant c.put_utf8_char-width.ensures
-
-pub returns-then-width-eq0 : goal.returns-then-width-eq0
-returns-then-width-eq0 g c = (written_then c.ones.invariant c.put_utf8_char-width.ensures).front
+pub returns : goal.returns
+returns g c = (written_then c.sixteens.invariant c.write_ones-more.ensures).front

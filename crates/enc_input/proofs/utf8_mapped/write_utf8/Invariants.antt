@@ -8,10 +8,3 @@ invariant-sixteens g l =
 
 abbrev pub decreases-sixteens : goal.decreases-sixteens
 decreases-sixteens g l = length l.src - l.read
-
-abbrev pub invariant-ones : goal.invariant-ones
-invariant-ones g l =
-    Written chars IsUtf8 (g.M.Mapping.means l.mapping) l.src l.fn.dst l.dst l.from l.read l.at
-
-abbrev pub decreases-ones : goal.decreases-ones
-decreases-ones g l = length l.src - l.read

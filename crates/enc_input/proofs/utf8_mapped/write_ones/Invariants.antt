@@ -1,0 +1,10 @@
+use Rattle.std.proofs.Common.{◌-◌, length, chars, IsUtf8}
+use Rattle.enc_input.proofs.WriteLoopLemmas.{Written}
+use Rattle.enc_input.proofs.utf8_mapped.write_ones.Given as goal
+
+abbrev pub invariant-ones : goal.invariant-ones
+invariant-ones g l =
+    Written chars IsUtf8 (g.M.Mapping.means l.mapping) l.src l.fn.dst l.dst l.from l.read l.at
+
+abbrev pub decreases-ones : goal.decreases-ones
+decreases-ones g l = length l.src - l.read
