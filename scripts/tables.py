@@ -269,6 +269,37 @@ def marked_source():
     return source("The places of marked code units.", "", [array_text(doc, "MARKED", "u8", places, "pub(crate)")])
 
 
+def packed_text(doc, name, rows):
+    """Rows of sixteen places of bytes, the last of which are zeros."""
+    places = [place for those in rows for place in those + [0] * (16 - len(those))]
+    return array_text(doc, name, "u8", places, "pub(crate)")
+
+
+def lanes_of(width, lens):
+    """The places of the first bytes of lanes, as many of each as `lens` says."""
+    return [width * lane + byte for lane, count in enumerate(lens) for byte in range(count)]
+
+
+def pairs_of(mask):
+    """The places of eight characters of two bytes, or of one where the bit of the character is set."""
+    return lanes_of(2, [2 - (mask >> lane & 1) for lane in range(8)])
+
+
+def triples_of(mask):
+    """The places of four characters of three bytes, less one for each bit that is set of two."""
+    return lanes_of(4, [3 - (mask >> 2 * lane & 3).bit_count() for lane in range(4)])
+
+
+def packed_source():
+    """The places of the bytes of characters in lanes, by the masks of those that are left out."""
+    masks = range(256)
+    return source("The places of the bytes of UTF-8 in lanes.", "", [
+        packed_text("Of eight pairs of bytes, by a mask of those whose second byte is left out.", "PAIR_PLACES",
+                    map(pairs_of, masks)),
+        packed_text("Of four lanes of three bytes, by a mask of two bits each, one for each byte that is left out.",
+                    "TRIPLE_PLACES", map(triples_of, masks))])
+
+
 # The faults of two bytes in UTF-8, each a bit, the lowest first: what they are, the upper and the lower halves that the
 # first byte has, and the upper halves that the second has. The last is none within a character of three or four bytes.
 CONTINUATION = range(0x8, 0xC)
@@ -326,6 +357,7 @@ def computed():
         "crates/enc_decoder_single_byte/src/user_defined_words.rt": user_defined_source(),
         "crates/enc_decoder_iso_2022_jp/src/replaced_bytes.rt": replaced_bytes_source(),
         "crates/enc_utf8/src/ends.rt": ends_source(),
+        "crates/enc_utf8/src/packed.rt": packed_source(),
         "crates/enc_output/src/marked.rt": marked_source(),
         "crates/enc_utf8/src/utf8_faults.rt": utf8_faults_source(),
     }

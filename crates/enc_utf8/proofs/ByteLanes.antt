@@ -1,5 +1,5 @@
 -- Code units of two and three bytes of UTF-8 in sixteen lanes.
-use Rattle.std.proofs.Common.{◌≡◌, ℕ, ◌+◌, ◌-◌, ◌*◌, ◌%◌, ◌<◌, List, length, get_or, w8, arith}
+use Rattle.std.proofs.Common.{◌≡◌, ℕ, ◌+◌, ◌*◌, ◌%◌, ◌<◌, List, length, get_or, w8, arith}
 use Rattle.std.proofs.lemmas.Simd.{Each1-get_or}
 use Rattle.enc_utf8.proofs.Lanes.{IsLanes, places, splat, by_op}
 use lib.Lanes.{Each1}

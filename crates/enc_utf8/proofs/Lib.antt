@@ -5,6 +5,9 @@ pub mod EndsLemmas
 pub mod LaneLemmas
 pub mod Lanes
 pub mod LengthLemmas
+pub mod PackedLemmas
+pub mod PackedTextLemmas
+pub mod PackedUnitLanes
 pub mod PieceListLemmas
 pub mod PutLemmas
 pub mod ScalarLemmas

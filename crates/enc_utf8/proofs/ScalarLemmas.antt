@@ -1,5 +1,5 @@
 -- Texts are Unicode scalar values.
-use Rattle.std.proofs.Common.{ℕ, suc, ◌&&◌, true, List, [], ◌∷◌, ◌++◌, refl, ap, ◌∙◌, arith}
+use Rattle.std.proofs.Common.{ℕ, suc, ◌<◌, All, ◌&&◌, true, List, [], ◌∷◌, ◌++◌, refl, ap, ◌∙◌, arith}
 use Rattle.std.proofs.lemmas.Bool.{and_parts}
 use Rattle.std.proofs.Math.Utf8.{low_scalar}
 use Rattle.std.specs.Char.{IsScalar}
@@ -25,3 +25,10 @@ ascii_scalars [] are_ascii = refl
 ascii_scalars (b ∷ bs) are_ascii =
     scalars-cons b bs (low_scalar b (let is_ascii = are_ascii 0 0 (omega arith) in omega arith))
     (ascii_scalars bs (λ k d h. are_ascii (suc k) d (omega arith)))
+
+-- numbers below U+0800 are scalar values
+pub short_scalars : (us : List ℕ) → All (λ u. u < 0x800) us → AreScalars us
+short_scalars [] are_short = refl
+short_scalars (u ∷ us) are_short =
+    scalars-cons u us (low_scalar u (let is_short = are_short 0 0 (omega arith) in omega arith))
+    (short_scalars us (λ k d h. are_short (suc k) d (omega arith)))

@@ -22,7 +22,7 @@ use mir.Val.{Fits}
 
 -- the word of a code unit
 
-abbrev Spells : ℕ → List ℕ → Type 0
+abbrev pub Spells : ℕ → List ℕ → Type 0
 Spells word text = (word / 0x100_0000 ≤ 4)
     × (take (word / 0x100_0000) (to_le_bytes w32 word) ≡ text)
 
@@ -38,7 +38,7 @@ three_same : {a b c x y z : ℕ} → a ≡ x → b ≡ y → c ≡ z → a ∷ b
 three_same {b = b} {c = c} {x = x} e f g = ap (λ t. t ∷ b ∷ c ∷ []) e
     ∙ ap (λ t. x ∷ t) (two_same f g)
 
-word_spelt : (u : ℕ) → u < 65536 → Form u → Spells (unit_word u) (encode_utf8 u)
+pub word_spelt : (u : ℕ) → u < 65536 → Form u → Spells (unit_word u) (encode_utf8 u)
 word_spelt u fits (One low code) =
     let word : unit_word u ≡ 16777216 + u = rw (lt-ltb u 128 low) (omega arith) in
     let byte : (16777216 + u) % 256 ≡ u = omega arith in

@@ -6,6 +6,8 @@ mod ascii;
 mod coder_result;
 mod ends;
 mod four_ends;
+mod packed;
+mod packed_units;
 mod swizzle;
 mod unit_words;
 mod utf8;

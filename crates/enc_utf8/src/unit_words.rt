@@ -3,10 +3,11 @@
 ghost use Rattle.std.specs.Prelude.{◌≡◌, ℕ, ◌+◌, ◌*◌, ◌/◌, ◌<◌, ◌≤◌, ◌++◌, All, IsTrue, length, map, take};
 ghost use Rattle.std.specs.Char.{encode_utf8};
 ghost use Rattle.std.specs.Char.Escape.{encode_utf16};
-ghost use Rattle.enc_utf8.specs.UnitWords.{bytes_of_words, unit_word_low, unit_word_high};
+ghost use Rattle.enc_utf8.specs.UnitWords.{bytes_of_words, unit_word, unit_word_low, unit_word_high};
 ghost use Rattle.enc_utf8.specs.Text.{AreScalars, units_of_text};
 ghost use Rattle.enc_utf8.specs.Validity.{AreAscii};
 
+use crate::packed_units::{are_short, store_packed, store_short};
 use crate::utf8_form::store_word;
 use std::simd::prelude::*;
 
@@ -69,13 +70,14 @@ fn rests(units: u16x8) -> u16x8
 /// Returns the UTF-8 of each code unit as a word: its bytes, the first lowest, and their number in
 /// the highest byte.
 #[inline(always)]
-fn words_of(units: u16x8) -> [u32; 8]
+fn words_of(units: u16x8) -> u32x8
+    ensures words { result ≡ map unit_word units }
     ensures bound { All (λ word. word / 0x1000000 ≤ 4) result }
     ensures utf8 { (n : ℕ) → bytes_of_words (take n result)
         ≡ units_of_text encode_utf8 (take n units) }
 {
     let rests = rests(units).cast::<u32>() << u32x8::splat(16);
-    (fronts(units).cast::<u32>() + rests).to_array()
+    fronts(units).cast::<u32>() + rests
 }
 
 /// Stores the bytes of the first `len` words after the first `at` bytes of a buffer. Returns their
@@ -115,11 +117,13 @@ pub fn store_scalars(buffer: &mut [u8], at: usize, units: u16x8) -> (usize, usiz
         units.cast::<u8>().copy_to_slice(&mut buffer[at..]);
         return (8, at + 8);
     }
+    if are_short(units) {
+        return (8, store_short(buffer, at, units));
+    }
     let words = words_of(units);
     let count = units_before_surrogate(units);
     if count == 8 {
-        // with a constant length the loop has no branch
-        return (8, store_words(buffer, at, words, 8));
+        return (8, store_packed(buffer, at, units, words));
     }
-    (count, store_words(buffer, at, words, count))
+    (count, store_words(buffer, at, words.to_array(), count))
 }

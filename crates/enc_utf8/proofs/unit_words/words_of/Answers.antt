@@ -20,3 +20,7 @@ returns-clause-utf8 c n =
     (sym ((words c.args.units c.fits-units.0 c.fits-units.1 c.fronts.ensures
     c.rests.ensures).1))
     (words_spelt c.args.units c.fits-units.1 n)
+
+pub returns-clause-words : goal.returns-clause-words
+returns-clause-words c =
+    (words c.args.units c.fits-units.0 c.fits-units.1 c.fronts.ensures c.rests.ensures).1
