@@ -66,45 +66,48 @@ class Cell:
         self.times = []
         self.instructions = ()
 
-    def run(self, program, rounds):
+    def commands(self, programs):
+        """The command of each program, without the number of rounds."""
+        return [[*program, *self.arguments] for program in programs]
+
+    def run(self, command, rounds):
         """The processor time of a run and the sum that it prints."""
         before = resource.getrusage(resource.RUSAGE_CHILDREN)
-        command = [*program, *self.arguments, str(rounds)]
-        done = subprocess.run(command, input=self.data, stdout=subprocess.PIPE, check=True)
+        done = subprocess.run([*command, str(rounds)], input=self.data, stdout=subprocess.PIPE, check=True)
         after = resource.getrusage(resource.RUSAGE_CHILDREN)
         return after.ru_utime - before.ru_utime + after.ru_stime - before.ru_stime, done.stdout
 
     def prepare(self, programs):
         """Compares the sums, and finds out how many rounds take the time of a run."""
-        done = [self.run(program, self.rounds) for program in programs]
+        done = [self.run(command, self.rounds) for command in self.commands(programs)]
         if len({total for _, total in done}) != 1:
             raise SystemExit(f"bench: sums differ: {' '.join(self.arguments)}: {[total for _, total in done]}")
         self.rounds = max(1, int(self.rounds * TARGET / max(min(taken for taken, _ in done), 0.001)))
 
     def measure(self, programs):
         """Runs each program once."""
-        self.times.append([self.run(program, self.rounds)[0] for program in programs])
+        self.times.append([self.run(command, self.rounds)[0] for command in self.commands(programs)])
 
     def count(self, programs):
         """Counts the instructions of a call: those that COUNTED rounds more take, so that what is made once is not in."""
-        def of(program, rounds):
-            return counts.instructions([*program, *self.arguments, str(rounds)], self.data)
+        def of(command, rounds):
+            return counts.instructions([*command, str(rounds)], self.data)
 
-        more = [of(program, 1 + COUNTED) - of(program, 1) for program in programs]
+        more = [of(command, 1 + COUNTED) - of(command, 1) for command in self.commands(programs)]
         self.instructions = [it / (COUNTED * self.calls) for it in more]
 
-    def by_time(self):
-        """The rate by the crate's: the median of the rounds' ratios."""
-        return median(theirs / ours for ours, theirs in self.times)
+    def by_time(self, other=1):
+        """The rate by that of another program, the crate's: the median of the rounds' ratios."""
+        return median(times[other] / times[0] for times in self.times)
 
     def by_instructions(self):
         """The crate's instructions by ours."""
-        ours, theirs = self.instructions
+        ours, theirs = self.instructions[:2]
         return theirs / ours
 
     def nanoseconds(self):
         """The time of a call."""
-        return median(ours for ours, _ in self.times) * 1e9 / (self.rounds * self.calls)
+        return median(times[0] for times in self.times) * 1e9 / (self.rounds * self.calls)
 
 
 class Row:
@@ -176,11 +179,8 @@ def counted(every, programs):
                 print(f"calls whose instructions are counted: {number} of {len(every)}", flush=True)
 
 
-def measured(programs, rounds):
-    """The rows of each direction with what is measured of their cells, and the cell of labels. `programs`: the commands
-    of ours and of the crate's."""
-    decoded, encoded, labels = tables()
-    every = [cell for row in (*decoded[1], *encoded[1], labels) for cell in row.cells()]
+def measure(every, programs, rounds):
+    """Compares the sums of each cell, and measures it."""
     for cell in every:
         cell.prepare(programs)
     print(f"sums of calls compared with the crate's: {len(every)}", flush=True)
@@ -189,6 +189,13 @@ def measured(programs, rounds):
             cell.measure(programs)
         print(f"round {number + 1} of {rounds}", flush=True)
     counted(every, programs)
+
+
+def measured(programs, rounds):
+    """The rows of each direction with what is measured of their cells, and the cell of labels. `programs`: the commands
+    of ours and of the crate's."""
+    decoded, encoded, labels = tables()
+    measure([cell for row in (*decoded[1], *encoded[1], labels) for cell in row.cells()], programs, rounds)
     return (("Decoding", *decoded), ("Encoding", *encoded)), labels.groups[0][0]
 
 

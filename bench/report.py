@@ -2,27 +2,17 @@
 
 BEGIN = "<!-- scripts/bench writes from here -->"
 CALLS_BEGIN = "<!-- scripts/bench --only calls writes from here -->"
+MEMORY_BEGIN = "<!-- scripts/bench --only memory writes from here -->"
 INTERFACE_BEGIN = "<!-- scripts/bench --only interface writes from here -->"
 END = "<!-- to here -->"
 
 DECODING = "How many times as fast as the crate encoding_rs recode decodes"
-DECODING_UNITS = "The rate of decoding to UTF-16 by that of the crate encoding_rs"
 ENCODING = "How many times as fast as the best of encoding_rs, iconv and uconv recode encodes"
 PEERS = ("encoding_rs", "iconv", "uconv")
-SIMDUTF = ("simdutf SSE", "simdutf AVX2")
-
-BESIDE_SIMDUTF = """\
-The C++ library simdutf, by its implementations for SSE (`westmere`) and for AVX2 (`haswell`), in a program with the
-same buffers (`bench/simdutf.cpp`). From UTF-8 to UTF-8 it validates, and writes what it has read. It replaces nothing:
-at something malformed it stops."""
-
-# What a text becomes, for the table beside simdutf.
-TARGETS = {"decode": "to UTF-8", "to-units": "to UTF-16", "from-units": "from UTF-16"}
 
 # The pictures: the name of each, its way, its title, and the programs that it compares with.
 PICTURES = (
     ("speed", "decode", DECODING, ("encoding_rs",)),
-    ("speed-utf16", "to-units", DECODING_UNITS, ("encoding_rs",)),
     ("speed-encoding", "encode", ENCODING, PEERS),
 )
 
@@ -60,64 +50,33 @@ class Row:
         return min(self.times[program] for program in programs if program in self.times) / self.times["recode"]
 
 
-def table(rows, programs, peers, units=(), way=""):
-    """A table in Markdown: rates, and that of recode by the fastest peer and, if measured, by its own before. To the
-    right are those of the same texts to or from UTF-16, beside the crate alone."""
+def table(rows, programs, peers):
+    """A table in Markdown: rates, and that of recode by the fastest peer and, if measured, by its own before."""
     programs = [program for program in programs if any(program in row.times for row in rows)]
     name = "encoding_rs" if len(peers) == 1 else "the fastest"
     compared = [(name, peers)] + ([("before", ("before",))] if "before" in programs else [])
     heads = ["Text", *programs] + [f"by {head}" for head, _ in compared]
-    heads += [f"recode {way}", f"encoding_rs {way}", "one by the other"] if units else []
-    other = {row.title: row for row in units}
     made = ["| " + " | ".join(heads) + " |", "|---" * len(heads) + "|"]
     for row in rows:
         cells = [row.title] + [row.rate(program) for program in programs]
         cells += [f"{row.ratio(names):.2f}" for _, names in compared]
-        made.append("| " + " | ".join(cells + unit_cells(other.get(row.title), units)) + " |")
-    return "\n".join(made)
-
-
-def unit_cells(row, units):
-    """The rates of a text to or from UTF-16, or empty cells where it was not measured."""
-    if not row:
-        return ["", "", ""] if units else []
-    return [row.rate("recode"), row.rate("encoding_rs"), f"{row.ratio(('encoding_rs',)):.2f}"]
-
-
-def simdutf_table(rows):
-    """A table in Markdown: rates beside simdutf, and that of recode by each of its implementations."""
-    names = [name for name in SIMDUTF if any(name in row.times for row in rows)]
-    programs = ["recode", "encoding_rs", *names]
-    heads = ["Text", *programs] + [f"by {name}" for name in names]
-    made = ["| " + " | ".join(heads) + " |", "|---" * len(heads) + "|"]
-    for row in [row for row in rows if any(name in row.times for name in names)]:
-        cells = [f"{row.title}, {TARGETS[row.way]}"] + [row.rate(program) for program in programs]
-        cells += [f"{row.ratio([name]):.2f}" if name in row.times else "" for name in names]
         made.append("| " + " | ".join(cells) + " |")
     return "\n".join(made)
 
 
 def text(circumstances, rows):
-    """The circumstances of the measurement, and a table for each way with its pictures."""
+    """The circumstances of the measurement, and a table for each way with its picture."""
     parts = [circumstances]
-    ways = {way: [row for row in rows if row.way == way] for way in ("decode", "to-units", "encode", "from-units")}
+    ways = {way: [row for row in rows if row.way == way] for way in ("decode", "encode")}
     if ways["decode"]:
-        programs = ["recode", "before", *PEERS, "cat"]
-        pictures = f"![{DECODING}, for each text](speed.svg)\n![{DECODING_UNITS}, for each text](speed-utf16.svg)"
-        parts += ["### From each encoding to UTF-8 and to UTF-16", pictures]
-        parts.append(table(ways["decode"], programs, ("encoding_rs",), ways["to-units"], "to UTF-16"))
+        parts += ["### From each encoding to UTF-8", f"![{DECODING}, for each text](speed.svg)"]
+        parts.append(table(ways["decode"], ["recode", "before", *PEERS, "cat"], ("encoding_rs",)))
         ascii_text = [row for row in ways["decode"] if "cat" in row.times and row.title.startswith("ASCII")]
         if ascii_text:
             parts.append(f"On ASCII recode has {ascii_text[0].ratio(('cat',)):.2f} times the speed of `cat`.")
-    elif ways["to-units"]:
-        parts += ["### From each encoding to UTF-16", table(ways["to-units"], ["recode", "encoding_rs"], ("encoding_rs",))]
     if ways["encode"]:
-        parts += ["### From UTF-8 and from UTF-16 to each encoding", f"![{ENCODING}, for each text](speed-encoding.svg)"]
-        parts.append(table(ways["encode"], ["recode", "before", *PEERS], PEERS, ways["from-units"], "from UTF-16"))
-    elif ways["from-units"]:
-        parts += ["### From UTF-16 to each encoding", table(ways["from-units"], ["recode", "encoding_rs"], ("encoding_rs",))]
-    if any(name in row.times for row in rows for name in SIMDUTF):
-        parts += ["### UTF-8 and UTF-16 beside simdutf", BESIDE_SIMDUTF, simdutf_table(rows)]
+        parts += ["### From UTF-8 to each encoding", f"![{ENCODING}, for each text](speed-encoding.svg)"]
+        parts.append(table(ways["encode"], ["recode", "before", *PEERS], PEERS))
     return "\n\n".join(parts)
 
 
@@ -148,8 +107,13 @@ def picture(title, rows, peers):
 def draw(folder, rows):
     """Writes the pictures."""
     for name, way, title, peers in PICTURES:
-        with open(f"{folder}/{name}.svg", "w", encoding="utf-8") as file:
-            file.write(picture(title, [row for row in rows if row.way == way], peers))
+        put_picture(f"{folder}/{name}.svg", title, [row for row in rows if row.way == way], peers)
+
+
+def put_picture(path, title, rows, peers=None):
+    """Writes a picture to a file."""
+    with open(path, "w", encoding="utf-8") as file:
+        file.write(picture(title, rows, peers))
 
 
 def put_between_marks(path, text, begin=BEGIN):

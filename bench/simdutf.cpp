@@ -1,12 +1,14 @@
-// The program over simdutf that scripts/bench times: `simdutf IMPLEMENTATION WAY`. WAY is `validate`,
-// which writes UTF-8 as it is once it is known to be well-formed, as `recode utf-8 utf-8` does;
-// `to-utf16`, from UTF-8 to UTF-16LE, as `bench utf16 decode utf-8` does; or `from-utf16`, back. It
-// reads 64 KiB at a time, as these do, and writes the output of each call. A character that breaks
-// off at the end of a read is kept for the next. The status is 0; 1 where the input is malformed,
-// since simdutf replaces nothing; 2 where the processor lacks the implementation, or an argument
-// names none; and 3 where reading or writing fails.
+// The twin of `bench calls` over simdutf, for scripts/bench: `simdutf IMPLEMENTATION WAY LEN ROUNDS`.
+// Standard input, of 64 KiB at most, is cut into pieces of LEN bytes, each of whole characters. Each
+// round converts each piece, as WAY says: `validate` copies UTF-8 once it is known to be
+// well-formed, `to-utf16` is from UTF-8 to UTF-16LE, and `from-utf16` back. Standard output is the
+// sum of the lengths and of the last units of what each piece gives. The status is 0; 1 where a
+// piece is malformed, since simdutf replaces nothing; 2 where the processor lacks the
+// implementation, or an argument is wrong; and 3 where reading fails.
 #include <simdutf.h>
 
+#include <cstdint>
+#include <cstdio>
 #include <cstdlib>
 #include <cstring>
 #include <optional>
@@ -15,50 +17,36 @@
 
 namespace {
 
-// How many bytes are read at a time, and how many of a character may wait for the next read.
-constexpr size_t BUFFER = 64 << 10;
-constexpr size_t HELD = 3;
+constexpr size_t LENGTH = 64 << 10;
 
-alignas(64) char input[BUFFER + HELD];
-alignas(64) char16_t units[BUFFER + HELD];
-alignas(64) char bytes[3 * (BUFFER + HELD) / 2];
+alignas(64) char input[LENGTH];
+alignas(64) char16_t units[LENGTH];
+alignas(64) char bytes[3 * LENGTH / 2];
 
-void write_all(const void *data, size_t size) {
-    for (size_t at = 0; at < size;) {
-        const ssize_t written = write(1, static_cast<const char *>(data) + at, size - at);
-        if (written < 0) std::exit(3);
-        at += written;
-    }
+// The length of what a piece gives, plus its last unit. Nothing, where it gives none.
+template <typename Unit>
+std::optional<uint64_t> sum(const Unit *made, size_t count) {
+    if (count == 0) return std::nullopt;
+    return count + static_cast<std::make_unsigned_t<Unit>>(made[count - 1]);
 }
 
-// Writes the bytes of UTF-8 that are well-formed. The number of bytes, or nothing.
-std::optional<size_t> validate(const simdutf::implementation &simd, size_t count) {
-    const size_t whole = simdutf::trim_partial_utf8(input, count);
-    if (!simd.validate_utf8(input, whole)) return std::nullopt;
-    write_all(input, whole);
-    return whole;
+std::optional<uint64_t> validate(const simdutf::implementation &simd, const char *piece, size_t length) {
+    if (!simd.validate_utf8(piece, length)) return std::nullopt;
+    std::memcpy(bytes, piece, length);
+    return sum(bytes, length);
 }
 
-// Writes the code units of the UTF-8 that is read. The number of its bytes, or nothing.
-std::optional<size_t> to_utf16(const simdutf::implementation &simd, size_t count) {
-    const size_t whole = simdutf::trim_partial_utf8(input, count);
-    const size_t made = simd.convert_utf8_to_utf16le(input, whole, units);
-    if (made == 0 && whole != 0) return std::nullopt;
-    write_all(units, 2 * made);
-    return whole;
+std::optional<uint64_t> to_utf16(const simdutf::implementation &simd, const char *piece, size_t length) {
+    const size_t count = simd.convert_utf8_to_utf16le(piece, length, units);
+    return sum(reinterpret_cast<const uint16_t *>(units), count);
 }
 
-// Writes the UTF-8 of the code units that are read. The number of their bytes, or nothing.
-std::optional<size_t> from_utf16(const simdutf::implementation &simd, size_t count) {
-    const auto *text = reinterpret_cast<const char16_t *>(input);
-    const size_t whole = simdutf::trim_partial_utf16le(text, count / 2);
-    const size_t made = simd.convert_utf16le_to_utf8(text, whole, bytes);
-    if (made == 0 && whole != 0) return std::nullopt;
-    write_all(bytes, made);
-    return 2 * whole;
+std::optional<uint64_t> from_utf16(const simdutf::implementation &simd, const char *piece, size_t length) {
+    const auto *text = reinterpret_cast<const char16_t *>(piece);
+    return sum(bytes, simd.convert_utf16le_to_utf8(text, length / 2, bytes));
 }
 
-using Way = std::optional<size_t> (*)(const simdutf::implementation &, size_t);
+using Way = std::optional<uint64_t> (*)(const simdutf::implementation &, const char *, size_t);
 
 Way way_of(std::string_view name) {
     if (name == "validate") return validate;
@@ -73,25 +61,39 @@ const simdutf::implementation *implementation_of(std::string_view name) {
     return nullptr;
 }
 
-// Reads all, and returns the status.
-int run(const simdutf::implementation &simd, Way way) {
-    size_t held = 0;
-    for (;;) {
-        const ssize_t count = read(0, input + held, BUFFER);
-        if (count < 0) return 3;
-        if (count == 0) return held == 0 ? 0 : 1;
-        const size_t end = held + count;
-        const std::optional<size_t> taken = way(simd, end);
-        if (!taken || end - *taken > HELD) return 1;
-        held = end - *taken;
-        std::memmove(input, input + *taken, held);
+// Reads up to the end of the input or of the buffer. The number of bytes, or nothing.
+std::optional<size_t> fill() {
+    size_t at = 0;
+    while (at < LENGTH) {
+        const ssize_t count = read(0, input + at, LENGTH - at);
+        if (count < 0) return std::nullopt;
+        if (count == 0) break;
+        at += count;
     }
+    return at;
+}
+
+// Converts each piece again and again, writes the sum, and returns the status.
+int run(const simdutf::implementation &simd, Way way, size_t length, uint64_t rounds) {
+    const std::optional<size_t> end = fill();
+    if (!end) return 3;
+    uint64_t total = 0;
+    for (uint64_t round = 0; round < rounds; round++) {
+        for (size_t at = 0; length <= *end - at; at += length) {
+            const std::optional<uint64_t> made = way(simd, input + at, length);
+            if (!made) return 1;
+            total += *made;
+        }
+    }
+    std::printf("%llu\n", static_cast<unsigned long long>(total));
+    return 0;
 }
 
 } // namespace
 
 int main(int count, char **words) {
-    const Way way = count == 3 ? way_of(words[2]) : nullptr;
+    const Way way = count == 5 ? way_of(words[2]) : nullptr;
     const auto *simd = way ? implementation_of(words[1]) : nullptr;
-    return simd ? run(*simd, way) : 2;
+    const size_t length = simd ? std::strtoull(words[3], nullptr, 10) : 0;
+    return length ? run(*simd, way, length, std::strtoull(words[4], nullptr, 10)) : 2;
 }

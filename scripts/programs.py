@@ -18,7 +18,7 @@ from common import TOP, give_up, read, run, run_quietly
 CACHE = os.environ.get("BENCH_CACHE") or os.path.expanduser("~/.cache/recode-bench")
 # The arguments with which a program that wants some runs on no input.
 ARGUMENTS = {
-    "recode": ["utf-8", "utf-8"], "recode_part": ["utf-8", "utf-8", "1"], "bench": ["utf16", "encode", "utf-8"],
+    "recode": ["utf-8", "utf-8"], "recode_part": ["utf-8", "utf-8", "1"], "bench": ["calls", "to-utf8", "utf-8", "16", "80", "1"],
 }
 # The packages of the Rust crate and of its dependency.
 CRATES = {"trixie": "librust-encoding-rs-dev", "bookworm": "librust-cfg-if-dev"}

@@ -1,16 +1,14 @@
-//! The programs that scripts/bench times, over the Rust crate encoding_rs: `peer FROM TO` recodes
-//! standard input as `recode FROM TO` does, `peer --utf16 TO` encodes code units of UTF-16LE as
-//! `bench utf16 encode TO` does, and `peer FROM --utf16` decodes to UTF-16LE as
-//! `bench utf16 decode FROM` does. The buffers are the same too: it reads 64 KiB at a time, decodes
-//! into 64 KiB or 65,536 code units, encodes into 64 KiB, and writes the output of each call. The
-//! status is 0, 1 where something was replaced, and 2 where a label is unknown.
+//! The program that scripts/bench times, over the Rust crate encoding_rs: `peer FROM TO` recodes
+//! standard input as `recode FROM TO` does. The buffers are the same too: it reads 64 KiB at a time,
+//! decodes into 64 KiB, encodes into 64 KiB, and writes the output of each call. The status is 0, 1
+//! where something was replaced, and 2 where a label is unknown.
 use encoding_rs::{CoderResult, Decoder, Encoder, Encoding, UTF_8};
 use std::fs::File;
 use std::io::{self, Read, Write};
 use std::os::fd::{AsFd, BorrowedFd};
 use std::process::ExitCode;
 
-/// How many bytes the buffers of `recode` have, and how many code units the buffer of UTF-16.
+/// How many bytes the buffers of `recode` have.
 const BUFFER: usize = 64 << 10;
 
 /// The file of a standard stream, without the stream's own buffer.
@@ -55,28 +53,6 @@ fn decode_all(decoder: &mut Decoder, mut reader: File, mut writer: File) -> io::
     }
 }
 
-/// Decodes all that is read, to UTF-16LE.
-fn decode_to_units(decoder: &mut Decoder, mut reader: File, mut writer: File) -> io::Result<bool> {
-    let (mut input, mut bytes) = (vec![0; BUFFER], vec![0; 2 * BUFFER]);
-    let mut units = vec![0; BUFFER];
-    let mut replaced = false;
-    loop {
-        let count = reader.read(&mut input)?;
-        replaced |= write_all(&mut bytes, &mut writer, |at, out| {
-            let bytes = &input[at..count];
-            let (result, read, written, more) =
-                decoder.decode_to_utf16(bytes, &mut units, count == 0);
-            for (pair, unit) in out.chunks_exact_mut(2).zip(&units[..written]) {
-                pair.copy_from_slice(&unit.to_le_bytes());
-            }
-            (result, read, 2 * written, more)
-        })?;
-        if count == 0 {
-            return Ok(replaced);
-        }
-    }
-}
-
 /// Decodes all that is read, and encodes its text.
 fn recode_all(decoder: &mut Decoder, encoder: &mut Encoder, mut reader: File, mut writer: File) -> io::Result<bool> {
     let (mut input, mut bytes) = (vec![0; BUFFER], vec![0; BUFFER]);
@@ -101,39 +77,12 @@ fn recode_all(decoder: &mut Decoder, encoder: &mut Encoder, mut reader: File, mu
     }
 }
 
-/// Encodes all code units of UTF-16LE that are read.
-fn encode_units(encoder: &mut Encoder, mut reader: File, mut writer: File) -> io::Result<bool> {
-    let (mut input, mut bytes) = (vec![0; BUFFER], vec![0; BUFFER]);
-    let mut units = vec![0; BUFFER / 2];
-    let mut replaced = false;
-    loop {
-        let count = reader.read(&mut input)?;
-        for (unit, pair) in units.iter_mut().zip(input[..count].chunks_exact(2)) {
-            *unit = u16::from_le_bytes([pair[0], pair[1]]);
-        }
-        let text = &units[..count / 2];
-        replaced |= write_all(&mut bytes, &mut writer, |at, out| {
-            encoder.encode_from_utf16(&text[at..], out, count == 0)
-        })?;
-        if count == 0 {
-            return Ok(replaced);
-        }
-    }
-}
-
 fn main() -> io::Result<ExitCode> {
-    let [from, to] = [1, 2].map(|place| std::env::args().nth(place).unwrap_or_default());
-    let [source, target] =
-        [&from, &to].map(|label| Encoding::for_label_no_replacement(label.as_bytes()));
+    let labels = [1, 2].map(|place| std::env::args().nth(place).unwrap_or_default());
+    let [source, target] = labels.map(|label| Encoding::for_label_no_replacement(label.as_bytes()));
     let reader = unbuffered(io::stdin().as_fd())?;
     let writer = unbuffered(io::stdout().as_fd())?;
     let replaced = match (source, target.map(Encoding::output_encoding)) {
-        (Some(source), None) if to == "--utf16" => {
-            decode_to_units(&mut source.new_decoder(), reader, writer)
-        }
-        (None, Some(target)) if from == "--utf16" => {
-            encode_units(&mut target.new_encoder(), reader, writer)
-        }
         (Some(source), Some(target)) if target == UTF_8 => {
             decode_all(&mut source.new_decoder(), reader, writer)
         }

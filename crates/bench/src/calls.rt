@@ -1,4 +1,4 @@
-//! Makes short calls again and again: `bench calls KIND LABEL LEN ROOM ROUNDS`.
+//! Makes calls again and again: `bench calls KIND LABEL LEN ROOM ROUNDS`.
 //!
 //! Standard input, of 64 KiB at most, is cut into pieces of LEN bytes, at least 2. A shorter rest
 //! is left out, and so is all from the first piece on whose end is within a character of UTF-8,
@@ -22,14 +22,15 @@ mod chunks;
 mod kind;
 mod pieces;
 mod single;
+mod units;
 
-use crate::utf16::units_of;
 use encoding_rs::Encoding;
 use kind::Kind;
 use pieces::{CutInput, Setting, call_for_bytes, call_for_text, call_for_units};
 use std::io::Read;
 use std::process::ExitCode;
 use std::{env, io};
+use units::units_of;
 
 /// The greatest length of the input in bytes, and of an output in bytes or code units.
 const LENGTH: usize = 65536;

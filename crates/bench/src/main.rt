@@ -1,11 +1,8 @@
-//! What scripts/bench times beside twins over the Rust crate encoding_rs, by the first argument:
-//!
-//! - `bench utf16`: encodes and decodes UTF-16
-//! - `bench calls`: makes short calls again and again
+//! What scripts/bench times beside a twin over the Rust crate encoding_rs: `bench calls` makes
+//! calls again and again.
 #![tactic(auto)]
 
 mod calls;
-mod utf16;
 
 use std::process::ExitCode;
 use std::{env, io};
@@ -20,7 +17,6 @@ fn main(rt: HostRuntime) -> ExitCode {
         return ExitCode::from(2);
     };
     match mode.as_str() {
-        "utf16" => utf16::run(&rt),
         "calls" => calls::run(&rt),
         _ => ExitCode::from(2),
     }

@@ -1,5 +1,5 @@
 use Rattle.std.proofs.Common.{◌≤◌, ◌*◌, ◌-◌, length}
-use Rattle.bench.proofs.utf16.units_of.Given as goal
+use Rattle.bench.proofs.calls.units.units_of.Given as goal
 
 abbrev pub invariant-loop-at : goal.invariant-loop-at
 invariant-loop-at l = record {
