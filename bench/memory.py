@@ -67,10 +67,6 @@ class Text(Cell):
         taken = median(times[number] for times in self.times)
         return f"{len(self.data) * self.rounds / taken / 1e9:.2f}"
 
-    def ratio(self, _peers=None):
-        """The rate by the crate's, for a picture."""
-        return self.by_time()
-
 
 def text_of(corpus, kind):
     """The calls of a kind with the text of a corpus. Random bytes are cut anywhere."""
@@ -122,9 +118,9 @@ def simdutf_table(every):
     made = ["| " + " | ".join(heads) + " |", "|---" + "|--:" * (len(heads) - 1) + "|"]
     for text in (it for it in every if it.way):
         others = range(2, 2 + len(SIMDUTF))
-        cells = [f"{text.title}, {TITLES[text.kind]}", text.rate(), *(text.rate(it) for it in others),
+        shown = [f"{text.title}, {TITLES[text.kind]}", text.rate(), *(text.rate(it) for it in others),
                  *(f"{text.by_time(it):.2f}" for it in others), f"{text.instructions[2] / text.instructions[0]:.2f}"]
-        made.append("| " + " | ".join(cells) + " |")
+        made.append("| " + " | ".join(shown) + " |")
     return "\n".join(made)
 
 

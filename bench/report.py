@@ -80,11 +80,11 @@ def text(circumstances, rows):
     return "\n\n".join(parts)
 
 
-def picture(title, rows, peers):
-    """Horizontal bars: how many times as fast as the fastest of the peers recode is on each corpus."""
-    most = max(2, *(row.ratio(peers) for row in rows))
+def picture(title, bars):
+    """Horizontal bars, each with its title: how many times as fast as its peers a program is."""
+    most = max(2, *(ratio for _, ratio in bars))
     scale = (WIDTH - LEFT - 60) / most
-    height = 40 + (BAR + 8) * len(rows)
+    height = 40 + (BAR + 8) * len(bars)
     made = [
         f'<svg xmlns="http://www.w3.org/2000/svg" viewBox="0 0 {WIDTH} {height}" role="img">',
         f"<title>{title}</title>",
@@ -95,25 +95,25 @@ def picture(title, rows, peers):
         kind = "one" if number == 1 else "grid"
         made.append(f'<line class="{kind}" x1="{x:.1f}" y1="22" x2="{x:.1f}" y2="{height - 12}"/>')
         made.append(f'<text x="{x:.1f}" y="16" text-anchor="middle">{number}</text>')
-    for number, row in enumerate(rows):
+    for number, (name, ratio) in enumerate(bars):
         y = 30 + (BAR + 8) * number
-        length = scale * row.ratio(peers)
-        made.append(f'<text x="{LEFT - 8}" y="{y + 12}" text-anchor="end">{row.title}</text>')
+        length = scale * ratio
+        made.append(f'<text x="{LEFT - 8}" y="{y + 12}" text-anchor="end">{name}</text>')
         made.append(f'<rect class="bar" x="{LEFT}" y="{y}" width="{length:.1f}" height="{BAR}"/>')
-        made.append(f'<text x="{LEFT + length + 6:.1f}" y="{y + 12}">{row.ratio(peers):.2f}</text>')
+        made.append(f'<text x="{LEFT + length + 6:.1f}" y="{y + 12}">{ratio:.2f}</text>')
     return "\n".join(made + ["</svg>", ""])
 
 
 def draw(folder, rows):
     """Writes the pictures."""
     for name, way, title, peers in PICTURES:
-        put_picture(f"{folder}/{name}.svg", title, [row for row in rows if row.way == way], peers)
+        put_picture(f"{folder}/{name}.svg", title, [(row.title, row.ratio(peers)) for row in rows if row.way == way])
 
 
-def put_picture(path, title, rows, peers=None):
+def put_picture(path, title, bars):
     """Writes a picture to a file."""
     with open(path, "w", encoding="utf-8") as file:
-        file.write(picture(title, rows, peers))
+        file.write(picture(title, bars))
 
 
 def put_between_marks(path, text, begin=BEGIN):
