@@ -1,19 +1,22 @@
 -- How far bytes are the characters of their own numbers, for every codec.
 use Rattle.enc_output.proofs.OverwrittenTextLemmas.{is_text}
 use Rattle.std.proofs.Common.{◌≡◌, ℕ, ◌+◌, ◌<◌, ◌≤◌, Bool, true, false, List, [], ◌∷◌, ◌++◌, length}
-use Rattle.std.proofs.Common.{get_or, take, refl, ap, ◌∙◌}
+use Rattle.std.proofs.Common.{get_or, take, drop, drop-cons, zero, suc, refl, ap, ◌∙◌}
+use Rattle.std.specs.Prelude.{All}
+use Rattle.std.proofs.lemmas.List.Elements.{All-head, All-tail}
 use Rattle.std.proofs.Common.{sym, subst, arith, append_assoc}
 use Rattle.std.proofs.lemmas.List.{take_more}
 use Rattle.enc_decoder.specs.declared.byte_codec.Kind.TheVariants.{Valid}
 use Rattle.enc_decoder.specs.declared.byte_codec.Emission.{Emission}
 use Rattle.enc_decoder.specs.declared.byte_codec.HandlerResult.TheVariants.{Continue, Emit}
 use Rattle.enc_decoder.specs.Sequence.{Sequence}
-use Rattle.enc_decoder.specs.Segmentation.{Rule}
+use Rattle.enc_decoder.specs.Segmentation.{Rule, sequences_of}
 use Rattle.enc_decoder.specs.Remainder.{AreFirstSequences, Determines}
 use Rattle.enc_decoder.specs.CodecState.{CodecState, remainder_of}
 use Rattle.enc_decoder.specs.CodecLaw.{text_chars, taken_bytes, HandlesByte}
 use Rattle.enc_decoder.specs.Latin1.{IsLatin1Sequence, AreLatin1Sequences, IsLatin1Prefix, HasNoByteSequences}
-use Rattle.enc_decoder.specs.Latin1.{CodecMayBeLatin1}
+use Rattle.enc_decoder.specs.Latin1.{AreLatin1Bytes, CodecMayBeLatin1}
+use Rattle.enc_decoder.specs.Taking.{IsWholeChar}
 use Rattle.enc_decoder.proofs.DeterminedLemmas.{begins_after, none_determined}
 use Rattle.enc_decoder.proofs.NextEventLemmas.{holds_sequences, sequence}
 
@@ -167,3 +170,58 @@ module _ {C : Type 0} {state : C → CodecState} {v : CodecState} {bytes : List 
         let is_byte : itself ≡ q = cc in
         none is_itself.0 (ap (λ (r : Sequence). r.kind) is_byte ∙ is_latin1.kind)
         (ap (λ (r : Sequence). r.text) is_byte ∙ is_latin1.text))
+
+-- bytes that are characters with their numbers, with the same state after them
+
+module _ {C : Type 0} {state : C → CodecState} {v : CodecState} {bytes : List ℕ} {now : C} where
+  run_goes_on : {k : ℕ} (latin1_front : Latin1Front state v bytes k now) → k < length bytes
+      → IsWholeChar (state now).rule (state now).set (get_or bytes k 0 ∷ []) (get_or bytes k 0)
+      → Latin1Front state v bytes (k + 1) now
+  run_goes_on {k} latin1_front has_next is_char =
+      let byte = get_or bytes k 0 in
+      let rule = (state now).rule in
+      let set = (state now).set in
+      let itself : Sequence = record {
+        bytes = byte ∷ [];
+        text = byte ∷ [];
+        kind = Valid;
+        set = set;
+      } in
+      let none = latin1_front.none_pending in
+      let first : (y : List ℕ) → (remainder_of (state now)).sequences (byte ∷ y)
+      ≡ itself ∷ (remainder_of (state now)).sequences y = λ y.
+      ap (λ p. sequences_of rule set (p ++ byte ∷ y)) none ∙ is_char y
+      ∙ ap (λ p. itself ∷ sequences_of rule set (p ++ y)) (sym none) in
+      record {
+        within = omega arith;
+        front = latin1_front.front ++ itself ∷ [];
+        themselves = subst (AreLatin1Sequences (latin1_front.front ++ itself ∷ []))
+            (sym (take_more bytes k 0 has_next))
+            (themselves_then latin1_front.front (take k bytes) itself byte latin1_front.themselves
+            (record { bytes = refl; text = refl; kind = refl }));
+        rest = λ y. further latin1_front has_next y
+            ∙ ap (λ ss. latin1_front.front ++ ss) (first y)
+            ∙ sym (append_assoc latin1_front.front (itself ∷ [])
+            ((remainder_of (state now)).sequences y));
+        none_pending = none;
+      }
+
+  pub latin1_runs : (n : ℕ) {k : ℕ} → Latin1Front state v bytes k now → k + n ≤ length bytes
+      → AreLatin1Bytes (state now).rule (state now).set (take n (drop k bytes))
+      → Latin1Front state v bytes (k + n) now
+  latin1_runs zero {k} latin1_front within are =
+      let same : k ≡ k + 0 = omega arith in
+      subst (λ j. Latin1Front state v bytes j now) same latin1_front
+  latin1_runs (suc n) {k} latin1_front within are =
+      let byte = get_or bytes k 0 in
+      let rest = take n (drop (suc k) bytes) in
+      let Own = λ (b : ℕ). IsWholeChar (state now).rule (state now).set (b ∷ []) b in
+      let split : take (suc n) (drop k bytes) ≡ byte ∷ rest =
+      ap (take (suc n)) (drop-cons bytes k 0 (omega arith)) in
+      let own = subst (All Own) split are in
+      let next : suc k ≡ k + 1 = omega arith in
+      let count : k + 1 + n ≡ k + suc n = omega arith in
+      subst (λ j. Latin1Front state v bytes j now) count
+      (latin1_runs n (run_goes_on latin1_front (omega arith) (All-head Own byte rest own))
+      (omega arith) (subst (λ j. All Own (take n (drop j bytes))) next
+      (All-tail Own byte rest own)))

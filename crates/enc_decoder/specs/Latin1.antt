@@ -1,11 +1,13 @@
 -- The Latin-1 prefix of a decoder's next input: bytes that are the characters with their numbers
 -- (the Unicode Standard's block of Latin-1 has the code points 00 to FF).
-use Rattle.std.specs.Prelude.{◌≡◌, ℕ, ◌+◌, ◌<◌, ◌≤◌, Option, Some, None, List, [], ◌∷◌, ◌++◌, length, take, slice_index}
+use Rattle.std.specs.Prelude.{◌≡◌, ℕ, ◌+◌, ◌<◌, ◌≤◌, Option, Some, None, List, [], ◌∷◌, ◌++◌, length, take}
+use Rattle.std.specs.Prelude.{All, slice_index}
 use Rattle.enc_decoder.specs.declared.byte_codec.Kind.TheVariants.{Valid}
 use Rattle.enc_decoder.specs.Sequence.{Sequence}
 use Rattle.enc_decoder.specs.Segmentation.{Rule}
 use Rattle.enc_decoder.specs.Remainder.{Determines}
 use Rattle.enc_decoder.specs.CodecState.{CodecState, remainder_of}
+use Rattle.enc_decoder.specs.Taking.{IsWholeChar}
 
 -- a valid sequence of one byte, of the character with the byte's number
 pub record IsLatin1Sequence (s : Sequence) (b : ℕ) : Type 0 where
@@ -30,6 +32,10 @@ pub record IsLatin1Prefix (remaining : List ℕ → List Sequence) (bytes : List
   pub first : Determines remaining (take k bytes) front
   pub longest : k < length bytes → (s : Sequence) → IsLatin1Sequence s (slice_index bytes k)
       → Determines remaining (take (k + 1) bytes) (front ++ s ∷ []) → ⊥
+
+-- each of these bytes is the character with its number, a sequence by itself, whatever follows
+abbrev pub AreLatin1Bytes : Rule → ℕ → List ℕ → Type 0
+AreLatin1Bytes rule set bytes = All (λ b. IsWholeChar rule set (b ∷ []) b) bytes
 
 -- At the start no byte is a valid sequence by itself.
 abbrev pub HasNoByteSequences : Rule → Type 0

@@ -1,8 +1,9 @@
 //! Decoders that take one byte at a time.
 
-ghost use Rattle.std.specs.Prelude.{◌≡◌, ◌<◌, ◌≤◌, length, drop, IfSome, IsTrue};
+ghost use Rattle.std.specs.Prelude.{◌≡◌, ◌<◌, ◌≤◌, [], length, take, drop, IfSome, IsTrue};
 ghost use Rattle.enc_decoder.specs.CodecState.{CodecState};
 ghost use Rattle.enc_decoder.specs.CodecLaw.{HandlesByte, IsNextOfPending, IsNextAtEnd, lone_fault};
+ghost use Rattle.enc_decoder.specs.Latin1.{AreLatin1Bytes};
 ghost use Rattle.enc_decoder.specs.Taking.{TakesRun, TakesSequences, SkipsEnd, IsReplacedCharAt};
 ghost use Rattle.enc_decoder.specs.declared.byte_codec.HandlerResult.TheVariants as steps;
 ghost use Rattle.enc_decoder.specs.Sequence.{is_malformed as malformed_kind};
@@ -101,6 +102,20 @@ pub trait ByteCodec: Copy {
     {
         let _end = (self, src.len());
         None
+    }
+
+    /// Returns the length of a prefix of `src` in which each byte is the character with its number,
+    /// a sequence by itself, with this state after it. Condition: nothing is pending.
+    ///
+    /// It may be any, and 0.
+    #[inline(always)]
+    fn latin1_run(self, src: &[u8]) -> usize
+        requires none_pending { (state self).pending ≡ [] }
+        ensures within { result ≤ length src.now }
+        ensures latin1 { AreLatin1Bytes (state self).rule (state self).set (take result src.now) }
+    {
+        let _bytes = (self, src.len());
+        0
     }
 
     /// Returns whether the next byte is malformed by itself, with this state after it.

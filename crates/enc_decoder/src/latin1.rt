@@ -32,6 +32,10 @@ fn latin1_len<C: ByteCodec>(codec: C, bytes: &[u8]) -> usize
     let mut state = codec;
     let mut at = 0;
     while at < bytes.len() {
+        at += state.latin1_run(&bytes[at..]);
+        if at == bytes.len() {
+            return at;
+        }
         let HandlerResult::Emit(shown) = state.next_step(bytes[at]) else {
             return at;
         };

@@ -1,13 +1,13 @@
 //! The decoders of encodings by the kinds of prefixes.
 
-ghost use Rattle.std.specs.Prelude.{◌≡◌, ◌<◌, ◌≤◌, [], ◌∷◌, ◌++◌, false, length, drop};
+ghost use Rattle.std.specs.Prelude.{◌≡◌, ◌<◌, ◌≤◌, [], ◌∷◌, ◌++◌, false, length, take, drop};
 ghost use Rattle.std.specs.Prelude.{IfSome, IsNone, IsTrue, IsFalse};
 ghost use Rattle.enc_decoder.specs.Pending.{bytes_of_pending};
 ghost use Rattle.enc_decoder.specs.Prefixes.{prefix_rule, prefix_state, AreIncomplete, AreKept};
 ghost use Rattle.enc_decoder.specs.Prefixes.{ArePrefixes, LeavesIncomplete};
 ghost use Rattle.enc_decoder.specs.CodecLaw.{IsNextOfPending, HandlesByte};
 ghost use Rattle.enc_decoder.specs.Taking.{IsWholeChar, IsReplacedCharAt};
-ghost use Rattle.enc_decoder.specs.Latin1.{HasNoByteSequences};
+ghost use Rattle.enc_decoder.specs.Latin1.{AreLatin1Bytes, HasNoByteSequences};
 ghost use Rattle.enc_decoder.specs.Need.{AreEnoughForCodec};
 ghost use Rattle.enc_output.specs.PieceRuns.{PutsPieces};
 
@@ -75,6 +75,17 @@ pub trait PrefixCodec: Copy {
     fn put_front<U: Units>(self, src: &[u8], out: &mut U) -> usize
         ensures { PutsPieces U.units_of (IsWholeChar (prefix_rule (prefix self)) 0)
             (U.output out.old) (U.output out.new) src.now result };
+
+    /// Returns the length of a prefix of `src` in which each byte is the character with its number,
+    /// a sequence by itself. It may be any, and 0.
+    #[inline(always)]
+    fn latin1_front(self, src: &[u8]) -> usize
+        ensures within { result ≤ length src.now }
+        ensures latin1 { AreLatin1Bytes (prefix_rule (prefix self)) 0 (take result src.now) }
+    {
+        let _bytes = (self, src.len());
+        0
+    }
 
     /// Returns the text of the sequence at `at`, as `ByteCodec::replaced_char` does.
     #[inline(always)]
@@ -234,6 +245,11 @@ impl<C: PrefixCodec> ByteCodec for C {
     #[inline(always)]
     fn replaced_char(self, src: &[u8], at: usize) -> Option<(char, usize)> {
         self.replaced_at(src, at)
+    }
+
+    #[inline(always)]
+    fn latin1_run(self, src: &[u8]) -> usize {
+        self.latin1_front(src)
     }
 
     fn next_step(self, byte: u8) -> HandlerResult<C> {

@@ -8,7 +8,8 @@ use Rattle.enc_index.specs.Grid.{HasWord}
 use Rattle.enc_index.proofs.ByteEntries.{fits, bytes_fit, word_at, unit_at}
 use Rattle.enc_index.proofs.PlaceLemmas.{same_some, some_none}
 use Rattle.enc_index.proofs.GridEntries.{grid_tests, is_word, is_unit}
-use Rattle.enc_output.specs.Pairs.{MeansWord, MeansUnit}
+use Rattle.enc_output.specs.Pairs.{MeansWord}
+use Rattle.enc_utf8.specs.Letters.{MeansUnit}
 use Rattle.enc_decoder.specs.declared.byte_codec.Kind.TheVariants.{Valid, Malformed}
 use Rattle.enc_decoder.specs.Taking.{IsReplacedChar}
 use Rattle.enc_decoder.proofs.FirstSequenceLemmas.{true_or_false}

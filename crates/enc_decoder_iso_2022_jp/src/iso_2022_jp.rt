@@ -15,6 +15,7 @@ use enc_decoder::{
     latin1_up_to, run,
 };
 use enc_output::{SingleBytes, Units, put_run};
+use enc_utf8::iso_2022_jp_ascii_valid_up_to;
 use std::marker::Model;
 
 /// The number of bytes that are read in a run with malformed ones, before the decoder looks again
@@ -127,6 +128,14 @@ impl ByteCodec for Iso2022JpDecoder {
         };
         let escape = whole_escape(src)?;
         Some(with_held(escape.set(), None))
+    }
+
+    /// Takes ASCII without shifts and escapes.
+    fn latin1_run(self, src: &[u8]) -> usize {
+        if !self.is_in_ascii() {
+            return 0;
+        }
+        iso_2022_jp_ascii_valid_up_to(src)
     }
 
     /// In each character set a byte with the high bit set is malformed by itself.

@@ -10,6 +10,7 @@ use crate::encoding_laws::PrefixLaws;
 use enc_decoder::{Pending, Prefix, PrefixCodec, Text, TextLengths};
 use enc_index::DoubleByteIndex;
 use enc_output::{PairPieces, Pairs, Pieces, Places, Units, put_run};
+use enc_utf8::ascii_valid_up_to;
 use std::marker::PhantomData;
 use std::simd::prelude::*;
 
@@ -198,6 +199,14 @@ impl<E: PrefixLaws> PrefixCodec for MultiByteDecoder<E> {
     #[inline(always)]
     fn put_front<U: Units>(self, src: &[u8], out: &mut U) -> usize {
         put_run(out, Pairs { pieces: self }, src)
+    }
+
+    /// Takes ASCII.
+    fn latin1_front(self, src: &[u8]) -> usize {
+        if !self.has_ascii() {
+            return 0;
+        }
+        ascii_valid_up_to(src)
     }
 
     #[inline(always)]

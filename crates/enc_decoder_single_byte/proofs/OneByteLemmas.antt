@@ -1,6 +1,6 @@
 -- Encodings in which each byte stands alone: the laws of their prefixes, and of their characters.
 use Rattle.std.proofs.Common.{◌≡◌, ℕ, ◌+◌, ◌-◌, ◌<◌, Bool, true, false, cond, ◌&&◌, nat_lt, nat_le, Option, Some}
-use Rattle.std.proofs.Common.{None, List, [], ◌∷◌, length, refl, ap, ◌∙◌, arith}
+use Rattle.std.proofs.Common.{None, List, [], ◌∷◌, length, refl, ap, ◌∙◌, subst, arith, inl, inr}
 use Rattle.std.proofs.lemmas.Bool.{cond-true, cond-false, lt-ltb, le-ltb}
 use Rattle.std.proofs.lemmas.Bool.Decides.{nat_tests}
 use Rattle.enc_decoder.specs.declared.prefix.Prefix.TheVariants.{Incomplete}
@@ -13,6 +13,10 @@ use Rattle.enc_decoder.proofs.PrefixLemmas.{complete_one}
 use Rattle.enc_decoder.proofs.PrefixRule.{prefixes_have_bytes}
 use Rattle.enc_decoder.specs.Latin1.{HasNoByteSequences}
 use Rattle.enc_decoder.proofs.EnoughLemmas.{same_some}
+use Rattle.enc_utf8.specs.declared.letters.Letters.{Letters}
+use Rattle.enc_utf8.specs.Letters.{AreLetters}
+use Rattle.enc_utf8.specs.Pieces.{KeepsAscii}
+use Rattle.enc_output.specs.Letters.{IsPlain}
 use Rattle.enc_index.specs.Letters.{HasLetters}
 use Rattle.enc_index.specs.Index.{Run, index_at, entry_character, is_entry_code_point}
 use Rattle.enc_index.specs.declared.table.Planes.TheVariants.{Basic}
@@ -128,3 +132,12 @@ x_user_defined_letters b low high =
       grind (arith, nat_tests, low, high),
       omega (arith, high),
     )
+
+-- bytes with their own numbers
+
+pub plain_own : {Means : List ℕ → ℕ → Type 0} (letters : Letters) → letters.shift ≡ 0
+    → KeepsAscii Means → AreLetters Means letters → (b : ℕ) → IsPlain letters b → Means (b ∷ []) b
+plain_own letters none keeps are b (inl low) = keeps b low
+plain_own {Means} letters none keeps are b (inr letter) =
+    let same : b + letters.shift ≡ b = omega (arith, none) in
+    subst (Means (b ∷ [])) same (are b letter.1 letter.2).0.means

@@ -2,7 +2,7 @@
 -- (Encoding Standard 9.1, "single-byte decoder") and x-user-defined (14.5.1).
 use Rattle.std.specs.Prelude.{◌≡◌, ℕ, ◌+◌, ◌-◌, ◌<◌, ◌≤◌, nat_lt, Option, Some, List, [], ◌∷◌, if◌then◌else◌}
 use Rattle.std.specs.Char.{IsScalar}
-use Rattle.enc_output.specs.declared.letters.Letters.{Letters}
+use Rattle.enc_utf8.specs.declared.letters.Letters.{Letters}
 use Rattle.enc_decoder.specs.declared.prefix.Prefix.{Prefix}
 use Rattle.enc_decoder.specs.declared.prefix.Prefix.TheVariants.{Incomplete}
 use Rattle.enc_decoder.specs.Segmentation.{Rule}

@@ -6,7 +6,8 @@ ghost use Rattle.enc_index.specs.Grid.{HasWord};
 ghost use Rattle.enc_decoder_single_byte.specs.OneByte.{AreOneByteChars, FollowOneByOne};
 
 use enc_decoder::{Pending, Prefix, PrefixCodec, Text, TextLengths};
-use enc_output::{BytePieces, Letters, Pieces, SingleBytes, Units, put_run};
+use enc_output::{BytePieces, Pieces, SingleBytes, Units, plain_len, put_run};
+use enc_utf8::{Letters, ascii_valid_up_to};
 
 /// An encoding in which each byte stands alone, as its character or malformed.
 pub trait OneByte: Copy {
@@ -130,6 +131,19 @@ impl<E: OneByte> PrefixCodec for OneByteDecoder<E> {
     #[inline(always)]
     fn put_front<U: Units>(self, src: &[u8], out: &mut U) -> usize {
         put_run(out, SingleBytes { pieces: self }, src)
+    }
+
+    /// Takes letters with their own numbers too, where the encoding has them.
+    fn latin1_front(self, src: &[u8]) -> usize {
+        if !self.has_ascii() {
+            return 0;
+        }
+        let ascii = ascii_valid_up_to(src);
+        let letters = self.letters();
+        if letters.shift != 0 {
+            return ascii;
+        }
+        ascii + plain_len(letters, &src[ascii..])
     }
 
     #[inline(always)]

@@ -4,7 +4,7 @@ ghost use Rattle.std.specs.Prelude.{◌≡◌};
 
 use crate::one_byte::{OneByte, OneByteDecoder};
 use enc_index::SingleByteIndex;
-use enc_output::Letters;
+use enc_utf8::Letters;
 
 /// The decoder of a legacy single-byte encoding, by its index (Encoding Standard 9.1).
 ///

@@ -2,7 +2,7 @@
 
 use crate::one_byte::{OneByte, OneByteDecoder};
 use crate::user_defined_words::{USER_DEFINED_UNITS, USER_DEFINED_WORDS};
-use enc_output::Letters;
+use enc_utf8::Letters;
 
 /// x-user-defined (Encoding Standard 14.5).
 #[derive(Clone, Copy)]

@@ -9,6 +9,7 @@ ghost use Rattle.enc_decoder.specs.declared.prefix.Prefix.TheVariants.{Incomplet
 
 use enc_decoder::{Pending, Prefix, PrefixCodec, Text, TextLengths};
 use enc_output::{Units, put_utf8_run};
+use enc_utf8::ascii_valid_up_to;
 use std::marker::Model;
 
 /// The UTF-8 decoder (Encoding Standard 8.1.1).
@@ -234,6 +235,12 @@ impl PrefixCodec for Utf8Decoder {
     fn put_front<U: Units>(self, src: &[u8], out: &mut U) -> usize {
         let _decoder = self;
         put_utf8_run(out, src)
+    }
+
+    /// Takes ASCII.
+    fn latin1_front(self, src: &[u8]) -> usize {
+        let _decoder = self;
+        ascii_valid_up_to(src)
     }
 
     #[inline(always)]

@@ -4,6 +4,7 @@ ghost use Rattle.std.specs.Prelude.{◌≡◌, ℕ, ◌<◌, ◌≤◌, Some, []
 ghost use Rattle.std.specs.Char.{encode_utf8};
 ghost use Rattle.enc_input.specs.Mappings.{WritesMapped};
 ghost use Rattle.enc_encoder.specs.declared.character_set.CharacterSet.TheVariants.{Ascii};
+ghost use Rattle.enc_encoder.specs.Letters.{AreLettersOf};
 ghost use Rattle.enc_encoder.specs.Runs.{IsWrittenIn};
 ghost use Rattle.enc_encoder.specs.Stateless.{stateless_rule};
 
@@ -11,6 +12,7 @@ use crate::barring::Barring;
 use crate::lawful_repertoire::LawfulRepertoire;
 use crate::stateless::StatelessEncoder;
 use enc_input::{ByCharacter, Chars};
+use enc_utf8::Letters;
 
 /// An encoding that names the way in which its encoder writes a run.
 pub trait RunRepertoire: LawfulRepertoire {
@@ -37,6 +39,10 @@ pub trait UnitRepertoire: LawfulRepertoire {
         requires bound { unit < 0x800 }
         ensures bytes { 0 < result → Self.bytes_for self unit ≡ Some (result ∷ []) }
         ensures last { unit ≡ 0x7FF → result ≡ 0 };
+
+    /// Returns letters that are many, if there are some.
+    fn letters(self) -> Letters
+        ensures { AreLettersOf (Self.bytes_for self) result };
 }
 
 /// An encoding that writes every character as its UTF-8.

@@ -16,7 +16,7 @@ use crate::outcome::EncoderOutcome;
 use crate::raw_encoder::RawEncoder;
 use crate::run_repertoire::{RunRepertoire, UnitRepertoire, Utf8Repertoire};
 use enc_input::{Bytes, Chars, Mapping, UnitBytes, Utf8Bytes};
-use enc_utf8::ascii_in;
+use enc_utf8::{Letters, ascii_in};
 use std::simd::prelude::*;
 
 /// An encoding without escape sequences, by the bytes of each character.
@@ -88,6 +88,11 @@ impl<R: UnitRepertoire> UnitBytes for StatelessEncoder<R> {
     #[inline(always)]
     fn unit_byte(self, unit: u16) -> u8 {
         self.repertoire.unit_byte(unit)
+    }
+
+    #[inline(always)]
+    fn letters(self) -> Letters {
+        self.repertoire.letters()
     }
 }
 

@@ -1,6 +1,7 @@
 mod BelowLemmas
 mod Computing
 mod DirectLemmas
+mod OnceLemmas
 mod PageLemmas
 mod RangeLemmas
 mod RangePointers

@@ -1,7 +1,7 @@
 -- The pages of pointers give each character's pointer in the single-byte indexes, and the table of
 -- the first characters has their bytes.
 use Rattle.std.proofs.Common.{◌≡◌, ℕ, ◌+◌, ◌-◌, ◌*◌, ◌<◌, ◌≤◌, Bool, true, ◌&&◌, refl, sym, ap, ◌∙◌, subst, List}
-use Rattle.std.proofs.Common.{get_or, slice_range, Some, arith, lt-ltb}
+use Rattle.std.proofs.Common.{get_or, length, slice_range, Some, arith, lt-ltb}
 use Rattle.std.proofs.lemmas.Bool.{and_parts, cond-true}
 use Rattle.enc_index.specs.declared.table.Planes.TheVariants.{Basic}
 use Rattle.enc_index.specs.declared.single_byte_index.SingleByteIndex.{SingleByteIndex}
@@ -10,12 +10,15 @@ use Rattle.enc_index.specs.Index.{index_at}
 use Rattle.enc_index.specs.Runs.{single_byte_runs}
 use Rattle.enc_index.specs.SingleByteTables.{table_number}
 use Rattle.enc_index.proofs.SingleByteLemmas.{table_of, single_byte_table}
+use Rattle.enc_index.proofs.GridTests.{all_at}
 use Rattle.enc_index_pointers.specs.declared.pages.single_byte.TheConstants.{SINGLE_BYTE_PAGE_OF, SINGLE_BYTE_POINTERS}
 use Rattle.enc_index_pointers.specs.declared.pages.single_byte_direct.TheConstants.{SINGLE_BYTE_DIRECT}
 use Rattle.enc_index_pointers.specs.Pages.{number_in_pages, pointer_in_pages}
 use Rattle.enc_index_pointers.specs.Pointers.{any_pointer, no_character, single_byte_pointer}
 use Rattle.enc_index_pointers.proofs.PageLemmas.{tables_ok, pointer_in_pages-pointer_of}
 use Rattle.enc_index_pointers.proofs.DirectLemmas.{direct_ok, last_byte, own_byte, paged_byte}
+use Rattle.enc_index_pointers.proofs.OnceLemmas.{once_ok, only_pointer}
+use Rattle.enc_index_pointers.proofs.TreeLemmas.{plant}
 use Rattle.enc_index_pointers.proofs.Computing.{tests}
 
 abbrev pub page_of : SingleByteIndex → List ℕ
@@ -85,3 +88,24 @@ module _ (index : SingleByteIndex) (n b c : ℕ) (is_number : n ≡ table_number
   pub no_last_byte : c ≡ 0x7FF → b ≡ 0
   no_last_byte last = is_entry ∙ ap (λ k. get_or (bytes_of n) k 0) last
       ∙ last_byte 14 10 (page_of index) SINGLE_BYTE_POINTERS (bytes_of n) direct
+
+-- no two pointers have one character
+
+once_fit : SingleByteIndex → Bool
+once_fit index =
+    all_at (once_ok Basic (plant 10 (page_of index)) (plant 14 SINGLE_BYTE_POINTERS)
+    (length SINGLE_BYTE_POINTERS)) 0 (table_of index)
+
+all_once : (index : SingleByteIndex) → once_fit index ≡ true
+unfolding tests once_fit once_ok
+all_once Ibm866 = refl
+all_once _ = refl
+
+pub single_byte_once : (index : SingleByteIndex) (p c : ℕ) → p < 128
+    → index_at Basic (single_byte_runs index) p ≡ Some c → single_byte_pointer index c ≡ Some p
+unfolding once_fit
+single_byte_once index p c few has =
+    let number = only_pointer Basic 14 10 (table_of index) (page_of index) SINGLE_BYTE_POINTERS
+    (all_once index) p c (single_byte_table index p ∙ has) in
+    sym (single_byte_pages index c)
+    ∙ rw number (cond-true _ _ _ (lt-ltb p 128 few))

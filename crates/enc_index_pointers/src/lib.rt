@@ -15,4 +15,5 @@ pub use pointers::gb18030_ranges::gb18030_ranges;
 pub use pointers::jis0208::jis0208;
 pub use pointers::shift_jis::shift_jis;
 pub use pointers::single_byte::single_byte;
+pub use pointers::single_byte_letters::single_byte_letters;
 pub use pointers::single_byte_of_unit::single_byte_of_unit;

@@ -10,4 +10,5 @@ pub mod gb18030_ranges;
 pub mod jis0208;
 pub mod shift_jis;
 pub mod single_byte;
+pub mod single_byte_letters;
 pub mod single_byte_of_unit;

@@ -1,5 +1,6 @@
 pub mod BlendLemmas
 pub mod CharsLemmas
+pub mod LetterLemmas
 pub mod MappingLemmas
 pub mod Utf16MappedLemmas
 pub mod Utf16TextLemmas

@@ -58,9 +58,10 @@ module _ {Means : List ℕ → ℕ → Type 0} where
   same_length writes = put_length (put_of writes)
 
   -- a text in a coding
-  maps_by : (code : ℕ → List ℕ) {src rest bytes before after : List ℕ} {at n : ℕ} (text : List ℕ)
-      → All (λ c. Means (code c) c) text → src ≡ text ++ rest → bytes ≡ units_of_text code text
-      → Put at n before bytes after → WritesMapped Means src rest before after at n
+  pub maps_by : (code : ℕ → List ℕ) {src rest bytes before after : List ℕ} {at n : ℕ}
+      (text : List ℕ) → All (λ c. Means (code c) c) text → src ≡ text ++ rest
+      → bytes ≡ units_of_text code text → Put at n before bytes after
+      → WritesMapped Means src rest before after at n
   maps_by code {rest = rest} {before = before} {at = at} {n = n} text mean reads written put =
       let bytes_are = written ∙ sym (bytes_of code text) in
       record {

@@ -10,11 +10,13 @@ use Rattle.std.specs.Char.Utf16.{utf16_lossy_chars}
 use Rattle.enc_input.specs.Mappings.{AreAnyUnits, WritesFront, WritesThemselves}
 use Rattle.enc_utf8.specs.Surrogates.{lossy_unit_char}
 use Rattle.enc_utf8.specs.Validity.{AreAscii}
+use Rattle.enc_utf8.proofs.AsciiLemmas.{CopiesAscii, copies_more}
 use Rattle.enc_utf8.proofs.UnitsLemmas.{lossy_lone, lossy_scalars}
 use Rattle.enc_utf8.proofs.LaneLemmas.{all_fewer}
 use Rattle.enc_utf8.proofs.PutLemmas.{put_one}
 use Rattle.enc_utf8.proofs.ScalarLemmas.{ascii_scalars}
 use Rattle.enc_utf8.proofs.LengthLemmas.{lengths}
+use lib.Lanes.{put_chunk}
 use Rattle.enc_input.proofs.WriteLoopLemmas.{writes_own, writes_one, writes_then}
 
 low_unit : (u : ℕ) → u < 0x800 → lossy_unit_char u ≡ u
@@ -29,11 +31,6 @@ low_bytes (u ∷ us) are_ascii =
     let low : u % 0x80 ≡ u = omega arith in
     ap (λ x. x ∷ map (λ u. u % 0x80) us) low
     ∙ ap (λ x. u ∷ x) (low_bytes us (λ k d l. are_ascii (suc k) d (omega arith)))
-
--- n units that were loaded are their own lower bytes if they are ASCII
-pub loaded_low : (n : ℕ) (us lanes : List ℕ) → AreAscii (take n us)
-    → lanes ≡ map (λ u. u % 0x80) (take n us) → lanes ≡ take n us
-loaded_low n us lanes are_ascii e = e ∙ low_bytes (take n us) are_ascii
 
 -- the first n lanes are the first n code units
 pub own_lanes : (n m : ℕ) (us lanes : List ℕ) → n ≤ m → m ≤ 16
@@ -90,13 +87,21 @@ unit_further {src = src} {dst = dst} {at = at} {count = count} byte writes withi
     writes_then writes (unit_written byte (omega (arith, lengths)) (omega (arith, here))
     (rw here means) room)
 
--- sixteen units that are ASCII are their own lower bytes
-pub sixteen_low : (us lanes : List ℕ) (n : ℕ) → n ≤ 16 → 16 ≤ n → AreAscii (take n (take 16 us))
-    → lanes ≡ map (λ u. u % 0x80) (take 16 us) → AreAscii (take 16 us) × (lanes ≡ take 16 us)
-sixteen_low us lanes n most all are e =
-    let sixteen : n ≡ 16 = omega (arith, most, all) in
-    let whole = rw (sixteen, take-take 16 16 us (omega arith)) at are in
-    (whole, loaded_low 16 us lanes whole e)
+-- no code unit is copied yet
+copies_none : (src dst : List ℕ) (most : ℕ) → CopiesAscii src dst dst most 0
+copies_none src dst most = record {
+  within = omega arith;
+  ascii = λ k d inside. absurd (omega (arith, inside));
+  copied = refl;
+}
+
+-- the first n code units are copied
+pub copies_first : (n most : ℕ) (src old : List ℕ) {lanes : List ℕ} → most ≤ length src
+    → most ≤ length old → n ≤ most → lanes ≡ take n src → AreAscii (take n src)
+    → CopiesAscii src old (put_chunk 0 old lanes) most n
+copies_first n most src old read room few are_lanes ascii =
+    let all : 0 + n ≡ n = omega arith in
+    rw all at (copies_more (copies_none src old most) read room n (omega arith) are_lanes ascii)
 
 -- clamped units
 

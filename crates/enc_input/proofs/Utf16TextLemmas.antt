@@ -1,7 +1,7 @@
 -- UTF-16 that is written as UTF-8.
 use Rattle.std.proofs.Common.{◌≡◌, ℕ, ◌+◌, ◌-◌, ◌≤◌, List, [], ◌∷◌, ◌++◌, length, take, drop, refl, ap, ◌∙◌, sym}
 use Rattle.std.proofs.Common.{arith, append_assoc, append-nil, drop-drop}
-use Rattle.std.proofs.Common.{take-append-drop}
+use Rattle.std.proofs.Common.{take-append-drop, take-add}
 use Rattle.std.proofs.lemmas.List.{take-take}
 use Rattle.std.specs.Char.{IsScalar, encode_utf8}
 use Rattle.std.specs.Char.Utf16.{utf16_lossy_chars}
@@ -29,12 +29,12 @@ text_stored {us} {bytes = bytes} {a = a} {n = n} first others stored = record {
       ∙ rw (others.written, units-append encode_utf8 first.text others.text) refl;
 }
 
--- the first n code units, where none is a surrogate
-text_units : (n : ℕ) {us units : List ℕ} → n ≤ 8 → 8 ≤ length us → units ≡ take 8 us
+-- the first n code units of m, where none is a surrogate
+text_units : (m n : ℕ) {us units : List ℕ} → n ≤ m → m ≤ length us → units ≡ take m us
     → AreScalars (take n units)
     → AreUtf8OfUnits us n (units_of_text encode_utf8 (take n units))
-text_units n {us} {units} few long are_units are_scalars =
-    let front : take n units ≡ take n us = ap (take n) are_units ∙ take-take n 8 us few in
+text_units m n {us} {units} few long are_units are_scalars =
+    let front : take n units ≡ take n us = ap (take n) are_units ∙ take-take n m us few in
     record {
       within = omega arith;
       text = take n units;
@@ -55,13 +55,20 @@ text_one {us} {c} {n} first is_scalar = record {
   written = sym (append-nil (encode_utf8 c));
 }
 
+-- eight code units and eight more
+pub sixteen_units : (a : ℕ) (us : List ℕ)
+    → take 8 (drop a us) ++ take 8 (drop (a + 8) us) ≡ take 16 (drop a us)
+sixteen_units a us =
+    ap (λ z. take 8 (drop a us) ++ take 8 z) (sym (drop-drop 8 a us))
+    ∙ sym (take-add 8 8 (drop a us))
+
 -- in a buffer, those of one code unit each
 pub text_then_units : (n : ℕ) {us units before after : List ℕ} {a : ℕ}
-    → AreUtf8OfUnits us a before → n ≤ 8 → 8 ≤ length us - a → units ≡ take 8 (drop a us)
+    → AreUtf8OfUnits us a before → n ≤ 16 → 16 ≤ length us - a → units ≡ take 16 (drop a us)
     → AreScalars (take n units)
     → after ≡ before ++ units_of_text encode_utf8 (take n units) → AreUtf8OfUnits us (a + n) after
 text_then_units n {us} {a = a} first few long are_units are_scalars stored =
-    text_stored first (text_units n few (omega (arith, lengths)) are_units are_scalars)
+    text_stored first (text_units 16 n few (omega (arith, lengths)) are_units are_scalars)
     stored
 
 -- they are written to a slice

@@ -78,6 +78,20 @@ module _ {chars_in : List ℕ → List ℕ} {Rest : List ℕ → Type 0} {Means 
             j) later then_more.writes);
       }
 
+  -- the first characters, where none were written before them
+  pub writes_after_none : {text before mid after : List ℕ} {at n k j : ℕ} → n ≡ 0
+      → WritesFront chars_in Rest Means text before mid at n n
+      → WritesFront chars_in Rest Means text mid after at k j
+      → WritesFront chars_in Rest Means text before after at k j
+  writes_after_none {text} {before} {mid} {after} {at} {n} {k} {j} none first more =
+      let place : at ≡ at + n = omega (arith, none) in
+      let rest : text ≡ drop n text = sym (ap (λ m. drop m text) none) in
+      let read : n + k ≡ k = omega (arith, none) in
+      let count : n + j ≡ j = omega (arith, none) in
+      rw (read, count) at (writes_then first
+      (subst (λ t. WritesFront chars_in Rest Means t mid after (at + n) k j) rest
+      (subst (λ a. WritesFront chars_in Rest Means text mid after a k j) place more)))
+
   -- the same, where the rest is a slice of its own
   pub writes_on : {text before mid after : List ℕ} {at n m k j : ℕ}
       → WritesFront chars_in Rest Means text before mid at n m

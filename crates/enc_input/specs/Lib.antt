@@ -1,4 +1,5 @@
 pub mod Bytes
+pub mod Letters
 pub mod Mappings
 pub mod Results
 pub mod Utf16Text

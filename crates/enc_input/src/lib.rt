@@ -5,6 +5,7 @@
 mod bytes;
 mod chars;
 mod encoder_result;
+mod letters;
 mod mapped_bytes;
 mod mapping;
 mod turns;

@@ -4,8 +4,10 @@ ghost use Rattle.std.specs.Prelude.{ℕ, ◌≡◌, ◌<◌, ◌≤◌, List, []
 ghost use Rattle.enc_input.specs.Bytes.{byte_list};
 ghost use Rattle.enc_utf8.specs.Pieces.{AreWrittenAsThemselves, IsWrittenAsItself, KeepsAscii};
 ghost use Rattle.enc_input.specs.Mappings.{AreWrittenAsUtf8};
+ghost use Rattle.enc_utf8.specs.Letters.{AreLetters};
 
 use crate::bytes::Bytes;
+use enc_utf8::Letters;
 use std::simd::prelude::*;
 
 /// The bytes that an encoder writes for characters.
@@ -45,6 +47,11 @@ pub trait UnitBytes: Mapping {
         requires bound { unit < 0x800 }
         ensures means { 0 < result → Self.means self (result ∷ []) unit }
         ensures last { unit ≡ 0x7FF → result ≡ 0 };
+
+    /// Returns letters that are many, if there are some. Text in them is written sixteen code units
+    /// at a time.
+    fn letters(self) -> Letters
+        ensures { AreLetters (Self.means self) result };
 }
 
 /// The bytes that an encoder of UTF-8 writes.

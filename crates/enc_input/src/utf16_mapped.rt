@@ -1,6 +1,6 @@
 //! Runs of mapped characters, read from UTF-16.
 
-ghost use Rattle.std.specs.Prelude.{◌≡◌, ◌+◌, ◌%◌, ◌<◌, ◌≤◌, ◌++◌, map, length, take, drop};
+ghost use Rattle.std.specs.Prelude.{◌≡◌, ◌+◌, ◌%◌, ◌<◌, ◌≤◌, ◌++◌, IsTrue, map, length, take, drop};
 ghost use Rattle.std.specs.Prelude.{min, slice_index};
 ghost use Rattle.std.specs.Char.Utf16.{utf16_lossy_chars};
 ghost use Rattle.enc_input.specs.Mappings.{AreAnyUnits, WritesFront, WritesThemselves};
@@ -34,47 +34,80 @@ fn low_bytes<const N: usize>(units: Simd<u16, N>) -> Simd<u8, N>
     (units & Simd::<u16, N>::splat(0x7F)).cast::<u8>()
 }
 
-/// Copies the first eight characters if they are ASCII and at most `most` are copied. Returns their
-/// number, or 0.
+/// Returns whether code units, at most 64, are ASCII.
 #[inline(always)]
-fn copy_eight(src: &[u16], dst: &mut [u8], most: usize) -> usize
-    requires read { most ≤ length src.now }
-    requires room { most ≤ length dst.old }
-    ensures within { result ≤ most }
-    ensures ascii { AreAscii (take result src.now) }
-    ensures copied { dst.new ≡ take result src.now ++ drop result dst.old }
+fn are_ascii<const N: usize>(units: Simd<u16, N>) -> bool
+    requires few { N ≤ 64 }
+    ensures { IsTrue result → AreAscii units.entry }
 {
-    if most < 8 {
-        return 0;
-    }
-    let units = Simd::<u16, 8>::from_slice(src);
-    if units.simd_ge(Simd::<u16, 8>::splat(0x80)).to_bitmask() != 0 {
-        return 0;
-    }
-    low_bytes(units).copy_to_slice(dst);
-    8
+    units.simd_ge(Simd::<u16, N>::splat(0x80)).to_bitmask() == 0
 }
 
-/// Copies ASCII from the front of `src`, at most `most` characters, in whole steps of sixteen, and
-/// then one of eight. Returns their number.
+/// Copies the first N characters, eight or sixteen, if they are ASCII and at most `most` are
+/// copied. Returns their number, or 0.
 #[inline(always)]
-fn copy_sixteens(src: &[u16], dst: &mut [u8], most: usize) -> usize
+fn copy_step<const N: usize>(src: &[u16], dst: &mut [u8], most: usize) -> usize
+    requires few { N ≤ 16 }
     requires read { most ≤ length src.now }
     requires room { most ≤ length dst.old }
     ensures within { result ≤ most }
     ensures ascii { AreAscii (take result src.now) }
     ensures copied { dst.new ≡ take result src.now ++ drop result dst.old }
 {
-    let mut at = 0;
-    while 16 <= most - at {
-        let units = Simd::<u16, 16>::from_slice(&src[at..]);
-        if ascii_units(units) < 16 {
+    if most < N {
+        return 0;
+    }
+    let units = Simd::<u16, N>::from_slice(src);
+    if !are_ascii(units) {
+        return 0;
+    }
+    units.cast::<u8>().copy_to_slice(dst);
+    N
+}
+
+/// Copies the first 32 characters if they are ASCII and at most `most` are copied. Returns their
+/// number, or 0.
+#[inline(always)]
+fn copy_thirty_two(src: &[u16], dst: &mut [u8], most: usize) -> usize
+    requires read { most ≤ length src.now }
+    requires room { most ≤ length dst.old }
+    ensures within { result ≤ most }
+    ensures ascii { AreAscii (take result src.now) }
+    ensures copied { dst.new ≡ take result src.now ++ drop result dst.old }
+{
+    if most < 32 {
+        return 0;
+    }
+    let front = Simd::<u16, 16>::from_slice(src);
+    let back = Simd::<u16, 16>::from_slice(&src[16..]);
+    if !are_ascii(front | back) {
+        return 0;
+    }
+    front.cast::<u8>().copy_to_slice(dst);
+    back.cast::<u8>().copy_to_slice(&mut dst[16..]);
+    32
+}
+
+/// Copies ASCII from the front of `src`, at most `most` characters: first sixteen, then in whole
+/// steps of 32, and one of sixteen and of eight. Returns their number.
+#[inline(always)]
+fn copy_steps(src: &[u16], dst: &mut [u8], most: usize) -> usize
+    requires read { most ≤ length src.now }
+    requires room { most ≤ length dst.old }
+    ensures within { result ≤ most }
+    ensures ascii { AreAscii (take result src.now) }
+    ensures copied { dst.new ≡ take result src.now ++ drop result dst.old }
+{
+    let mut at = copy_step::<16>(src, dst, most);
+    loop {
+        let more = copy_thirty_two(&src[at..], &mut dst[at..], most - at);
+        at += more;
+        if more == 0 {
             break;
         }
-        low_bytes(units).copy_to_slice(&mut dst[at..]);
-        at += 16;
     }
-    at + copy_eight(&src[at..], &mut dst[at..], most - at)
+    at += copy_step::<16>(&src[at..], &mut dst[at..], most - at);
+    at + copy_step::<8>(&src[at..], &mut dst[at..], most - at)
 }
 
 /// Writes the ASCII in front that is written as itself, of sixteen code units.
@@ -197,7 +230,7 @@ pub(crate) fn put_char<M: Mapping>(
     put_beyond(mapping, src, dst, at)
 }
 
-/// Writes ASCII in front in whole steps of sixteen and of eight, if all of ASCII is written as
+/// Writes ASCII in front in whole steps of 32, sixteen and eight, if all of ASCII is written as
 /// itself.
 ///
 /// Returns the number of bytes.
@@ -214,7 +247,7 @@ pub(crate) fn put_strides<M: Mapping>(mapping: M, src: &[u16], dst: &mut [u8], a
         return 0;
     }
     let most = src.len().min(dst.len() - at);
-    copy_sixteens(src, &mut dst[at..], most)
+    copy_steps(src, &mut dst[at..], most)
 }
 
 /// Writes the bytes of the first characters of UTF-16 to a slice, from `from` on.

@@ -1,4 +1,4 @@
-//! Runs of UTF-16 that are written as UTF-8, eight code units at a time.
+//! Runs of UTF-16 that are written as UTF-8, sixteen code units at a time.
 
 ghost use Rattle.std.specs.Prelude.{◌≡◌, ◌+◌, ◌<◌, ◌≤◌, length, take, drop, IsTrue};
 ghost use Rattle.std.specs.Char.Utf16.{utf16_lossy_chars};
@@ -7,19 +7,19 @@ ghost use Rattle.enc_input.specs.Utf16Text.{AreUtf8OfUnits};
 
 use crate::mapping::{Mapping, Utf8Bytes};
 use crate::utf16_chars::first;
-use enc_utf8::{SCALARS_STEP, store_scalars, store_text, utf8_of};
+use enc_utf8::{SCALARS_STEP, store_sixteen_scalars, store_text, utf8_of};
 use std::simd::prelude::*;
 
 /// The length of the buffer.
 const BUFFER: usize = 304;
 
 /// The least number of code units, and of bytes of room, for which a buffer pays.
-const LEAST: usize = 48;
+const LEAST: usize = 68;
 
 /// Stores the UTF-8 of the first characters of `src` in a buffer. Returns the numbers of code units
 /// read and of bytes written.
 ///
-/// Aims at no more UTF-8 than `room`. Stops 36 bytes before its end, or eight code units before
+/// Aims at no more UTF-8 than `room`. Stops 68 bytes before its end, or sixteen code units before
 /// that of `src`.
 #[inline(never)]
 fn gather_text(buffer: &mut [u8], room: usize, src: &[u16]) -> (usize, usize)
@@ -35,12 +35,13 @@ fn gather_text(buffer: &mut [u8], room: usize, src: &[u16]) -> (usize, usize)
     let most = limit - SCALARS_STEP;
     let mut read = 0;
     let mut written = 0;
-    while written <= most && 8 <= src.len() - read {
+    while written <= most && 16 <= src.len() - read {
         let units = u16x8::from_slice(&src[read..]);
-        let (count, end) = store_scalars(buffer, written, units);
+        let next = u16x8::from_slice(&src[read + 8..]);
+        let (count, end) = store_sixteen_scalars(buffer, written, units, next);
         read += count;
         written = end;
-        if count == 8 {
+        if count == 16 {
             continue;
         }
         let Some((character, width)) = first(&src[read..]) else {
@@ -85,7 +86,7 @@ fn put_gathered<M: Mapping>(
 
 /// Does the same if there are enough code units and room for a buffer to pay.
 ///
-/// It may stop within the last 36 bytes of the slice, and within the last eight code units.
+/// It may stop within the last 68 bytes of the slice, and within the last sixteen code units.
 #[inline(always)]
 pub(crate) fn put_text<M: Utf8Bytes>(
     mapping: M,

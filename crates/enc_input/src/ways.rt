@@ -3,11 +3,12 @@
 ghost use Rattle.std.specs.Prelude.{◌≤◌, length, chars, IsUtf8};
 ghost use Rattle.enc_input.specs.Mappings.{WritesFront};
 
+use crate::letters::put_plain;
 use crate::mapping::{Mapping, UnitBytes, Utf8Bytes};
 use crate::turns::Turns;
 use crate::utf8_bytes::put_by_lanes;
 use crate::utf8_mapped::{self, found_at, write_utf8};
-use crate::utf16_mapped::{put_char, put_strides, put_units};
+use crate::utf16_mapped::{put_char, put_units};
 use crate::utf16_text::put_text;
 
 /// A way to write a run, for one kind of mapping.
@@ -34,7 +35,7 @@ pub struct ByCharacter;
 #[derive(Clone, Copy)]
 pub struct ByUnit;
 
-/// UTF-8, copied as it is, or made of eight code units at a time.
+/// UTF-8, copied as it is, or made of sixteen code units at a time.
 #[derive(Clone, Copy)]
 pub struct Copied;
 
@@ -65,13 +66,17 @@ impl<M: UnitBytes> Turns<M> for ByUnit {
         (len + more, count + added, true)
     }
 
-    /// Writes sixteen code units that have a byte, or those in front and the character after them.
+    /// Writes ASCII and letters in whole steps of sixteen code units. If there are none, it writes
+    /// sixteen code units that have a byte, or those in front and the character after them.
     #[inline(always)]
     fn put_utf16(mapping: M, src: &[u16], dst: &mut [u8], at: usize) -> (usize, usize, bool) {
+        let plain = put_plain(mapping, src, dst, at);
+        if plain > 0 {
+            return (plain, plain, true);
+        }
         let len = put_units(mapping, src, dst, at);
         if len == 16 {
-            let more = put_strides(mapping, &src[len..], dst, at + len);
-            return (len + more, len + more, true);
+            return (len, len, true);
         }
         let (width, count) = put_char(mapping, &src[len..], dst, at + len);
         (len + width, len + count, width > 0)

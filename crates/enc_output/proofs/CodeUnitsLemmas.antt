@@ -1,6 +1,6 @@
 -- Characters of one code unit of UTF-16.
 use Rattle.std.proofs.Common.{◌≡◌, ℕ, zero, suc, ◌+◌, ◌*◌, ◌≤◌, Bool, List, [], ◌∷◌, length, take, refl, ap, ◌∙◌}
-use Rattle.std.proofs.Common.{◌-◌, sym, subst, arith, drop}
+use Rattle.std.proofs.Common.{◌-◌, ◌++◌, sym, subst, arith, drop, take-add}
 use Rattle.std.proofs.lemmas.Bool.{and_parts}
 use Rattle.std.specs.Char.Escape.{encode_utf16}
 use Rattle.enc_utf8.proofs.LengthLemmas.{lengths}
@@ -24,6 +24,26 @@ units_long big (suc n) [] e = absurd (omega arith)
 units_long big (suc n) (a ∷ []) e = absurd (omega arith)
 units_long big (suc n) (a ∷ b ∷ bs) e = ap suc (units_long big n bs (omega arith))
 
+units_append : (big : Bool) (n : ℕ) (bytes more : List ℕ) → length bytes ≡ n + n
+    → units_of_bytes big (bytes ++ more) ≡ units_of_bytes big bytes ++ units_of_bytes big more
+units_append big zero [] more e = refl
+units_append big zero (a ∷ bs) more e = absurd (omega arith)
+units_append big (suc n) [] more e = absurd (omega arith)
+units_append big (suc n) (a ∷ []) more e = absurd (omega arith)
+units_append big (suc n) (a ∷ b ∷ bs) more e =
+    ap (λ us. unit_of big a b ∷ us) (units_append big n bs more (omega arith))
+
+-- those of sixteen bytes and of sixteen more
+pub units_joined : (big : Bool) (src : List ℕ) {units next : List ℕ} → 32 ≤ length src
+    → units ≡ units_of_bytes big (take 16 src)
+    → next ≡ units_of_bytes big (take 16 (drop 16 src))
+    → units ++ next ≡ units_of_bytes big (take 32 src)
+units_joined big src {units} {next} long first more =
+    ap (λ us. us ++ next) first
+    ∙ ap (λ us. units_of_bytes big (take 16 src) ++ us) more
+    ∙ sym (units_append big 8 (take 16 src) (take 16 (drop 16 src)) (omega (arith, lengths)))
+    ∙ ap (units_of_bytes big) (sym (take-add 16 16 src))
+
 module _ {Means : List ℕ → ℕ → Type 0} (big : Bool) (mean : AreCodeUnits Means big) where
   reads_units : (n : ℕ) (bytes : List ℕ) → n + n ≤ length bytes
       → AreScalars (take n (units_of_bytes big bytes))
@@ -40,20 +60,20 @@ module _ {Means : List ℕ → ℕ → Type 0} (big : Bool) (mean : AreCodeUnits
       (mean a b (and_parts _ _ are_scalars).0))
       (reads_units n bs (omega arith) (and_parts _ _ are_scalars).1))
 
-  -- the characters of code units that were stored
-  pub units_put : {units_of : ℕ → List ℕ} (n : ℕ) {before after : Output} {src units : List ℕ}
-      → n ≤ 8 → 16 ≤ length src → units ≡ units_of_bytes big (take 16 src)
+  -- the characters of code units that were stored, the first n of those of m
+  pub units_put : {units_of : ℕ → List ℕ} (m n : ℕ) {before after : Output} {src units : List ℕ}
+      → n ≤ m → 2 * m ≤ length src → units ≡ units_of_bytes big (take (2 * m) src)
       → AreScalars (take n units) → length (units_of_text units_of (take n units)) ≤ before.room
       → after ≡ with_appended before (units_of_text units_of (take n units))
       → PutsPieces units_of Means before after src (2 * n)
-  units_put {units_of} n {before} {after} {src} few long are_units are_scalars fits stored =
+  units_put {units_of} m n {before} {after} {src} few long are_units are_scalars fits stored =
       let twice : n + n ≡ 2 * n = omega arith in
       let text = subst (λ us. AreScalars (take n us)) are_units are_scalars in
       subst (λ k. PutsPieces units_of Means before after src k) twice (record {
         text = _;
         scalars = are_scalars;
         reads = subst (λ us. ReadsPieces Means src (n + n) (take n us)) (sym are_units)
-            (reads_wider 16 (reads_units n (take 16 src) (omega (arith, lengths)) text));
+            (reads_wider (2 * m) (reads_units n (take (2 * m) src) (omega (arith, lengths)) text));
         fits = fits;
         written = stored;
       })
@@ -70,6 +90,6 @@ module _ {Means : List ℕ → ℕ → Type 0} (big : Bool) (mean : AreCodeUnits
   lanes_units len n old units {src} borrow within room few long are_units are_scalars alone =
       let eight = ap length are_units
       ∙ units_long big 8 (take 16 src) (omega (arith, lengths)) in
-      units_put n few long are_units are_scalars (omega (arith, lengths, ap length alone, room))
+      units_put 8 n few long are_units are_scalars (omega (arith, lengths, ap length alone, room))
       (lanes_put len n old units borrow within (omega (arith, eight)) (omega (arith, eight))
       ∙ ap (with_appended (string_output (take len old) (length old - len) borrow)) (sym alone))

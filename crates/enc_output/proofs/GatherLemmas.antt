@@ -13,7 +13,8 @@ use Rattle.std.specs.Char.{encode_utf8}
 use Rattle.std.specs.Char.Escape.{encode_utf16}
 use Rattle.std.specs.Int.{w32, to_le_bytes}
 use Rattle.enc_output.specs.Output.{Output, with_appended, string_output}
-use Rattle.enc_output.specs.Pairs.{MeansWord, MeansUnit}
+use Rattle.enc_output.specs.Pairs.{MeansWord}
+use Rattle.enc_utf8.specs.Letters.{MeansUnit}
 use Rattle.enc_output.specs.PieceRuns.{PutsPieces}
 use Rattle.enc_utf8.proofs.LengthLemmas.{lengths}
 use Rattle.enc_utf8.proofs.UnitsLemmas.{one_unit}

@@ -1,15 +1,19 @@
 -- Letters in lanes, and their code units.
 use Rattle.std.proofs.Common.{◌≡◌, ℕ, ◌+◌, ◌<◌, ◌≤◌, ◌&&◌, ◌||◌, Bool, true, false, cond, leb, ltb, List, [], ◌∷◌}
 use Rattle.std.proofs.Common.{suc, map, length, take, drop, get_or, bit_and, refl, ap, ◌∙◌, sym, subst, arith, inl, inr}
+use Rattle.std.proofs.Common.{◌-◌}
 use Rattle.std.proofs.lemmas.Bool.{cases_lt}
 use Rattle.std.proofs.lemmas.Bool.Decides.{nat_tests}
+use Rattle.std.proofs.lemmas.List.{get_or_default}
+use Rattle.std.specs.Prelude.{All}
 use Rattle.std.specs.Char.Escape.{encode_utf16}
-use Rattle.enc_output.specs.declared.letters.Letters.{Letters}
-use Rattle.enc_output.specs.Letters.{AreLetters, IsPlain, plain_unit}
+use Rattle.enc_utf8.specs.declared.letters.Letters.{Letters}
+use Rattle.enc_utf8.specs.Letters.{AreLetters, MeansUnit}
+use Rattle.enc_output.specs.Letters.{IsPlain, plain_unit}
 use Rattle.enc_output.specs.Output.{Output, with_appended}
-use Rattle.enc_output.specs.Pairs.{MeansUnit}
 use Rattle.enc_output.specs.PieceRuns.{PutsPieces}
 use Rattle.enc_utf8.proofs.Lanes.{IsFlags, places, by_op}
+use Rattle.enc_utf8.proofs.LaneLemmas.{all_more}
 use Rattle.enc_utf8.proofs.LengthLemmas.{lengths}
 use Rattle.std.proofs.Math.Utf8.{low_scalar}
 use Rattle.enc_utf8.specs.Pieces.{KeepsAscii}
@@ -109,3 +113,15 @@ plain_put {Means} {before} letters src units are keeps within long room plain ea
     (omega (arith, count, room)) one in
     rw appended (subst (PutsPieces encode_utf16 Means before (with_appended before units) src) count
     put)
+
+-- sixteen bytes more
+pub plain_more : (letters : Letters) (i : ℕ) (src : List ℕ) → 16 ≤ length src - i
+    → All (IsPlain letters) (take i src)
+    → ((k : ℕ) → k < 16 → IsPlain letters (get_or (take 16 (drop i src)) k 0))
+    → All (IsPlain letters) (take (i + 16) src)
+plain_more letters i src long front each =
+    let next = take 16 (drop i src) in
+    let more : All (IsPlain letters) next = λ k d inside.
+    let below : k < 16 = omega (arith, lengths, inside) in
+    subst (IsPlain letters) (get_or_default next k 0 d inside) (each k below) in
+    all_more (IsPlain letters) i 16 src front more

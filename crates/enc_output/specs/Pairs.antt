@@ -15,8 +15,3 @@ pub record MeansWord (Means : List ℕ → ℕ → Type 0) (bytes : List ℕ) (w
   pub means : Means bytes char
   pub bound : word / 0x100_0000 ≤ 4
   pub utf8 : take (word / 0x100_0000) (to_le_bytes w32 word) ≡ encode_utf8 char
-
--- These bytes are this character, which has one code unit in UTF-16.
-pub record MeansUnit (Means : List ℕ → ℕ → Type 0) (bytes : List ℕ) (unit : ℕ) : Type 0 where
-  pub scalar : IsScalar unit
-  pub means : Means bytes unit

@@ -11,9 +11,12 @@ ghost use Rattle.enc_output.specs.PieceRuns.{PutsPieces};
 ghost use Rattle.enc_output.specs.Places.{IsPlace};
 ghost use Rattle.enc_utf8.specs.Validity.{AreAscii};
 
-use crate::code_units::{are_scalars, units_in};
+use crate::code_units::units_in;
 use crate::pieces::{BytePieces, PairPieces, UnitPieces};
-use enc_utf8::{store_scalars, store_text, store_word, units_before_surrogate, utf8_of};
+use enc_utf8::{
+    are_scalars, store_scalars, store_sixteen_scalars, store_text, store_word,
+    units_before_surrogate, utf8_of,
+};
 use std::simd::prelude::*;
 
 /// A buffer that takes the code units of characters from its start on.
@@ -141,6 +144,32 @@ impl<'a> Buffer<'a, u8> {
     {
         bytes.copy_to_slice(&mut self.units[self.len..]);
         self.len += len;
+    }
+
+    /// Stores the characters of sixteen bytes and of sixteen more, two bytes each, up to the first
+    /// that is of more. Returns their number.
+    #[inline(always)]
+    pub(crate) fn store_pairs<P: UnitPieces>(
+        &mut self,
+        pieces: P,
+        bytes: u8x16,
+        more: u8x16,
+    ) -> usize
+        requires room { 64 ≤ room_in self.old.len self.old.units }
+        ensures few { result ≤ 16 }
+        ensures bound { room_in self.old.len self.old.units
+            ≤ room_in self.new.len self.new.units + 64 }
+        ensures puts { (src : List ℕ) → 32 ≤ length src → bytes ≡ take 16 src
+            → more ≡ take 16 (drop 16 src)
+            → PutsPieces encode_utf8 (P.means pieces) (buffer_output self.old.len self.old.units)
+            (buffer_output self.new.len self.new.units) src (2 * result) }
+    {
+        let big_endian = pieces.is_big_endian();
+        let units = units_in(bytes, big_endian);
+        let next = units_in(more, big_endian);
+        let (count, end) = store_sixteen_scalars(&mut *self.units, self.len, units, next);
+        self.len = end;
+        count
     }
 }
 

@@ -1,9 +1,7 @@
-//! Characters of one code unit of UTF-16, eight at a time, with no branch on their lengths.
+//! Characters of one code unit of UTF-16, sixteen at a time, with no branch on their lengths.
 
-ghost use Rattle.std.specs.Prelude.{◌≡◌, ℕ, ◌+◌, ◌*◌, ◌<◌, IsTrue, take};
-ghost use Rattle.std.specs.Char.Escape.{encode_utf16};
+ghost use Rattle.std.specs.Prelude.{◌≡◌};
 ghost use Rattle.enc_output.specs.CodeUnits.{units_of_bytes};
-ghost use Rattle.enc_utf8.specs.Text.{AreScalars, units_of_text};
 
 use crate::buffer::{Buffer, UnitBuffer};
 use crate::gather::Gather;
@@ -29,18 +27,6 @@ pub(crate) fn units_in(bytes: u8x16, big_endian: bool) -> u16x8
     units
 }
 
-/// Returns whether none of eight code units is a surrogate.
-#[inline(always)]
-pub(crate) fn are_scalars(units: u16x8) -> bool
-    ensures scalars { IsTrue result → AreScalars (take 8 units) }
-    ensures alone { (n : ℕ) → units_of_text encode_utf16 (take n units) ≡ take n units }
-{
-    (units >> u16x8::splat(11))
-        .simd_eq(u16x8::splat(27))
-        .to_bitmask()
-        == 0
-}
-
 /// Characters of one code unit, and others one by one.
 #[derive(Clone, Copy)]
 pub struct CodeUnits<P> {
@@ -60,7 +46,7 @@ impl<P: UnitPieces> Gather for CodeUnits<P> {
         append_each(out, self, self.pieces, src)
     }
 
-    /// Stops where no character is known to begin, and 36 bytes before the end of the room or 32
+    /// Stops where no character is known to begin, and 68 bytes before the end of the room or 32
     /// before that of `src`.
     #[inline(always)]
     fn gather(self, out: &mut Buffer<'_, u8>, src: &[u8]) -> usize {
@@ -71,9 +57,11 @@ impl<P: UnitPieces> Gather for CodeUnits<P> {
         let most = out.capacity() - SCALARS_STEP;
         let mut read = 0;
         while out.len() <= most && 32 <= src.len() - read {
-            let count = out.store_units(pieces, u8x16::from_slice(&src[read..]));
+            let bytes = u8x16::from_slice(&src[read..]);
+            let next = u8x16::from_slice(&src[read + 16..]);
+            let count = out.store_pairs(pieces, bytes, next);
             read += 2 * count;
-            if count == 8 {
+            if count == 16 {
                 continue;
             }
             let Some((character, len)) = pieces.piece(src, read) else {

@@ -1,21 +1,10 @@
 //! Bytes that are letters, sixteen at a time.
 
-ghost use Rattle.std.specs.Prelude.{◌≡◌, ℕ, ◌<◌, IsTrue, slice_index};
+ghost use Rattle.std.specs.Prelude.{◌≡◌, ℕ, ◌<◌, ◌≤◌, All, IsTrue, length, slice_index, take};
 ghost use Rattle.enc_output.specs.Letters.{IsPlain, plain_unit};
 
+use enc_utf8::Letters;
 use std::simd::prelude::*;
-
-/// Bytes from 0x80 on that are letters, from the first to the last: their characters, of one code
-/// unit of UTF-16 each, follow one by one.
-#[derive(Clone, Copy)]
-pub struct Letters {
-    /// The first. There is none if it is greater than the last.
-    pub first: u8,
-    /// The last.
-    pub last: u8,
-    /// How much greater than a byte its code unit is.
-    pub shift: u16,
-}
 
 /// Returns whether each of sixteen bytes is ASCII or a letter.
 #[inline(always)]
@@ -37,4 +26,19 @@ pub(crate) fn units_of_plain(letters: Letters, bytes: u8x16) -> u16x16
     let units = bytes.cast::<u16>();
     let shifted = units + u16x16::splat(letters.shift);
     units.simd_ge(u16x16::splat(0x80)).select(shifted, units)
+}
+
+/// Returns a number of bytes in front, in whole steps of sixteen, each of them ASCII or a letter.
+pub fn plain_len(letters: Letters, src: &[u8]) -> usize
+    ensures within { result ≤ length src.now }
+    ensures plain { All (IsPlain letters) (take result src.now) }
+{
+    let mut at = 0;
+    while 16 <= src.len() - at {
+        if !are_plain(letters, u8x16::from_slice(&src[at..])) {
+            break;
+        }
+        at += 16;
+    }
+    at
 }

@@ -29,7 +29,7 @@ pub use buffer::Buffer;
 pub use code_units::CodeUnits;
 pub use decoder_result::DecoderResult;
 pub use gather::{Gather, OneByOne};
-pub use letters::Letters;
+pub use letters::plain_len;
 pub use pairs::Pairs;
 pub use pieces::{BytePieces, PairPieces, Pieces, UnitPieces, put_run, put_utf8_run};
 pub use places::{Places, numbers_in, places_at};

@@ -4,15 +4,15 @@ ghost use Rattle.std.specs.Prelude.{ℕ, ◌<◌, ◌≤◌, List, [], ◌∷◌
 ghost use Rattle.enc_output.specs.PieceRuns.{PutsPieces};
 ghost use Rattle.enc_utf8.specs.Pieces.{AreWrittenAsThemselves, IsUtf8Char};
 ghost use Rattle.enc_output.specs.CodeUnits.{AreCodeUnits};
-ghost use Rattle.enc_output.specs.Letters.{AreLetters};
-ghost use Rattle.enc_output.specs.Pairs.{MeansWord, MeansUnit};
+ghost use Rattle.enc_utf8.specs.Letters.{AreLetters, MeansUnit};
+ghost use Rattle.enc_output.specs.Pairs.{MeansWord};
 ghost use Rattle.enc_output.specs.Places.{ArePlaces, IsPlace};
 
 use crate::gather::NEAR;
-use crate::letters::Letters;
 use crate::places::Places;
 use crate::run::Run;
 use crate::units::Units;
+use enc_utf8::Letters;
 use std::simd::prelude::*;
 
 /// Finds the characters of an input: bytes that are a character, whatever follows them.

@@ -4,20 +4,20 @@ ghost use Rattle.std.specs.Prelude.{◌≡◌, ℕ, ◌+◌, ◌*◌, ◌<◌, �
 ghost use Rattle.std.specs.Prelude.{IsTrue};
 ghost use Rattle.std.specs.Char.{encode_utf8};
 ghost use Rattle.std.specs.Char.Escape.{encode_utf16};
-ghost use Rattle.enc_output.specs.Letters.{AreLetters};
+ghost use Rattle.enc_utf8.specs.Letters.{AreLetters};
 ghost use Rattle.enc_output.specs.Output.{borrowed_output, buffer_output, room_in};
 ghost use Rattle.enc_output.specs.PieceRuns.{PutsPieces};
 ghost use Rattle.enc_utf8.specs.Validity.{AreAscii};
 
 use crate::buffer::{Buffer, UnitBuffer};
 use crate::gather::Gather;
-use crate::letters::{Letters, are_plain, units_of_plain};
+use crate::letters::{are_plain, units_of_plain};
 use crate::pieces::{BytePieces, Pieces};
 use crate::run::Run;
 use crate::unit_slice::{UnitSlice, append_each};
 use crate::utf8_slice::Utf8Slice;
 use crate::windows::{WINDOW, Windows};
-use enc_utf8::ascii_from;
+use enc_utf8::{Letters, ascii_from};
 use std::simd::prelude::*;
 
 /// The least number of bytes of a run for which a long buffer is cleared.

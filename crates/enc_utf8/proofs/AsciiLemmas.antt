@@ -5,11 +5,12 @@ use Rattle.std.proofs.Common.{take-add, drop-cons, append_assoc, drop-drop}
 use Rattle.std.proofs.lemmas.Bool.{cases_lt}
 use Rattle.std.proofs.lemmas.Bool.Decides.{nat_tests}
 use Rattle.std.proofs.lemmas.List.{take-append-le, take-take, length-take-le, take_all, get_or-take, get_or-drop}
-use Rattle.std.proofs.lemmas.List.Elements.{All-append, All-more}
+use Rattle.std.proofs.lemmas.List.Elements.{All-more}
 use Rattle.std.proofs.Math.Seq.{drop-append_seam}
 use Rattle.std.proofs.Math.ListN.{set}
 use lib.Lanes.{put_chunk}
 use borrow.Rule.Slice.PartMut.{put_mid}
+use Rattle.enc_utf8.proofs.LaneLemmas.{all_more}
 use Rattle.enc_utf8.proofs.LengthLemmas.{lengths, rest_is}
 use Rattle.enc_utf8.proofs.PutLemmas.{Put, put_copied, put_lanes, put_one}
 use Rattle.enc_utf8.specs.Validity.{AreAscii}
@@ -17,9 +18,7 @@ use Rattle.enc_utf8.specs.Validity.{AreAscii}
 -- n bytes more are ASCII
 pub ascii_more : (i n : ℕ) (xs : List ℕ) → AreAscii (take i xs) → AreAscii (take n (drop i xs))
     → AreAscii (take (i + n) xs)
-ascii_more i n xs first more =
-    subst AreAscii (sym (take-add i n xs))
-    (All-append (λ b. b < 0x80) (take i xs) (take n (drop i xs)) first more)
+ascii_more = all_more (λ b. b < 0x80)
 
 pub one_ascii : (x : ℕ) → x < 128 → AreAscii (x ∷ [])
 one_ascii x h zero d l = h

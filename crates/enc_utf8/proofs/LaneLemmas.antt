@@ -1,14 +1,15 @@
 -- How many of some lanes come before the first that passes a test, by the mask of those that do.
 use Rattle.std.proofs.Common.{◌≡◌, ℕ, zero, suc, ◌+◌, ◌*◌, ◌/◌, ◌%◌, ◌^◌, ◌<◌, ◌≤◌, ◌≢◌, Bool, true, false, not}
 use Rattle.std.proofs.Common.{◌||◌, take-add, leb, leb-false, cond, eqb, eqb-true, eq-eqb, List, [], ◌∷◌, map, length}
-use Rattle.std.proofs.Common.{get_or, replicate, take, drop, refl, ap, ◌∙◌, sym, subst, arith, inl, inr}
+use Rattle.std.proofs.Common.{get_or, replicate, take, drop, bit_or, refl, ap, ◌∙◌, sym, subst, arith, inl, inr}
 use Rattle.std.specs.Prelude.{All}
 use Rattle.std.specs.List.{prefix_len}
 use Rattle.std.proofs.lemmas.Bool.Decides.{nat_tests}
 use Rattle.std.proofs.lemmas.Bool.{not-true, not-false, lt-leb, cases_eq, cases_lt, true≢false}
 use Rattle.std.proofs.lemmas.List.{get_or-take, take-take, take_all, get_or_default}
-use Rattle.std.proofs.lemmas.List.Elements.{All-append, All-more}
+use Rattle.std.proofs.lemmas.List.Elements.{All-append, All-cons, All-head, All-more, All-nil, All-tail}
 use Rattle.std.proofs.lemmas.List.Sums.{prefix_len_passes, prefix_len_stops, prefix_len-le-length}
+use Rattle.std.proofs.lemmas.Nat.{le_or_l, le_or_r}
 use Rattle.std.proofs.lemmas.Simd.{leading_from_mask_l, trailing_mask_l}
 use Rattle.std.proofs.Math.Nat.{div-one, zero-div, pow-suc, mul_comm, div-div-eq-div-mul}
 use lib.Count.{count_trailing_zeros}
@@ -130,6 +131,13 @@ all_fewer P n m xs h a = subst (All P) (take-take n m xs h) (λ k d l.
     subst P (sym (get_or-take n (take m xs) k d short))
     (a k d (omega (arith, lengths))))
 
+-- and, if n elements more have it, of all these
+pub all_more : (P : ℕ → Type 0) (i n : ℕ) (xs : List ℕ) → All P (take i xs)
+    → All P (take n (drop i xs)) → All P (take (i + n) xs)
+all_more P i n xs first more =
+    subst (All P) (sym (take-add i n xs))
+    (All-append P (take i xs) (take n (drop i xs)) first more)
+
 abbrev IsUnshifted : ℕ → Type 0
 IsUnshifted b = (b < 0x80) × (b ≢ 0x0E) × (b ≢ 0x0F) × (b ≢ 0x1B)
 
@@ -164,11 +172,24 @@ unshifted_lanes xs long none k d inside =
 -- n bytes more
 pub unshifted_more : (i n : ℕ) (xs : List ℕ) → AreIso2022JpAscii (take i xs)
     → AreIso2022JpAscii (take n (drop i xs)) → AreIso2022JpAscii (take (i + n) xs)
-unshifted_more i n xs a b =
-    subst AreIso2022JpAscii (sym (take-add i n xs))
-    (All-append IsUnshifted (take i xs)
-    (take n (drop i xs)) a b)
+unshifted_more = all_more IsUnshifted
 
 pub unshifted_one : (i : ℕ) (xs : List ℕ) → AreIso2022JpAscii (take i xs) → i < length xs
     → IsUnshifted (get_or xs i 0) → AreIso2022JpAscii (take (i + 1) xs)
 unshifted_one i xs front inside here = All-more IsUnshifted xs i 0 inside front here
+
+-- lanes of both lists, where each bit of either is set, are below a number
+pub both_below : (n : ℕ) (us vs : List ℕ) → length us ≡ length vs
+    → All (λ u. u < n) (zip2 bit_or us vs) → All (λ u. u < n) us × All (λ u. u < n) vs
+both_below n [] [] same below =
+    (All-nil (λ u. u < n), All-nil (λ u. u < n))
+both_below n [] (v ∷ vs) same below = absurd (omega arith)
+both_below n (u ∷ us) [] same below = absurd (omega arith)
+both_below n (u ∷ us) (v ∷ vs) same below =
+    let here : bit_or u v < n =
+    All-head (λ u. u < n) (bit_or u v) (zip2 bit_or us vs) below in
+    let rest = both_below n us vs (omega arith)
+    (All-tail (λ u. u < n) (bit_or u v) (zip2 bit_or us vs) below) in (
+      All-cons (λ u. u < n) u us (omega (arith, here, le_or_l u v)) rest.0,
+      All-cons (λ u. u < n) v vs (omega (arith, here, le_or_r u v)) rest.1,
+    )

@@ -44,7 +44,7 @@ triples_ok : every 256 (λ m. row_ok (places_of 4 (triple_lens 4 m) 0) (12 - one
 unfolding every ones
 triples_ok = refl
 
--- the row of a mask: sixteen places of bytes, of which the first are these
+-- the row of a mask: sixteen places of bytes, and the first are these
 pub record IsRow (kept : List ℕ) (count : ℕ) (row : List ℕ) : Type 0 where
   pub within : (k : ℕ) → k < 16 → get_or row k 0 < 16
   pub long : length row ≡ 16
@@ -113,7 +113,7 @@ picked_lane front (x ∷ w) rest =
     (subst (λ n. map (λ p. get_or (next ++ (w ++ rest)) p 0) (count_up n (length w)) ≡ w) count
     (picked_lane next w rest))))
 
--- Each lane has the bytes of one unit, the first of which are its text.
+-- Each lane has the bytes of one unit. They begin with its text.
 module _ (width : ℕ) (bytes_of text_of : ℕ → List ℕ) (len : ℕ → ℕ) (P : ℕ → Type 0)
     (long : (u : ℕ) → P u → length (bytes_of u) ≡ width)
     (few : (u : ℕ) → P u → len u ≤ width)

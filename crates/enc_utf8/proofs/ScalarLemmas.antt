@@ -1,6 +1,7 @@
 -- Texts are Unicode scalar values.
-use Rattle.std.proofs.Common.{ℕ, suc, ◌<◌, All, ◌&&◌, true, List, [], ◌∷◌, ◌++◌, refl, ap, ◌∙◌, arith}
+use Rattle.std.proofs.Common.{ℕ, ◌<◌, All, get_or, ◌&&◌, true, List, [], ◌∷◌, ◌++◌, refl, ap, ◌∙◌, arith}
 use Rattle.std.proofs.lemmas.Bool.{and_parts}
+use Rattle.std.proofs.lemmas.List.Elements.{All-tail}
 use Rattle.std.proofs.Math.Utf8.{low_scalar}
 use Rattle.std.specs.Char.{IsScalar}
 use Rattle.std.specs.Str.{all_scalars}
@@ -19,16 +20,17 @@ scalars-append (c ∷ cs) ds h others_are =
     let scalar_parts = and_parts _ _ h in
     scalars-cons c (cs ++ ds) scalar_parts.0 (scalars-append cs ds scalar_parts.1 others_are)
 
--- ASCII bytes are scalar values
-pub ascii_scalars : (bs : List ℕ) → AreAscii bs → AreScalars bs
-ascii_scalars [] are_ascii = refl
-ascii_scalars (b ∷ bs) are_ascii =
-    scalars-cons b bs (low_scalar b (let is_ascii = are_ascii 0 0 (omega arith) in omega arith))
-    (ascii_scalars bs (λ k d h. are_ascii (suc k) d (omega arith)))
+pub scalars_are : (us : List ℕ) → All IsScalar us → AreScalars us
+scalars_are [] are = refl
+scalars_are (u ∷ us) are =
+    scalars-cons u us (are 0 0 (omega arith)) (scalars_are us (All-tail IsScalar u us are))
 
 -- numbers below U+0800 are scalar values
 pub short_scalars : (us : List ℕ) → All (λ u. u < 0x800) us → AreScalars us
-short_scalars [] are_short = refl
-short_scalars (u ∷ us) are_short =
-    scalars-cons u us (low_scalar u (let is_short = are_short 0 0 (omega arith) in omega arith))
-    (short_scalars us (λ k d h. are_short (suc k) d (omega arith)))
+short_scalars us are_short = scalars_are us (λ k d h.
+    low_scalar (get_or us k d) (let is_short = are_short k d h in omega arith))
+
+-- ASCII bytes are scalar values
+pub ascii_scalars : (bs : List ℕ) → AreAscii bs → AreScalars bs
+ascii_scalars bs are_ascii =
+    short_scalars bs (λ k d h. let is_ascii = are_ascii k d h in omega arith)

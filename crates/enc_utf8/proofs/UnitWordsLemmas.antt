@@ -2,9 +2,9 @@
 use Rattle.std.proofs.Common.{◌≡◌, ℕ, zero, suc, ◌+◌, ◌*◌, ◌/◌, ◌%◌, ◌<◌, ◌≤◌, List, [], ◌∷◌, ◌++◌, map, length, get_or}
 use Rattle.std.proofs.Common.{take, refl, ap, ◌∙◌, sym, subst, arith, append_assoc, append-nil}
 use Rattle.std.proofs.lemmas.Bool.{lt-ltb, le-ltb}
-use Rattle.std.proofs.lemmas.List.{take_all, map-id}
+use Rattle.std.proofs.lemmas.List.{take_all, map-id, take-append-le}
 use Rattle.std.proofs.lemmas.Simd.{take_more_put_chunk, Each1-get_or, Each1-chunk}
-use Rattle.std.proofs.Math.Seq.{take-suc}
+use Rattle.std.proofs.Math.Seq.{take-suc, take-append-add}
 use Rattle.std.specs.Char.{encode_utf8}
 use Rattle.std.specs.Char.Escape.{encode_utf16}
 use Rattle.std.specs.Prelude.{All}
@@ -14,8 +14,9 @@ use Rattle.enc_utf8.specs.UnitWords.{unit_word, bytes_of_words}
 use Rattle.enc_utf8.specs.Text.{AreScalars, units_of_text}
 use Rattle.enc_utf8.specs.Validity.{AreAscii}
 use Rattle.enc_utf8.proofs.Utf8FormLemmas.{Form, One, Two, Three, Four, form_of}
-use Rattle.enc_utf8.proofs.ScalarLemmas.{ascii_scalars}
-use Rattle.enc_utf8.proofs.UnitsLemmas.{one_unit, ascii_units}
+use Rattle.enc_utf8.proofs.LengthLemmas.{lengths}
+use Rattle.enc_utf8.proofs.ScalarLemmas.{scalars-append}
+use Rattle.enc_utf8.proofs.UnitsLemmas.{one_unit, ascii_units, units-append}
 use lib.Lanes.{Each1, put_chunk}
 use mir.Syntax.{w16, w32}
 use mir.Val.{Fits}
@@ -99,15 +100,53 @@ stored_word words count inside front {mid} bytes_are before stored =
 
 pub stored_ascii : (at : ℕ) (old us : List ℕ) → length us ≡ 8 → at + 8 ≤ length old → AreAscii us
     → take (at + 8) (put_chunk at old (map (λ u. u) us)) ≡ take at old
-    ++ units_of_text encode_utf8 (take 8 us)
+    ++ units_of_text encode_utf8 us
 stored_ascii at old us long room a =
     ap (λ z. take (at + 8) (put_chunk at old z)) (map-id us)
     ∙ take_more_put_chunk at old us (at + 8) (omega arith) room
-    ∙ ap (λ z. take at old ++ z) (sym (ap (units_of_text encode_utf8) (take_all 8 us (omega arith))
-    ∙ ascii_units us a))
+    ∙ ap (λ z. take at old ++ z) (sym (ascii_units us a))
 
-pub front_ascii : (us : List ℕ) → length us ≡ 8 → AreAscii us → AreScalars (take 8 us)
-front_ascii us long a = subst AreScalars (sym (take_all 8 us (omega arith))) (ascii_scalars us a)
+-- eight code units and the first n of eight more
+module _ (us vs : List ℕ) (long : length us ≡ 8) where
+  front_and_more : (n : ℕ) → take (8 + n) (us ++ vs) ≡ us ++ take n vs
+  front_and_more n =
+      ap (λ k. take (k + n) (us ++ vs)) (sym long) ∙ take-append-add us vs n
+
+  pub both_scalars : (n : ℕ) → AreScalars us → AreScalars (take n vs)
+      → AreScalars (take (8 + n) (us ++ vs))
+  both_scalars n are others_are =
+      subst AreScalars (sym (front_and_more n)) (scalars-append us (take n vs) are others_are)
+
+  pub both_stored : (n : ℕ) (front : List ℕ) {mid after : List ℕ}
+      → mid ≡ front ++ units_of_text encode_utf8 us
+      → after ≡ mid ++ units_of_text encode_utf8 (take n vs)
+      → after ≡ front ++ units_of_text encode_utf8 (take (8 + n) (us ++ vs))
+  both_stored n front first next =
+      next ∙ rw (first, front_and_more n, units-append encode_utf8 us (take n vs))
+      (append_assoc front _ _)
+
+  -- all of eight more
+  module _ (more_long : length vs ≡ 8) where
+    pub all_scalars : AreScalars us → AreScalars vs → AreScalars (take 16 (us ++ vs))
+    all_scalars are others_are =
+        both_scalars 8 are (subst AreScalars (sym (take_all 8 vs (omega arith))) others_are)
+
+    pub all_stored : (front : List ℕ) {mid after : List ℕ}
+        → mid ≡ front ++ units_of_text encode_utf8 us
+        → after ≡ mid ++ units_of_text encode_utf8 vs
+        → after ≡ front ++ units_of_text encode_utf8 (take 16 (us ++ vs))
+    all_stored front {mid} first next =
+        both_stored 8 front first (next ∙ ap (λ ws. mid ++ units_of_text encode_utf8 ws)
+        (sym (take_all 8 vs (omega arith))))
+
+-- the first of eight code units and eight more
+pub front_of_both : (n : ℕ) (us vs : List ℕ) → n ≤ 8 → length us ≡ 8
+    → take n (us ++ vs) ≡ take n us
+front_of_both n us vs few long = take-append-le n us vs (omega arith)
+
+-- eight are all of them
+pub all_eight : (n : ℕ) (us : List ℕ) → length us ≡ 8 → n ≤ 8 → 8 ≤ n → take n us ≡ us
+all_eight n us long few all = take_all n us (omega arith)
 
 -- code units are their own UTF-16, if none is above U+FFFF
 pub units_alone : (us : List ℕ) → Each1 (Fits w16) us → (n : ℕ)

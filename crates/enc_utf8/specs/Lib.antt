@@ -1,5 +1,6 @@
 pub mod Checked
 pub mod Ends
+pub mod Letters
 pub mod PackedUnits
 pub mod Pieces
 pub mod Surrogates

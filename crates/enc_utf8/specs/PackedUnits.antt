@@ -1,5 +1,5 @@
--- The UTF-8 of code units in lanes of the same width, of which the bytes that a character has not
--- are left out.
+-- The UTF-8 of code units in lanes of the same width, without the bytes that a character does not
+-- have.
 use Rattle.std.specs.Prelude.{ℕ, zero, suc, ◌+◌, ◌-◌, ◌/◌, ◌%◌, List, [], ◌∷◌, ◌++◌, map}
 use Rattle.std.specs.Prelude.{slice_index, nat_lt, if◌then◌else◌}
 
@@ -12,8 +12,8 @@ abbrev pub count_up : ℕ → ℕ → List ℕ
 count_up from zero = []
 count_up from (suc n) = from ∷ count_up (suc from) n
 
--- the places of the first bytes of lanes, the first of which begins at `from`, as many of each as
--- the list says
+-- the places of the first bytes of lanes, as many of each as the list says; the first lane begins
+-- at `from`
 abbrev pub places_of : ℕ → List ℕ → ℕ → List ℕ
 places_of width [] from = []
 places_of width (len ∷ lens) from = count_up from len ++ places_of width lens (from + width)

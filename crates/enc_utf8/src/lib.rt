@@ -6,6 +6,7 @@ mod ascii;
 mod coder_result;
 mod ends;
 mod four_ends;
+mod letters;
 mod packed;
 mod packed_units;
 mod swizzle;
@@ -20,8 +21,11 @@ pub use ascii::{
 };
 pub use coder_result::CoderResult;
 pub use four_ends::ends_of;
+pub use letters::Letters;
 pub use swizzle::pick;
-pub use unit_words::{SCALARS_STEP, store_scalars, units_before_surrogate};
+pub use unit_words::{
+    SCALARS_STEP, are_scalars, store_scalars, store_sixteen_scalars, units_before_surrogate,
+};
 pub use utf8::{char_len, utf8_front};
 pub use utf8_form::{Encoded, four_bytes, store_text, store_word, three_bytes, two_bytes, utf8_of};
 pub use validity::{

@@ -18,6 +18,14 @@ pub(crate) fn are_short(units: u16x8) -> bool
     units.simd_ge(u16x8::splat(0x800)).to_bitmask() == 0
 }
 
+/// Returns whether all of eight code units and of eight more are below U+0800.
+#[inline(always)]
+pub(crate) fn are_both_short(units: u16x8, next: u16x8) -> bool
+    ensures { IsTrue result → All (λ u. u < 0x800) units × All (λ u. u < 0x800) next }
+{
+    are_short(units | next)
+}
+
 /// Returns the first two bytes of the UTF-8 of each code unit. Condition: all are below U+0800.
 #[inline(always)]
 fn short_fronts(units: u16x8) -> u16x8

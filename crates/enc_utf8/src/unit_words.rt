@@ -1,4 +1,4 @@
-//! Code units of UTF-16 stored as UTF-8, eight at a time, with no branch on their lengths.
+//! Code units of UTF-16 stored as UTF-8, eight or sixteen at once, with no branch on their lengths.
 
 ghost use Rattle.std.specs.Prelude.{◌≡◌, ℕ, ◌+◌, ◌*◌, ◌/◌, ◌<◌, ◌≤◌, ◌++◌, All, IsTrue, length, map, take};
 ghost use Rattle.std.specs.Char.{encode_utf8};
@@ -7,12 +7,13 @@ ghost use Rattle.enc_utf8.specs.UnitWords.{bytes_of_words, unit_word, unit_word_
 ghost use Rattle.enc_utf8.specs.Text.{AreScalars, units_of_text};
 ghost use Rattle.enc_utf8.specs.Validity.{AreAscii};
 
-use crate::packed_units::{are_short, store_packed, store_short};
+use crate::packed_units::{are_both_short, are_short, store_packed, store_short};
 use crate::utf8_form::store_word;
 use std::simd::prelude::*;
 
-/// At most this number of bytes is stored at once: eight code units, and a character after them.
-pub const SCALARS_STEP: usize = 36;
+/// The room that a turn of sixteen code units takes: what they store and overwrite, and a character
+/// after them.
+pub const SCALARS_STEP: usize = 68;
 
 /// Returns whether all of eight code units are ASCII.
 #[inline(always)]
@@ -20,6 +21,26 @@ fn are_ascii_units(units: u16x8) -> bool
     ensures { IsTrue result → AreAscii units }
 {
     units.simd_ge(u16x8::splat(0x80)).to_bitmask() == 0
+}
+
+/// Returns whether all of eight code units and of eight more are ASCII.
+#[inline(always)]
+fn are_both_ascii(units: u16x8, next: u16x8) -> bool
+    ensures { IsTrue result → AreAscii units × AreAscii next }
+{
+    are_ascii_units(units | next)
+}
+
+/// Returns whether none of eight code units is a surrogate.
+#[inline(always)]
+pub fn are_scalars(units: u16x8) -> bool
+    ensures scalars { IsTrue result → AreScalars (take 8 units) }
+    ensures alone { (n : ℕ) → units_of_text encode_utf16 (take n units) ≡ take n units }
+{
+    (units >> u16x8::splat(11))
+        .simd_eq(u16x8::splat(27))
+        .to_bitmask()
+        == 0
 }
 
 /// Returns how many of eight code units come before the first surrogate.
@@ -101,6 +122,21 @@ fn store_words(buffer: &mut [u8], at: usize, words: [u32; 8], len: usize) -> usi
     end
 }
 
+/// Stores eight code units that are ASCII after the first `at` bytes of a buffer. Returns their
+/// end.
+#[inline(always)]
+fn store_ascii(buffer: &mut [u8], at: usize, units: u16x8) -> usize
+    requires room { at + 8 ≤ length buffer.old }
+    requires ascii { AreAscii units }
+    ensures end { result ≡ at + 8 }
+    ensures len { length buffer.new ≡ length buffer.old }
+    ensures stored { take result buffer.new
+        ≡ take at buffer.old ++ units_of_text encode_utf8 units }
+{
+    units.cast::<u8>().copy_to_slice(&mut buffer[at..]);
+    at + 8
+}
+
 /// Stores the UTF-8 of the code units before the first surrogate after the first `at` bytes of a
 /// buffer. Returns their number and the end of their UTF-8.
 #[inline(always)]
@@ -114,16 +150,59 @@ pub fn store_scalars(buffer: &mut [u8], at: usize, units: u16x8) -> (usize, usiz
         ≡ take at buffer.old ++ units_of_text encode_utf8 (take result.0 units) }
 {
     if are_ascii_units(units) {
-        units.cast::<u8>().copy_to_slice(&mut buffer[at..]);
-        return (8, at + 8);
+        return (8, store_ascii(buffer, at, units));
     }
     if are_short(units) {
         return (8, store_short(buffer, at, units));
     }
-    let words = words_of(units);
     let count = units_before_surrogate(units);
+    if count == 0 {
+        return (0, at);
+    }
+    let words = words_of(units);
     if count == 8 {
         return (8, store_packed(buffer, at, units, words));
     }
     (count, store_words(buffer, at, words.to_array(), count))
+}
+
+/// Stores the UTF-8 of eight code units and of eight more, before the first surrogate, after the
+/// first `at` bytes of a buffer. Returns the number of these code units and the end of their UTF-8.
+#[inline(always)]
+pub fn store_sixteen_scalars(
+    buffer: &mut [u8],
+    at: usize,
+    units: u16x8,
+    next: u16x8,
+) -> (usize, usize)
+    requires room { at + 64 ≤ length buffer.old }
+    ensures few { result.0 ≤ 16 }
+    ensures bound { result.1 ≤ at + 64 }
+    ensures len { length buffer.new ≡ length buffer.old }
+    ensures scalars { AreScalars (take result.0 (units ++ next)) }
+    ensures stored { take result.1 buffer.new
+        ≡ take at buffer.old ++ units_of_text encode_utf8 (take result.0 (units ++ next)) }
+{
+    if are_both_ascii(units, next) {
+        let middle = store_ascii(buffer, at, units);
+        return (16, store_ascii(buffer, middle, next));
+    }
+    if are_both_short(units, next) {
+        let middle = store_short(buffer, at, units);
+        return (16, store_short(buffer, middle, next));
+    }
+    if are_scalars(units) & are_scalars(next) {
+        let middle = store_packed(buffer, at, units, words_of(units));
+        return (16, store_packed(buffer, middle, next, words_of(next)));
+    }
+    // surrogates may follow one another
+    if units.to_array()[0] / 0x800 == 27 {
+        return (0, at);
+    }
+    let (count, middle) = store_scalars(buffer, at, units);
+    if count < 8 {
+        return (count, middle);
+    }
+    let (more, end) = store_scalars(buffer, middle, next);
+    (8 + more, end)
 }

@@ -8,8 +8,9 @@ use enc_encoder::{
     Barring, ByteLengths, Repertoire, RunRepertoire, StatelessEncoder, UnitRepertoire, one,
 };
 use enc_index::SingleByteIndex;
-use enc_index_pointers::{single_byte, single_byte_of_unit};
+use enc_index_pointers::{single_byte, single_byte_letters, single_byte_of_unit};
 use enc_input::{ByUnit, Bytes, Chars};
+use enc_utf8::Letters;
 
 /// A legacy single-byte encoding (Encoding Standard 9): ASCII, and the characters of its index.
 #[derive(Clone, Copy)]
@@ -55,6 +56,12 @@ impl UnitRepertoire for SingleByte {
     #[inline(always)]
     fn unit_byte(self, unit: u16) -> u8 {
         single_byte_of_unit(self.index, unit)
+    }
+
+    #[inline(always)]
+    fn letters(self) -> Letters {
+        let (first, last, shift) = single_byte_letters(self.index);
+        Letters { first, last, shift }
     }
 }
 

@@ -10,7 +10,7 @@ returns-clause-puts g c src long are_bytes =
     let buffer = c.args.self.now.units in
     let order = c.is_big_endian in
     let units = c.store_scalars-count.ensures in
-    units_put order.result order.ensures _ units.few long
+    units_put order.result order.ensures 8 _ units.few long
     (c.units_in-units.ensures ∙ ap (units_of_bytes order.result) are_bytes) units.scalars
     (omega (arith, lengths, units.bound, units.len, ap length units.stored))
     (stored buffer.now _ _ buffer.ghost_name (omega arith) (omega (arith, units.bound, units.len))

@@ -8,7 +8,7 @@ abbrev pub invariant-loop-pieces : goal.invariant-loop-pieces
 invariant-loop-pieces g l =
     Gathered encode_utf8 (g.P.Pieces.means l.pieces)
     (buffer_output l.initial.out.len l.initial.out.units)
-    (buffer_output l.out.len l.out.units) l.src (l.most + 36) l.read
+    (buffer_output l.out.len l.out.units) l.src (l.most + 68) l.read
 
 abbrev pub decreases-loop-pieces : goal.decreases-loop-pieces
 decreases-loop-pieces g l = length l.src - l.read

@@ -1,7 +1,7 @@
 use Rattle.std.proofs.Common.{eqb-true}
 use Rattle.enc_utf8.proofs.UnitWordsLemmas.{units_alone}
 use Rattle.enc_utf8.proofs.UnitLanes.{all_before}
-use Rattle.enc_output.proofs.code_units.are_scalars.Goals as goal
+use Rattle.enc_utf8.proofs.unit_words.are_scalars.Goals as goal
 
 pub returns-clause-scalars : goal.returns-clause-scalars
 returns-clause-scalars c none =

@@ -1,9 +1,0 @@
-use Rattle.std.proofs.Common.{◌-◌}
-use Rattle.enc_utf8.proofs.AsciiLemmas.{CopiesAscii}
-use Rattle.enc_input.proofs.utf16_mapped.copy_sixteens.Given as goal
-
-abbrev pub invariant-loop-at : goal.invariant-loop-at
-invariant-loop-at l = CopiesAscii l.src l.fn.dst l.dst l.most l.at
-
-abbrev pub decreases-loop-at : goal.decreases-loop-at
-decreases-loop-at l = l.most - l.at
