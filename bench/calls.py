@@ -15,7 +15,7 @@ import textwrap
 
 import corpora
 import counts
-from report import STYLE
+from report import STYLE, markdown
 
 # The lengths of pieces, and those of chunks with the room of a call.
 LENGTHS = (16, 64, 256)
@@ -77,16 +77,28 @@ class Cell:
         after = resource.getrusage(resource.RUSAGE_CHILDREN)
         return after.ru_utime - before.ru_utime + after.ru_stime - before.ru_stime, done.stdout
 
+    def taken(self, command):
+        """The processor time of a run."""
+        return self.run(command, self.rounds)[0]
+
+    def compare(self, programs):
+        """Compares the sums that the programs print, and returns their sum."""
+        totals = [self.run(command, self.rounds)[1] for command in self.commands(programs)]
+        if len(set(totals)) != 1:
+            raise SystemExit(f"bench: sums differ: {' '.join(self.arguments)}: {totals}")
+        return int(totals[0])
+
     def prepare(self, programs):
-        """Compares the sums, and finds out how many rounds take the time of a run."""
-        done = [self.run(command, self.rounds) for command in self.commands(programs)]
-        if len({total for _, total in done}) != 1:
-            raise SystemExit(f"bench: sums differ: {' '.join(self.arguments)}: {[total for _, total in done]}")
-        self.rounds = max(1, int(self.rounds * TARGET / max(min(taken for taken, _ in done), 0.001)))
+        """Compares the sums, and finds out how many rounds take the time of a run. A run that takes less than a quarter
+        of it is too short to tell."""
+        self.compare(programs)
+        while (least := min(map(self.taken, self.commands(programs)))) < TARGET / 4:
+            self.rounds *= 4
+        self.rounds = max(1, int(self.rounds * TARGET / least))
 
     def measure(self, programs):
-        """Runs each program once."""
-        self.times.append([self.run(command, self.rounds)[0] for command in self.commands(programs)])
+        """Measures each program once."""
+        self.times.append([*map(self.taken, self.commands(programs))])
 
     def count(self, programs):
         """Counts the instructions of a call: those that COUNTED rounds more take, so that what is made once is not in."""
@@ -207,12 +219,9 @@ def names(chunks):
 
 def table(title, rows, number, chunks):
     """A table in Markdown, of one kind of calls: what each cell is by the crate, by instructions and by time."""
-    heads = [title, *names(chunks)]
-    made = ["| " + " | ".join(heads) + " |", "|---" + "|--:" * (len(heads) - 1) + "|"]
-    for row in rows:
-        shown = [f"{cell.by_instructions():.2f}, {cell.by_time():.2f}" for cell in row.groups[number]]
-        made.append("| " + " | ".join([row.title, *shown]) + " |")
-    return "\n".join(made)
+    return markdown([title, *names(chunks)], (
+        [row.title, *(f"{cell.by_instructions():.2f}, {cell.by_time():.2f}" for cell in row.groups[number])]
+        for row in rows))
 
 
 def summary(every):

@@ -92,6 +92,12 @@ LEGACY = [
     ("Big5, Chinese", ["zh_TW"], "big5", "big5", "big5-hkscs", "big5-hkscs"),
     ("EUC-KR, Korean", ["ko"], "euc-kr", "cp949", "cp949", "windows-949"),
 ]
+# Text that is Latin-1 byte by byte. In windows-1252, lines with no byte from 80 to 9F.
+LATIN1 = [
+    ("UTF-8, ASCII", ["en"], "utf-8", "ascii"),
+    ("windows-1252, ASCII", ["en"], "windows-1252", "ascii"),
+    ("windows-1252, French in Latin-1", ["fr"], "windows-1252", "latin-1"),
+]
 # GBK decodes as gb18030 does.
 WRITTEN = LEGACY[:5] + [("GBK, Chinese", ["zh_CN"], "gbk", "gbk", "gbk", "gbk")] + LEGACY[5:]
 KINDS = [RUNNING, SHORT]

@@ -32,6 +32,12 @@ STYLE = """<style>
 </style>"""
 
 
+def markdown(heads, rows):
+    """A table in Markdown, of numbers but for the first column."""
+    made = ["| " + " | ".join(heads) + " |", "|---" + "|--:" * (len(heads) - 1) + "|"]
+    return "\n".join(made + ["| " + " | ".join(row) + " |" for row in rows])
+
+
 class Row:
     """A corpus: its way, its size in bytes, and the best time in seconds of each program that writes the same."""
 

@@ -1,9 +1,10 @@
 // The twin of `bench calls` over simdutf, for scripts/bench: `simdutf IMPLEMENTATION WAY LEN ROUNDS`.
 // Standard input, of 64 KiB at most, is cut into pieces of LEN bytes, each of whole characters. Each
 // round converts each piece, as WAY says: `validate` copies UTF-8 once it is known to be
-// well-formed, `to-utf16` is from UTF-8 to UTF-16LE, and `from-utf16` back. Standard output is the
-// sum of the lengths and of the last units of what each piece gives. The status is 0; 1 where a
-// piece is malformed, since simdutf replaces nothing; 2 where the processor lacks the
+// well-formed, `to-utf16` is from UTF-8 to UTF-16LE, and `from-utf16` back. `valid-utf8` and
+// `valid-ascii` only find the longest valid prefix. Standard output is the sum of the lengths and
+// of the last units of what each piece gives; of a prefix, of its length. The status is 0; 1 where
+// a piece to convert is malformed, since simdutf replaces nothing; 2 where the processor lacks the
 // implementation, or an argument is wrong; and 3 where reading fails.
 #include <simdutf.h>
 
@@ -47,11 +48,23 @@ std::optional<uint64_t> from_utf16(const simdutf::implementation &simd, const ch
     return sum(bytes, simd.convert_utf16le_to_utf8(text, length / 2, bytes));
 }
 
+std::optional<uint64_t> valid_utf8(
+    const simdutf::implementation &simd, const char *piece, size_t length) {
+    return simd.validate_utf8_with_errors(piece, length).count;
+}
+
+std::optional<uint64_t> valid_ascii(
+    const simdutf::implementation &simd, const char *piece, size_t length) {
+    return simd.validate_ascii_with_errors(piece, length).count;
+}
+
 using Way = std::optional<uint64_t> (*)(const simdutf::implementation &, const char *, size_t);
 
 Way way_of(std::string_view name) {
     if (name == "validate") return validate;
     if (name == "to-utf16") return to_utf16;
+    if (name == "valid-utf8") return valid_utf8;
+    if (name == "valid-ascii") return valid_ascii;
     return name == "from-utf16" ? from_utf16 : nullptr;
 }
 
@@ -74,7 +87,7 @@ std::optional<size_t> fill() {
     return at;
 }
 
-// Converts each piece again and again, writes the sum, and returns the status.
+// Makes the calls of all rounds, writes the sum, and returns the status.
 int run(const simdutf::implementation &simd, Way way, size_t length, uint64_t rounds) {
     const std::optional<size_t> end = fill();
     if (!end) return 3;

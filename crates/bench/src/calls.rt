@@ -7,20 +7,24 @@
 //! - `to-utf8`, `to-utf16`: a new decoder, with room for ROOM bytes or code units;
 //! - `decode`: the one-shot call;
 //! - `for-label`: the encoding of a label, in ASCII whitespace;
+//! - `valid-utf8`, `valid-ascii`, `valid-iso-2022-jp`: the length of the longest valid prefix;
+//! - `latin1`: the length of the prefix that is Latin-1 to a new decoder without BOM handling;
 //! - `from-utf8`, `from-utf16`: a new encoder, with room for ROOM bytes; code units are read from
 //!   UTF-16LE;
 //! - `encode`: the one-shot call;
 //! - `chunks-` and `to-utf8`, `to-utf16`, `from-utf8` or `from-utf16`: one decoder or encoder for
 //!   all pieces of a round, with as many calls for each as its room takes.
 //!
-//! Standard output is the sum of the lengths and of the last units of what each piece gives. The
-//! status is 0, 2 for wrong arguments, and 3 after an I/O error.
+//! Standard output is the sum of the lengths and of the last units of what each piece gives; of a
+//! query, of the length that it returns. The status is 0, 2 for wrong arguments, and 3 after an I/O
+//! error.
 
 ghost use Rattle.std.specs.Prelude.{◌≤◌, length, IfOk};
 
 mod chunks;
 mod kind;
 mod pieces;
+mod queries;
 mod single;
 mod units;
 

@@ -64,6 +64,27 @@ fn for_label(label: &[u8]) -> u64 {
     Encoding::for_label(label).map_or(0, |encoding| encoding.name().len() as u64)
 }
 
+#[inline(never)]
+fn valid_utf8(src: &[u8]) -> u64 {
+    Encoding::utf8_valid_up_to(src) as u64
+}
+
+#[inline(never)]
+fn valid_ascii(src: &[u8]) -> u64 {
+    Encoding::ascii_valid_up_to(src) as u64
+}
+
+#[inline(never)]
+fn valid_iso_2022_jp(src: &[u8]) -> u64 {
+    Encoding::iso_2022_jp_ascii_valid_up_to(src) as u64
+}
+
+#[inline(never)]
+fn latin1(encoding: &'static Encoding, src: &[u8]) -> u64 {
+    let decoder = encoding.new_decoder_without_bom_handling();
+    decoder.latin1_byte_compatible_up_to(src).map_or(0, |len| len as u64)
+}
+
 /// Calls for a piece in the middle of a stream, as many as it takes: the length of all that it gives, plus the last
 /// unit of that. A call gets the place of the unit that is unread, and the output.
 #[inline(always)]
@@ -135,6 +156,10 @@ fn round(kind: &str, encoding: &'static Encoding, job: &Job, bytes: &mut [u8], u
         "decode" => sources.map(|src| decode(encoding, src)).sum(),
         "decode-lending" => sources.map(|src| decode_lending(encoding, src)).sum(),
         "for-label" => sources.map(for_label).sum(),
+        "valid-utf8" => sources.map(valid_utf8).sum(),
+        "valid-ascii" => sources.map(valid_ascii).sum(),
+        "valid-iso-2022-jp" => sources.map(valid_iso_2022_jp).sum(),
+        "latin1" => sources.map(|src| latin1(encoding, src)).sum(),
         "chunks-to-utf8" => sources.map(|src| chunk_to_utf8(decoder, src, bytes)).sum(),
         "chunks-to-utf16" => sources.map(|src| chunk_to_utf16(decoder, src, units)).sum(),
         "from-utf8" => texts.map(|src| from_utf8(encoding, src, bytes)).sum(),

@@ -1,5 +1,18 @@
 //! The kinds of calls.
 
+/// Queries that only read bytes.
+#[derive(Clone, Copy)]
+pub enum Query {
+    /// The longest prefix that is well-formed UTF-8.
+    ValidUtf8,
+    /// The longest prefix that is ASCII.
+    ValidAscii,
+    /// The longest prefix that stands for itself in ISO-2022-JP.
+    ValidIso2022Jp,
+    /// The prefix that is Latin-1 to a new decoder, which looks for no byte order mark.
+    Latin1,
+}
+
 /// Calls that take bytes.
 #[derive(Clone, Copy)]
 pub enum ByteCall {
@@ -17,6 +30,8 @@ pub enum ByteCall {
     ChunksToUtf8,
     /// One decoder for all pieces, to UTF-16.
     ChunksToUtf16,
+    /// A query.
+    Query(Query),
 }
 
 /// Calls that take text in UTF-8.
@@ -60,6 +75,10 @@ impl Kind {
             "for-label" => Kind::Bytes(ByteCall::ForLabel),
             "chunks-to-utf8" => Kind::Bytes(ByteCall::ChunksToUtf8),
             "chunks-to-utf16" => Kind::Bytes(ByteCall::ChunksToUtf16),
+            "valid-utf8" => Kind::Bytes(ByteCall::Query(Query::ValidUtf8)),
+            "valid-ascii" => Kind::Bytes(ByteCall::Query(Query::ValidAscii)),
+            "valid-iso-2022-jp" => Kind::Bytes(ByteCall::Query(Query::ValidIso2022Jp)),
+            "latin1" => Kind::Bytes(ByteCall::Query(Query::Latin1)),
             "from-utf8" => Kind::Text(TextCall::FromUtf8),
             "encode" => Kind::Text(TextCall::Encode),
             "encode-lending" => Kind::Text(TextCall::EncodeLending),

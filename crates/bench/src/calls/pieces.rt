@@ -3,7 +3,7 @@
 ghost use Rattle.std.specs.Prelude.{◌≤◌, ◌<◌, length};
 
 use crate::calls::kind::{ByteCall, TextCall, UnitCall};
-use crate::calls::{chunks, single};
+use crate::calls::{chunks, queries, single};
 use encoding_rs::Encoding;
 use std::alloc::Global;
 
@@ -48,6 +48,7 @@ pub(crate) fn call_for_bytes(
             ByteCall::ForLabel => single::for_label(src),
             ByteCall::ChunksToUtf8 => chunks::to_utf8(&mut decoder, src, bytes),
             ByteCall::ChunksToUtf16 => chunks::to_utf16(&mut decoder, src, units),
+            ByteCall::Query(query) => queries::prefix_len(encoding, query, src),
         };
         total = total.wrapping_add(sum);
     }
