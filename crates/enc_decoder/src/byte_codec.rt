@@ -107,7 +107,7 @@ pub trait ByteCodec: Copy {
     /// Returns the length of a prefix of `src` in which each byte is the character with its number,
     /// a sequence by itself, with this state after it. Condition: nothing is pending.
     ///
-    /// It may be any, and 0.
+    /// It need not be the longest, and may be 0.
     #[inline(always)]
     fn latin1_run(self, src: &[u8]) -> usize
         requires none_pending { (state self).pending ≡ [] }

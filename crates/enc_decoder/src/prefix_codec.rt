@@ -77,7 +77,7 @@ pub trait PrefixCodec: Copy {
             (U.output out.old) (U.output out.new) src.now result };
 
     /// Returns the length of a prefix of `src` in which each byte is the character with its number,
-    /// a sequence by itself. It may be any, and 0.
+    /// a sequence by itself. It need not be the longest, and may be 0.
     #[inline(always)]
     fn latin1_front(self, src: &[u8]) -> usize
         ensures within { result ≤ length src.now }

@@ -130,7 +130,7 @@ impl ByteCodec for Iso2022JpDecoder {
         Some(with_held(escape.set(), None))
     }
 
-    /// Takes ASCII without shifts and escapes.
+    /// Returns the length of the prefix that is ASCII without shifts and escapes.
     fn latin1_run(self, src: &[u8]) -> usize {
         if !self.is_in_ascii() {
             return 0;

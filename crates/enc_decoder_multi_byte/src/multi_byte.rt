@@ -201,7 +201,7 @@ impl<E: PrefixLaws> PrefixCodec for MultiByteDecoder<E> {
         put_run(out, Pairs { pieces: self }, src)
     }
 
-    /// Takes ASCII.
+    /// Returns the length of the prefix that is ASCII.
     fn latin1_front(self, src: &[u8]) -> usize {
         if !self.has_ascii() {
             return 0;

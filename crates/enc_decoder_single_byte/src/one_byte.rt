@@ -133,7 +133,8 @@ impl<E: OneByte> PrefixCodec for OneByteDecoder<E> {
         put_run(out, SingleBytes { pieces: self }, src)
     }
 
-    /// Takes letters with their own numbers too, where the encoding has them.
+    /// Returns the length of a prefix that is ASCII, or ASCII and then letters whose numbers are
+    /// those of their bytes, where the encoding has such letters.
     fn latin1_front(self, src: &[u8]) -> usize {
         if !self.has_ascii() {
             return 0;

@@ -237,7 +237,7 @@ impl PrefixCodec for Utf8Decoder {
         put_utf8_run(out, src)
     }
 
-    /// Takes ASCII.
+    /// Returns the length of the prefix that is ASCII.
     fn latin1_front(self, src: &[u8]) -> usize {
         let _decoder = self;
         ascii_valid_up_to(src)

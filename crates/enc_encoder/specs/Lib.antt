@@ -4,7 +4,6 @@ pub mod Joining
 pub mod Steps
 pub mod Writes
 pub mod Lengths
-pub mod Letters
 pub mod Need
 pub mod Call
 pub mod CharLaw

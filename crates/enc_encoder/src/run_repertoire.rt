@@ -4,9 +4,9 @@ ghost use Rattle.std.specs.Prelude.{◌≡◌, ℕ, ◌<◌, ◌≤◌, Some, []
 ghost use Rattle.std.specs.Char.{encode_utf8};
 ghost use Rattle.enc_input.specs.Mappings.{WritesMapped};
 ghost use Rattle.enc_encoder.specs.declared.character_set.CharacterSet.TheVariants.{Ascii};
-ghost use Rattle.enc_encoder.specs.Letters.{AreLettersOf};
 ghost use Rattle.enc_encoder.specs.Runs.{IsWrittenIn};
 ghost use Rattle.enc_encoder.specs.Stateless.{stateless_rule};
+ghost use Rattle.enc_utf8.specs.Letters.{AreLetters};
 
 use crate::barring::Barring;
 use crate::lawful_repertoire::LawfulRepertoire;
@@ -40,9 +40,9 @@ pub trait UnitRepertoire: LawfulRepertoire {
         ensures bytes { 0 < result → Self.bytes_for self unit ≡ Some (result ∷ []) }
         ensures last { unit ≡ 0x7FF → result ≡ 0 };
 
-    /// Returns letters that are many, if there are some.
+    /// Returns a long run of letters of the encoding, or none.
     fn letters(self) -> Letters
-        ensures { AreLettersOf (Self.bytes_for self) result };
+        ensures { AreLetters (λ bytes c. Self.bytes_for self c ≡ Some bytes) result };
 }
 
 /// An encoding that writes every character as its UTF-8.

@@ -2,21 +2,23 @@
 use Rattle.std.proofs.Common.{◌≡◌, ℕ, zero, suc, ◌+◌, ◌%◌, ◌<◌, ◌≤◌, false, List, [], ◌∷◌, length, map}
 use Rattle.std.proofs.Common.{get_or, take, drop, refl, ap, ◌∙◌, sym, subst, arith, nat_le, nat_lt, ◌&&◌}
 use Rattle.std.proofs.Common.{take-append-drop, set, ltb, lt-ltb, le-ltb, cond, min}
-use Rattle.std.proofs.Common.{inl, inr}
+use Rattle.std.proofs.Common.{inl, inr, bit_or}
 use Rattle.std.proofs.lemmas.Bool.{cases_lt, cond-true, cond-false}
 use Rattle.std.proofs.lemmas.Bool.Decides.{nat_tests}
-use Rattle.std.proofs.lemmas.List.{length-map, length-take-le, take-map, take-take, get_or-drop, get_or-take}
+use Rattle.std.proofs.lemmas.List.{length-map, length-take-le, take-map, take-take, take_all, get_or-drop, get_or-take}
+use Rattle.std.proofs.lemmas.Simd.{length-zip2}
 use Rattle.std.specs.Char.Utf16.{utf16_lossy_chars}
 use Rattle.enc_input.specs.Mappings.{AreAnyUnits, WritesFront, WritesThemselves}
 use Rattle.enc_utf8.specs.Surrogates.{lossy_unit_char}
 use Rattle.enc_utf8.specs.Validity.{AreAscii}
-use Rattle.enc_utf8.proofs.AsciiLemmas.{CopiesAscii, copies_more}
+use Rattle.enc_utf8.specs.AsciiCopy.{CopiesAscii}
+use Rattle.enc_utf8.proofs.AsciiLemmas.{copies_more, copies_none}
 use Rattle.enc_utf8.proofs.UnitsLemmas.{lossy_lone, lossy_scalars}
-use Rattle.enc_utf8.proofs.LaneLemmas.{all_fewer}
+use Rattle.enc_utf8.proofs.LaneLemmas.{all_fewer, both_below}
 use Rattle.enc_utf8.proofs.PutLemmas.{put_one}
 use Rattle.enc_utf8.proofs.ScalarLemmas.{ascii_scalars}
 use Rattle.enc_utf8.proofs.LengthLemmas.{lengths}
-use lib.Lanes.{put_chunk}
+use lib.Lanes.{put_chunk, zip2}
 use Rattle.enc_input.proofs.WriteLoopLemmas.{writes_own, writes_one, writes_then}
 
 low_unit : (u : ℕ) → u < 0x800 → lossy_unit_char u ≡ u
@@ -87,14 +89,6 @@ unit_further {src = src} {dst = dst} {at = at} {count = count} byte writes withi
     writes_then writes (unit_written byte (omega (arith, lengths)) (omega (arith, here))
     (rw here means) room)
 
--- no code unit is copied yet
-copies_none : (src dst : List ℕ) (most : ℕ) → CopiesAscii src dst dst most 0
-copies_none src dst most = record {
-  within = omega arith;
-  ascii = λ k d inside. absurd (omega (arith, inside));
-  copied = refl;
-}
-
 -- the first n code units are copied
 pub copies_first : (n most : ℕ) (src old : List ℕ) {lanes : List ℕ} → most ≤ length src
     → most ≤ length old → n ≤ most → lanes ≡ take n src → AreAscii (take n src)
@@ -102,6 +96,24 @@ pub copies_first : (n most : ℕ) (src old : List ℕ) {lanes : List ℕ} → mo
 copies_first n most src old read room few are_lanes ascii =
     let all : 0 + n ≡ n = omega arith in
     rw all at (copies_more (copies_none src old most) read room n (omega arith) are_lanes ascii)
+
+-- n code units are ASCII if the first m are, which are all of them
+pub all_ascii : (us : List ℕ) {n m : ℕ} → length us ≡ n → n ≤ m → AreAscii (take m us)
+    → AreAscii us
+all_ascii us {m = m} long all ascii =
+    subst AreAscii (take_all m us (omega (arith, long))) ascii
+
+-- of sixteen code units and of sixteen more, by the bits that either has
+pub both_halves : (src : List ℕ) {m : ℕ} → 32 ≤ length src → 16 ≤ m
+    → AreAscii (take m (zip2 bit_or (take 16 src) (take 16 (drop 16 src))))
+    → AreAscii (take 16 src) × AreAscii (take 16 (drop 16 src))
+both_halves src long all ascii =
+    let front = take 16 src in
+    let back = take 16 (drop 16 src) in
+    let same : length front ≡ length back = omega (arith, lengths) in
+    let both : length (zip2 bit_or front back) ≡ 16 =
+    omega (arith, lengths, length-zip2 bit_or front back same) in
+    both_below 0x80 front back same (all_ascii (zip2 bit_or front back) both all ascii)
 
 -- clamped units
 

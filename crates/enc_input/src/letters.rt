@@ -9,7 +9,7 @@ use crate::mapping::UnitBytes;
 use enc_utf8::Letters;
 use std::simd::prelude::*;
 
-/// Returns the bytes of sixteen code units, where they are letters.
+/// Returns sixteen code units less the shift of the letters: the byte of each that is a letter.
 #[inline(always)]
 fn letter_bytes(letters: Letters, units: u16x16) -> u16x16
     ensures { result ≡ map (letter_byte letters) units }

@@ -2,9 +2,9 @@
 
 ghost use Rattle.std.specs.Prelude.{ℕ, ◌≡◌, ◌<◌, ◌≤◌, List, [], ◌∷◌, IfSome, IsTrue, take};
 ghost use Rattle.enc_input.specs.Bytes.{byte_list};
-ghost use Rattle.enc_utf8.specs.Pieces.{AreWrittenAsThemselves, IsWrittenAsItself, KeepsAscii};
 ghost use Rattle.enc_input.specs.Mappings.{AreWrittenAsUtf8};
 ghost use Rattle.enc_utf8.specs.Letters.{AreLetters};
+ghost use Rattle.enc_utf8.specs.Pieces.{AreWrittenAsThemselves, IsWrittenAsItself, KeepsAscii};
 
 use crate::bytes::Bytes;
 use enc_utf8::Letters;
@@ -48,8 +48,8 @@ pub trait UnitBytes: Mapping {
         ensures means { 0 < result → Self.means self (result ∷ []) unit }
         ensures last { unit ≡ 0x7FF → result ≡ 0 };
 
-    /// Returns letters that are many, if there are some. Text in them is written sixteen code units
-    /// at a time.
+    /// Returns a long run of letters of the encoding, or none. Text in them is written sixteen code
+    /// units at a time.
     fn letters(self) -> Letters
         ensures { AreLetters (Self.means self) result };
 }

@@ -4,6 +4,7 @@ ghost use Rattle.std.specs.Prelude.{◌≡◌, ◌+◌, ◌%◌, ◌<◌, ◌≤
 ghost use Rattle.std.specs.Prelude.{min, slice_index};
 ghost use Rattle.std.specs.Char.Utf16.{utf16_lossy_chars};
 ghost use Rattle.enc_input.specs.Mappings.{AreAnyUnits, WritesFront, WritesThemselves};
+ghost use Rattle.enc_utf8.specs.AsciiCopy.{CopiesAscii};
 ghost use Rattle.enc_utf8.specs.Validity.{AreAscii};
 
 use crate::mapped_bytes::{MOST_BYTES, put_bytes, put_lanes};
@@ -12,15 +13,16 @@ use crate::turns::Turns;
 use crate::utf16_chars::first;
 use std::simd::prelude::*;
 
-/// Returns how many of sixteen code units come before the first that is not ASCII.
+/// Returns how many of some code units, at most 64, come before the first that is not ASCII.
 #[inline(always)]
-fn ascii_units(units: Simd<u16, 16>) -> usize
-    ensures bound { result ≤ 16 }
-    ensures ascii { AreAscii (take result units) }
+fn ascii_units<const N: usize>(units: Simd<u16, N>) -> usize
+    requires few { N ≤ 64 }
+    ensures bound { result ≤ N }
+    ensures ascii { AreAscii (take result units.entry) }
 {
-    let others = units.simd_ge(Simd::<u16, 16>::splat(0x80)).to_bitmask();
+    let others = units.simd_ge(Simd::<u16, N>::splat(0x80)).to_bitmask();
     if others == 0 {
-        16
+        N
     } else {
         others.trailing_zeros() as usize
     }
@@ -34,15 +36,6 @@ fn low_bytes<const N: usize>(units: Simd<u16, N>) -> Simd<u8, N>
     (units & Simd::<u16, N>::splat(0x7F)).cast::<u8>()
 }
 
-/// Returns whether code units, at most 64, are ASCII.
-#[inline(always)]
-fn are_ascii<const N: usize>(units: Simd<u16, N>) -> bool
-    requires few { N ≤ 64 }
-    ensures { IsTrue result → AreAscii units.entry }
-{
-    units.simd_ge(Simd::<u16, N>::splat(0x80)).to_bitmask() == 0
-}
-
 /// Copies the first N characters, eight or sixteen, if they are ASCII and at most `most` are
 /// copied. Returns their number, or 0.
 #[inline(always)]
@@ -50,15 +43,13 @@ fn copy_step<const N: usize>(src: &[u16], dst: &mut [u8], most: usize) -> usize
     requires few { N ≤ 16 }
     requires read { most ≤ length src.now }
     requires room { most ≤ length dst.old }
-    ensures within { result ≤ most }
-    ensures ascii { AreAscii (take result src.now) }
-    ensures copied { dst.new ≡ take result src.now ++ drop result dst.old }
+    ensures { CopiesAscii src.now dst.old dst.new most result }
 {
     if most < N {
         return 0;
     }
     let units = Simd::<u16, N>::from_slice(src);
-    if !are_ascii(units) {
+    if ascii_units(units) < N {
         return 0;
     }
     units.cast::<u8>().copy_to_slice(dst);
@@ -71,16 +62,14 @@ fn copy_step<const N: usize>(src: &[u16], dst: &mut [u8], most: usize) -> usize
 fn copy_thirty_two(src: &[u16], dst: &mut [u8], most: usize) -> usize
     requires read { most ≤ length src.now }
     requires room { most ≤ length dst.old }
-    ensures within { result ≤ most }
-    ensures ascii { AreAscii (take result src.now) }
-    ensures copied { dst.new ≡ take result src.now ++ drop result dst.old }
+    ensures { CopiesAscii src.now dst.old dst.new most result }
 {
     if most < 32 {
         return 0;
     }
     let front = Simd::<u16, 16>::from_slice(src);
     let back = Simd::<u16, 16>::from_slice(&src[16..]);
-    if !are_ascii(front | back) {
+    if ascii_units(front | back) < 16 {
         return 0;
     }
     front.cast::<u8>().copy_to_slice(dst);
@@ -94,9 +83,7 @@ fn copy_thirty_two(src: &[u16], dst: &mut [u8], most: usize) -> usize
 fn copy_steps(src: &[u16], dst: &mut [u8], most: usize) -> usize
     requires read { most ≤ length src.now }
     requires room { most ≤ length dst.old }
-    ensures within { result ≤ most }
-    ensures ascii { AreAscii (take result src.now) }
-    ensures copied { dst.new ≡ take result src.now ++ drop result dst.old }
+    ensures { CopiesAscii src.now dst.old dst.new most result }
 {
     let mut at = copy_step::<16>(src, dst, most);
     loop {

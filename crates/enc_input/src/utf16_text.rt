@@ -14,13 +14,14 @@ use std::simd::prelude::*;
 const BUFFER: usize = 304;
 
 /// The least number of code units, and of bytes of room, for which a buffer pays.
-const LEAST: usize = 68;
+const LEAST: usize = 52;
 
 /// Stores the UTF-8 of the first characters of `src` in a buffer. Returns the numbers of code units
 /// read and of bytes written.
 ///
-/// Aims at no more UTF-8 than `room`. Stops 68 bytes before its end, or sixteen code units before
-/// that of `src`.
+/// Aims at no more UTF-8 than `room`. A surrogate is taken by itself, with its partner, and so are
+/// those that follow it. Stops within the last 52 bytes of the room or the last sixteen code units
+/// of `src`.
 #[inline(never)]
 fn gather_text(buffer: &mut [u8], room: usize, src: &[u16]) -> (usize, usize)
     ensures len { length buffer.new ≡ length buffer.old }
@@ -29,26 +30,32 @@ fn gather_text(buffer: &mut [u8], room: usize, src: &[u16]) -> (usize, usize)
     ensures text { AreUtf8OfUnits src.now result.0 (take result.1 buffer.new) }
 {
     let limit = buffer.len().min(room);
-    if limit < SCALARS_STEP {
+    if limit < SCALARS_STEP || src.len() < 16 {
         return (0, 0);
     }
     let most = limit - SCALARS_STEP;
+    let last = src.len() - 16;
     let mut read = 0;
     let mut written = 0;
-    while written <= most && 16 <= src.len() - read {
+    'turns: while written <= most && read <= last {
         let units = u16x8::from_slice(&src[read..]);
         let next = u16x8::from_slice(&src[read + 8..]);
         let (count, end) = store_sixteen_scalars(buffer, written, units, next);
         read += count;
         written = end;
         if count == 16 {
-            continue;
+            continue 'turns;
         }
-        let Some((character, width)) = first(&src[read..]) else {
-            break;
-        };
-        written = store_text(buffer, written, utf8_of(character));
-        read += width;
+        'singles: loop {
+            let Some((character, width)) = first(&src[read..]) else {
+                return (read, written);
+            };
+            written = store_text(buffer, written, utf8_of(character));
+            read += width;
+            if most < written || last < read || src[read] / 0x800 != 27 {
+                break 'singles;
+            }
+        }
     }
     (read, written)
 }
@@ -86,7 +93,7 @@ fn put_gathered<M: Mapping>(
 
 /// Does the same if there are enough code units and room for a buffer to pay.
 ///
-/// It may stop within the last 68 bytes of the slice, and within the last sixteen code units.
+/// It may stop within the last 52 bytes of the slice, and within the last sixteen code units.
 #[inline(always)]
 pub(crate) fn put_text<M: Utf8Bytes>(
     mapping: M,

@@ -1,6 +1,6 @@
 -- Characters of one code unit of UTF-16.
 use Rattle.std.proofs.Common.{◌≡◌, ℕ, zero, suc, ◌+◌, ◌*◌, ◌≤◌, Bool, List, [], ◌∷◌, length, take, refl, ap, ◌∙◌}
-use Rattle.std.proofs.Common.{◌-◌, ◌++◌, sym, subst, arith, drop, take-add}
+use Rattle.std.proofs.Common.{◌-◌, ◌++◌, sym, subst, arith, drop, drop-drop, take-add}
 use Rattle.std.proofs.lemmas.Bool.{and_parts}
 use Rattle.std.specs.Char.Escape.{encode_utf16}
 use Rattle.enc_utf8.proofs.LengthLemmas.{lengths}
@@ -43,6 +43,16 @@ units_joined big src {units} {next} long first more =
     ∙ ap (λ us. units_of_bytes big (take 16 src) ++ us) more
     ∙ sym (units_append big 8 (take 16 src) (take 16 (drop 16 src)) (omega (arith, lengths)))
     ∙ ap (units_of_bytes big) (sym (take-add 16 16 src))
+
+-- what holds of any input that begins with sixteen bytes and sixteen more holds of the rest whose
+-- bytes were loaded
+pub of_rest : {Holds : List ℕ → Type 0} (read : ℕ) (src : List ℕ) → read + 32 ≤ length src
+    → ((rest : List ℕ) → 32 ≤ length rest → take 16 (drop read src) ≡ take 16 rest
+    → take 16 (drop (read + 16) src) ≡ take 16 (drop 16 rest) → Holds rest)
+    → Holds (drop read src)
+of_rest read src within holds =
+    holds (drop read src) (omega (arith, lengths)) refl
+    (ap (take 16) (sym (drop-drop 16 read src)))
 
 module _ {Means : List ℕ → ℕ → Type 0} (big : Bool) (mean : AreCodeUnits Means big) where
   reads_units : (n : ℕ) (bytes : List ℕ) → n + n ≤ length bytes

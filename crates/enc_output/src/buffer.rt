@@ -71,8 +71,8 @@ pub(crate) trait UnitBuffer {
         ensures stored { IsTrue result → PutsPieces units_of (P.means pieces) (output self.old)
             (output self.new) (byte ∷ []) 1 };
 
-    /// Stores the characters of sixteen bytes, two bytes each, up to the first that is of more.
-    /// Returns their number.
+    /// Stores the characters of sixteen bytes, two bytes each, up to the first surrogate. Returns
+    /// their number.
     fn store_units<P: UnitPieces>(&mut self, pieces: P, bytes: u8x16) -> usize
         requires room { 32 ≤ (output self.old).room }
         ensures few { result ≤ 8 }
@@ -147,18 +147,18 @@ impl<'a> Buffer<'a, u8> {
     }
 
     /// Stores the characters of sixteen bytes and of sixteen more, two bytes each, up to the first
-    /// that is of more. Returns their number.
+    /// surrogate. Returns their number.
     #[inline(always)]
-    pub(crate) fn store_pairs<P: UnitPieces>(
+    pub(crate) fn store_long_units<P: UnitPieces>(
         &mut self,
         pieces: P,
         bytes: u8x16,
         more: u8x16,
     ) -> usize
-        requires room { 64 ≤ room_in self.old.len self.old.units }
+        requires room { 52 ≤ room_in self.old.len self.old.units }
         ensures few { result ≤ 16 }
         ensures bound { room_in self.old.len self.old.units
-            ≤ room_in self.new.len self.new.units + 64 }
+            ≤ room_in self.new.len self.new.units + 48 }
         ensures puts { (src : List ℕ) → 32 ≤ length src → bytes ≡ take 16 src
             → more ≡ take 16 (drop 16 src)
             → PutsPieces encode_utf8 (P.means pieces) (buffer_output self.old.len self.old.units)
@@ -255,9 +255,9 @@ impl<'a> Buffer<'a, u16> {
     }
 
     /// Stores the characters of sixteen bytes and of sixteen more, two bytes each, up to the first
-    /// that is of more. Returns their number: sixteen, or at most eight.
+    /// surrogate. Returns their number: sixteen, or at most eight.
     #[inline(always)]
-    pub(crate) fn store_pairs<P: UnitPieces>(
+    pub(crate) fn store_long_units<P: UnitPieces>(
         &mut self,
         pieces: P,
         bytes: u8x16,

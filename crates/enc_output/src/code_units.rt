@@ -1,6 +1,6 @@
 //! Characters of one code unit of UTF-16, sixteen at a time, with no branch on their lengths.
 
-ghost use Rattle.std.specs.Prelude.{◌≡◌};
+ghost use Rattle.std.specs.Prelude.{◌≡◌, ◌+◌, ◌≤◌, length};
 ghost use Rattle.enc_output.specs.CodeUnits.{units_of_bytes};
 
 use crate::buffer::{Buffer, UnitBuffer};
@@ -27,6 +27,21 @@ pub(crate) fn units_in(bytes: u8x16, big_endian: bool) -> u16x8
     units
 }
 
+/// Returns whether the code unit at `at` is a surrogate.
+///
+/// It chooses the way of the next characters: the output is the same either way.
+#[inline(always)]
+fn begins_with_surrogate<P: UnitPieces>(pieces: P, src: &[u8], at: usize) -> bool
+    requires within { at + 2 ≤ length src.now }
+{
+    let high = if pieces.is_big_endian() {
+        src[at]
+    } else {
+        src[at + 1]
+    };
+    high / 8 == 27
+}
+
 /// Characters of one code unit, and others one by one.
 #[derive(Clone, Copy)]
 pub struct CodeUnits<P> {
@@ -46,52 +61,61 @@ impl<P: UnitPieces> Gather for CodeUnits<P> {
         append_each(out, self, self.pieces, src)
     }
 
-    /// Stops where no character is known to begin, and 68 bytes before the end of the room or 32
-    /// before that of `src`.
+    /// A surrogate pair is taken by itself, and so are those that follow it.
+    ///
+    /// Stops where no character is known to begin, and within the last 52 bytes of the room or the
+    /// last 32 of `src`.
     #[inline(always)]
     fn gather(self, out: &mut Buffer<'_, u8>, src: &[u8]) -> usize {
         let pieces = self.pieces;
-        if out.capacity() < SCALARS_STEP {
+        if out.capacity() < SCALARS_STEP || src.len() < 32 {
             return 0;
         }
         let most = out.capacity() - SCALARS_STEP;
+        let last = src.len() - 32;
         let mut read = 0;
-        while out.len() <= most && 32 <= src.len() - read {
+        'turns: while out.len() <= most && read <= last {
             let bytes = u8x16::from_slice(&src[read..]);
             let next = u8x16::from_slice(&src[read + 16..]);
-            let count = out.store_pairs(pieces, bytes, next);
+            let count = out.store_long_units(pieces, bytes, next);
             read += 2 * count;
             if count == 16 {
-                continue;
+                continue 'turns;
             }
-            let Some((character, len)) = pieces.piece(src, read) else {
-                break;
-            };
-            out.store_char(character);
-            read += len;
+            'singles: loop {
+                let Some((character, len)) = pieces.piece(src, read) else {
+                    return read;
+                };
+                out.store_char(character);
+                read += len;
+                if most < out.len() || last < read || !begins_with_surrogate(pieces, src, read) {
+                    break 'singles;
+                }
+            }
         }
         read
     }
 
-    /// Stops as `gather` does, but 16 code units before the end of the room.
+    /// Stops as `gather` does, but within the last 16 code units of the room.
     #[inline(always)]
     fn gather_units(self, out: &mut Buffer<'_, u16>, src: &[u8]) -> usize {
         let pieces = self.pieces;
-        if out.capacity() < UNITS_STEP {
+        if out.capacity() < UNITS_STEP || src.len() < 32 {
             return 0;
         }
         let most = out.capacity() - UNITS_STEP;
+        let last = src.len() - 32;
         let mut read = 0;
-        while out.len() <= most && 32 <= src.len() - read {
+        'turns: while out.len() <= most && read <= last {
             let bytes = u8x16::from_slice(&src[read..]);
             let more = u8x16::from_slice(&src[read + 16..]);
-            let count = out.store_pairs(pieces, bytes, more);
+            let count = out.store_long_units(pieces, bytes, more);
             read += 2 * count;
             if 8 <= count {
-                continue;
+                continue 'turns;
             }
             let Some((character, len)) = pieces.piece(src, read) else {
-                break;
+                break 'turns;
             };
             out.store_char(character);
             read += len;

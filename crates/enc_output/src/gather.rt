@@ -100,8 +100,8 @@ impl<P: Pieces> Gather for OneByOne<P> {
         append_each(out, self, self.pieces, src)
     }
 
-    /// Stops where no character is known to begin, and 16 bytes before the end of the room or 32
-    /// before that of `src`.
+    /// Stops where no character is known to begin, and within the last 16 bytes of the room or the
+    /// last 32 of `src`.
     #[inline(always)]
     fn gather(self, out: &mut Buffer<'_, u8>, src: &[u8]) -> usize {
         let pieces = self.pieces;

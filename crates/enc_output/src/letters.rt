@@ -28,7 +28,8 @@ pub(crate) fn units_of_plain(letters: Letters, bytes: u8x16) -> u16x16
     units.simd_ge(u16x16::splat(0x80)).select(shifted, units)
 }
 
-/// Returns a number of bytes in front, in whole steps of sixteen, each of them ASCII or a letter.
+/// Returns the length of a prefix in which each byte is ASCII or a letter, in whole steps of
+/// sixteen. It need not be the longest.
 pub fn plain_len(letters: Letters, src: &[u8]) -> usize
     ensures within { result ≤ length src.now }
     ensures plain { All (IsPlain letters) (take result src.now) }

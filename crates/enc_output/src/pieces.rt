@@ -1,12 +1,12 @@
 //! Pieces of an input: bytes that are a character.
 
 ghost use Rattle.std.specs.Prelude.{ℕ, ◌<◌, ◌≤◌, List, [], ◌∷◌, length, take, drop, IfSome, IsTrue};
-ghost use Rattle.enc_output.specs.PieceRuns.{PutsPieces};
-ghost use Rattle.enc_utf8.specs.Pieces.{AreWrittenAsThemselves, IsUtf8Char};
 ghost use Rattle.enc_output.specs.CodeUnits.{AreCodeUnits};
-ghost use Rattle.enc_utf8.specs.Letters.{AreLetters, MeansUnit};
 ghost use Rattle.enc_output.specs.Pairs.{MeansWord};
+ghost use Rattle.enc_output.specs.PieceRuns.{PutsPieces};
 ghost use Rattle.enc_output.specs.Places.{ArePlaces, IsPlace};
+ghost use Rattle.enc_utf8.specs.Letters.{AreLetters, MeansUnit};
+ghost use Rattle.enc_utf8.specs.Pieces.{AreWrittenAsThemselves, IsUtf8Char};
 
 use crate::gather::NEAR;
 use crate::places::Places;
@@ -102,8 +102,8 @@ pub trait BytePieces: Pieces {
     fn unit(self, byte: u8) -> u16
         ensures { 0 < result → MeansUnit (Self.means self) (byte ∷ []) result };
 
-    /// Returns letters that are many, if there are some. Text in them is written sixteen bytes at a
-    /// time.
+    /// Returns a long run of letters of the encoding, or none. Text in them is written sixteen
+    /// bytes at a time.
     #[inline(always)]
     fn letters(self) -> Letters
         ensures { AreLetters (Self.means self) result }

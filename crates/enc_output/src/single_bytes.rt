@@ -4,9 +4,9 @@ ghost use Rattle.std.specs.Prelude.{◌≡◌, ℕ, ◌+◌, ◌*◌, ◌<◌, �
 ghost use Rattle.std.specs.Prelude.{IsTrue};
 ghost use Rattle.std.specs.Char.{encode_utf8};
 ghost use Rattle.std.specs.Char.Escape.{encode_utf16};
-ghost use Rattle.enc_utf8.specs.Letters.{AreLetters};
 ghost use Rattle.enc_output.specs.Output.{borrowed_output, buffer_output, room_in};
 ghost use Rattle.enc_output.specs.PieceRuns.{PutsPieces};
+ghost use Rattle.enc_utf8.specs.Letters.{AreLetters};
 ghost use Rattle.enc_utf8.specs.Validity.{AreAscii};
 
 use crate::buffer::{Buffer, UnitBuffer};
@@ -246,8 +246,8 @@ impl<P: BytePieces> Gather for SingleBytes<P> {
         append_each(out, self, self.pieces, src)
     }
 
-    /// Stops at a byte that is no character, and 80 bytes before the end of the room or 16 before
-    /// that of `src`. In the last 128 bytes it takes sixteen at a time.
+    /// Stops at a byte that is no character, and within the last 80 bytes of the room or the last
+    /// 16 of `src`. In the last 128 bytes it takes sixteen at a time.
     #[inline(always)]
     fn gather(self, out: &mut Buffer<'_, u8>, src: &[u8]) -> usize {
         let pieces = self.pieces;

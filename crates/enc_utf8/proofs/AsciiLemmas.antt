@@ -1,6 +1,6 @@
 -- Lanes of ASCII bytes.
 use Rattle.std.proofs.Common.{◌≡◌, ℕ, zero, suc, ◌+◌, ◌-◌, ◌<◌, ◌≤◌, false, leb, List, [], ◌∷◌, ◌++◌}
-use Rattle.std.proofs.Common.{length, get_or, take, drop, ap, ◌∙◌, sym, subst, arith, inl, inr}
+use Rattle.std.proofs.Common.{length, get_or, take, drop, refl, ap, ◌∙◌, sym, subst, arith, inl, inr}
 use Rattle.std.proofs.Common.{take-add, drop-cons, append_assoc, drop-drop}
 use Rattle.std.proofs.lemmas.Bool.{cases_lt}
 use Rattle.std.proofs.lemmas.Bool.Decides.{nat_tests}
@@ -13,6 +13,7 @@ use borrow.Rule.Slice.PartMut.{put_mid}
 use Rattle.enc_utf8.proofs.LaneLemmas.{all_more}
 use Rattle.enc_utf8.proofs.LengthLemmas.{lengths, rest_is}
 use Rattle.enc_utf8.proofs.PutLemmas.{Put, put_copied, put_lanes, put_one}
+use Rattle.enc_utf8.specs.AsciiCopy.{CopiesAscii}
 use Rattle.enc_utf8.specs.Validity.{AreAscii}
 
 -- n bytes more are ASCII
@@ -28,11 +29,13 @@ pub ascii_one : (i : ℕ) (xs : List ℕ) → AreAscii (take i xs) → i < lengt
     → AreAscii (take (i + 1) xs)
 ascii_one i xs front inside low = All-more (λ b. b < 0x80) xs i 0 inside front low
 
--- the first `at` bytes, of `most`, are ASCII and are copied
-pub record CopiesAscii (src old dst : List ℕ) (most at : ℕ) : Type 0 where
-  pub within : at ≤ most
-  pub ascii : AreAscii (take at src)
-  pub copied : dst ≡ take at src ++ drop at old
+-- nothing is copied yet
+pub copies_none : (src dst : List ℕ) (most : ℕ) → CopiesAscii src dst dst most 0
+copies_none src dst most = record {
+  within = omega arith;
+  ascii = λ k d inside. absurd (omega (arith, inside));
+  copied = refl;
+}
 
 module _ {src old dst : List ℕ} {most at : ℕ} (copies : CopiesAscii src old dst most at)
     (read : most ≤ length src) (room : most ≤ length old) where
@@ -81,16 +84,16 @@ module _ {src old dst : List ℕ} {most at : ℕ} (copies : CopiesAscii src old 
       (rw one at (put_one at (get_or src at 0) dst (omega (arith, dst_long))))
 
   -- by a copy from the rest to the rest
-  pub copies_on : (n : ℕ) {new : List ℕ} → n ≤ most - at
-      → AreAscii (take n (take (length src - at) (drop at src)))
-      → new ≡ take n (take (length src - at) (drop at src))
-      ++ drop n (take (length dst - at) (drop at dst))
+  pub copies_on : {n : ℕ} {new : List ℕ}
+      → CopiesAscii (take (length src - at) (drop at src)) (take (length dst - at) (drop at dst))
+      new (most - at) n
       → CopiesAscii src old (put_mid at (length dst - at) dst new) most (at + n)
-  copies_on n {new} few ascii copied =
+  copies_on {n} {new} more =
       let from = rest_is at src in
-      copies_put (omega (arith, copies.within)) (rw from at ascii)
+      copies_put (omega (arith, copies.within, more.within)) (rw from at more.ascii)
       (put_copied at n dst (drop at src) new (omega (arith, copies.within, dst_long))
-      (omega (arith, lengths)) (omega (arith, dst_long)) (rw from at copied))
+      (omega (arith, lengths, more.within)) (omega (arith, dst_long, more.within))
+      (rw from at more.copied))
 
 pub low_fails : (x : ℕ) → x < 0x80 → leb 128 x ≡ false
 low_fails x h = grind (arith, nat_tests)

@@ -2,6 +2,7 @@ pub mod AsciiLemmas
 pub mod AsciiMaskLemmas
 pub mod ByteLanes
 pub mod EndsLemmas
+pub mod FrontLanes
 pub mod LaneLemmas
 pub mod Lanes
 pub mod LengthLemmas

@@ -6,7 +6,6 @@ use Rattle.std.proofs.lemmas.Bool.Decides.{nat_tests}
 use Rattle.std.proofs.lemmas.List.{length-map, take-map, drop-map, take-append-drop, take_all}
 use Rattle.std.specs.Prelude.{All}
 use Rattle.std.specs.Char.{encode_utf8}
-use Rattle.std.specs.Int.{w32, to_le_bytes}
 use Rattle.std.proofs.lemmas.List.Elements.{All-tail, All-take}
 use Rattle.std.proofs.lemmas.Simd.{Each1-get_or, pick_l_left, pick_l-range_with_len}
 use Rattle.enc_utf8.specs.UnitWords.{unit_word, unit_word_low}
@@ -16,7 +15,6 @@ use Rattle.enc_utf8.proofs.LengthLemmas.{lengths}
 use Rattle.enc_utf8.proofs.PackedLemmas.{kept_text}
 use Rattle.enc_utf8.proofs.PackedUnitLanes.{pair_bytes, word_bytes, text_of_map}
 use Rattle.enc_utf8.proofs.UnitLanes.{low_below, high_below}
-use Rattle.enc_utf8.proofs.UnitWordsLemmas.{word_spelt}
 use Rattle.enc_utf8.proofs.UnitsLemmas.{units-append}
 use Rattle.enc_utf8.proofs.Utf8FormLemmas.{Form, One, Two, Three, Four, form_of}
 use lib.Lanes.{Each1, digits_l, number_l, pick_l}
@@ -70,21 +68,27 @@ short_text us fronts lens long short fronts_are lens_are =
 word_fits : (u : ℕ) → u < 65536 → unit_word u < 4294967296
 word_fits u fits = omega (arith, low_below u fits, high_below u)
 
-count_is : (u : ℕ) → u < 65536 → unit_word u / 0x100_0000 ≡ unit_len u
-count_is u fits = grind (arith, nat_tests)
-
-word_digits : (w : ℕ) → digits_l 0x100 4 w ≡ to_le_bytes w32 w
-word_digits w =
-    let third : w / 256 / 256 % 256 ≡ w / 65536 % 256 = omega arith in
-    let fourth : w / 256 / 256 / 256 % 256 ≡ w / 16777216 % 256 = omega arith in
-    rw (third, fourth) refl
-
-triple_spelt : (u : ℕ) → u < 65536
+word_spelt : (u : ℕ) → u < 65536
     → take (unit_len u) (digits_l 0x100 4 (unit_word u)) ≡ encode_utf8 u
-triple_spelt u fits =
-    ap (λ n. take n (digits_l 0x100 4 (unit_word u))) (sym (count_is u fits))
-    ∙ ap (take (unit_word u / 0x100_0000)) (word_digits (unit_word u))
-    ∙ (word_spelt u fits (form_of u)).1
+word_spelt u fits = spelt (form_of u)
+  where
+    spelt : Form u → take (unit_len u) (digits_l 0x100 4 (unit_word u)) ≡ encode_utf8 u
+    spelt (One low code) =
+        let word = u + (0x80 + u % 64) * 65536 in
+        let byte : word % 256 ≡ u = omega arith in
+        rw (lt-ltb u 128 low, code, byte) refl
+    spelt (Two from two code) =
+        let word = 0x80C0 + u / 64 + u % 64 * 256 + (0x80 + u % 64) * 65536 in
+        let first : word % 256 ≡ 192 + u / 64 = omega arith in
+        let second : word / 256 % 256 ≡ 128 + u % 64 = omega arith in
+        rw (le-ltb u 128 from, lt-ltb u 2048 two, code, first, second) refl
+    spelt (Three from three code) =
+        let word = 0x80E0 + u / 4096 + u / 64 % 64 * 256 + (0x80 + u % 64) * 65536 in
+        let first : word % 256 ≡ 224 + u / 4096 = omega arith in
+        let second : word / 256 % 256 ≡ 128 + u / 64 % 64 = omega arith in
+        let third : word / 256 / 256 % 256 ≡ 128 + u % 64 = omega arith in
+        rw (le-ltb u 128 (omega arith), le-ltb u 2048 from, code, first, second, third) refl
+    spelt (Four from code) = absurd (omega arith)
 
 pub word_text : (us words lens : List ℕ) → length us ≡ 4 → All (λ u. u < 65536) us
     → words ≡ map unit_word us → lens ≡ map unit_len us
@@ -92,7 +96,7 @@ pub word_text : (us words lens : List ℕ) → length us ≡ 4 → All (λ u. u 
     ≡ units_of_text encode_utf8 us
 word_text us words lens long fit words_are lens_are =
     kept_text 4 (λ u. digits_l 0x100 4 (unit_word u)) encode_utf8 unit_len (λ u. u < 65536)
-    (λ u below. refl) (λ u below. grind (arith, nat_tests)) triple_spelt us _ lens
+    (λ u below. refl) (λ u below. grind (arith, nat_tests)) word_spelt us _ lens
     (ap (λ z. digits_l 0x100 16 (number_l 4294967296 z)) words_are
     ∙ word_bytes 16 (map unit_word us) (omega (arith, long, length-map us unit_word))
     (all_mapped unit_word 65536 4294967296 word_fits us fit)

@@ -73,8 +73,8 @@ module _ (us : List ℕ) (long : length us ≡ 8) (fit : Each1 (Fits w16) us) wh
       let before = some_passes is_surrogate us 8 long (omega arith) mask mask_is some in
       (omega (arith, before.bound), scalars_before _ before)
 
--- Of a code unit: the first two bytes of its UTF-8 (low, `fronts`), the third with the number of
--- bytes above it (high, `rests`), and both as a word.
+-- Of a code unit: the first two bytes of its UTF-8 (low, `fronts`), the third (high, `rests`), and
+-- both as a word.
 
 pub same_lanes : (f g : ℕ → ℕ) → ((u : ℕ) → u < 65536 → f u ≡ g u) → (us : List ℕ)
     → Each1 (Fits w16) us → map f us ≡ map g us
@@ -90,20 +90,18 @@ front_is u fits =
     let middle_six : bit_and (u / 64) 63 ≡ u / 64 % 64 = and_mask (u / 64) 6 in
     rw (last_six, middle_six) (grind (arith, nat_tests))
 
-pub rest_is : (u : ℕ) → u < 65536
-    → cond (ltb u 0x80) 0x100 (cond (ltb u 0x800) 0x200 (add16 (bit_and u 63) 0x380))
-    ≡ unit_word_high u
+pub rest_is : (u : ℕ) → u < 65536 → add16 (bit_and u 63) 0x80 ≡ unit_word_high u
 rest_is u fits =
     let last_six : bit_and u 63 ≡ u % 64 = and_mask u 6 in
-    rw last_six (grind (arith, nat_tests))
+    rw last_six (omega arith)
 
 pub low_below : (u : ℕ) → u < 65536 → unit_word_low u < 65536
 low_below u fits = grind (arith, nat_tests)
 
-pub high_below : (u : ℕ) → unit_word_high u < 1024
-high_below u = grind (arith, nat_tests)
+pub high_below : (u : ℕ) → unit_word_high u < 256
+high_below u = omega arith
 
-pub joined : (low high : ℕ) → low < 65536 → high < 1024
+pub joined : (low high : ℕ) → low < 65536 → high < 256
     → (low + (high * 2 ^ 16) % 4294967296) % 4294967296 ≡ low + high * 65536
 joined low high low_fits high_fits = omega arith
 
@@ -126,12 +124,7 @@ module _ (us : List ℕ) (long : length us ≡ 8) (fit : Each1 (Fits w16) us) wh
   abbrev pub rests : (m : List ℕ) × (m ≡ map unit_word_high us)
   rests =
       let low = by_op (itself us) (all us long 63) bit_and in
-      let three = by_op low (all us long 0x380) add16 in
-      let more = chosen w16 _ (below 0x800).1 (all us long 0x200) three in (
-        _,
-        (chosen w16 _ (below 128).1 (all us long 256) more).is
-            ∙ same_lanes _ _ rest_is us fit,
-      )
+      (_, (by_op low (all us long 0x80) add16).is ∙ same_lanes _ _ rest_is us fit)
 
   abbrev pub words : {low high : List ℕ} → low ≡ map unit_word_low us
       → high ≡ map unit_word_high us → (m : List ℕ) × (m ≡ map unit_word us)

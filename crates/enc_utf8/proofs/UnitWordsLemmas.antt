@@ -1,100 +1,20 @@
--- The UTF-8 of code units of UTF-16 as words, and stored.
-use Rattle.std.proofs.Common.{◌≡◌, ℕ, zero, suc, ◌+◌, ◌*◌, ◌/◌, ◌%◌, ◌<◌, ◌≤◌, List, [], ◌∷◌, ◌++◌, map, length, get_or}
-use Rattle.std.proofs.Common.{take, refl, ap, ◌∙◌, sym, subst, arith, append_assoc, append-nil}
-use Rattle.std.proofs.lemmas.Bool.{lt-ltb, le-ltb}
-use Rattle.std.proofs.lemmas.List.{take_all, map-id, take-append-le}
+-- Code units of UTF-16 that are stored as UTF-8.
+use Rattle.std.proofs.Common.{◌≡◌, ℕ, zero, suc, ◌+◌, ◌-◌, ◌≤◌, List, ◌∷◌, ◌++◌, map, length, take, replicate}
+use Rattle.std.proofs.Common.{refl, ap, ◌∙◌, sym, subst, arith, append_assoc}
+use Rattle.std.proofs.lemmas.List.{length-replicate, map-id, take_all, take-append-le, take-take}
 use Rattle.std.proofs.lemmas.Simd.{take_more_put_chunk, Each1-get_or, Each1-chunk}
-use Rattle.std.proofs.Math.Seq.{take-suc, take-append-add}
+use Rattle.std.proofs.Math.Seq.{take-append_seam, take-append-add}
 use Rattle.std.specs.Char.{encode_utf8}
 use Rattle.std.specs.Char.Escape.{encode_utf16}
-use Rattle.std.specs.Prelude.{All}
-use Rattle.std.specs.Int.{to_le_bytes}
 use Rattle.enc_utf8.proofs.PieceListLemmas.{own_text}
-use Rattle.enc_utf8.specs.UnitWords.{unit_word, bytes_of_words}
 use Rattle.enc_utf8.specs.Text.{AreScalars, units_of_text}
 use Rattle.enc_utf8.specs.Validity.{AreAscii}
-use Rattle.enc_utf8.proofs.Utf8FormLemmas.{Form, One, Two, Three, Four, form_of}
-use Rattle.enc_utf8.proofs.LengthLemmas.{lengths}
+use Rattle.enc_utf8.proofs.LengthLemmas.{append_length, take_length}
 use Rattle.enc_utf8.proofs.ScalarLemmas.{scalars-append}
 use Rattle.enc_utf8.proofs.UnitsLemmas.{one_unit, ascii_units, units-append}
 use lib.Lanes.{Each1, put_chunk}
-use mir.Syntax.{w16, w32}
+use mir.Syntax.{w16}
 use mir.Val.{Fits}
-
--- the word of a code unit
-
-abbrev pub Spells : ℕ → List ℕ → Type 0
-Spells word text = (word / 0x100_0000 ≤ 4)
-    × (take (word / 0x100_0000) (to_le_bytes w32 word) ≡ text)
-
-spelt : (word n : ℕ) (text : List ℕ) → word / 0x100_0000 ≡ n → n ≤ 4
-    → take n (to_le_bytes w32 word) ≡ text
-    → Spells word text
-spelt word n text e h t = (omega arith, ap (λ k. take k (to_le_bytes w32 word)) e ∙ t)
-
-two_same : {a b x y : ℕ} → a ≡ x → b ≡ y → a ∷ b ∷ [] ≡ x ∷ y ∷ []
-two_same {b = b} {x = x} e f = ap (λ z. z ∷ b ∷ []) e ∙ ap (λ z. x ∷ z ∷ []) f
-
-three_same : {a b c x y z : ℕ} → a ≡ x → b ≡ y → c ≡ z → a ∷ b ∷ c ∷ [] ≡ x ∷ y ∷ z ∷ []
-three_same {b = b} {c = c} {x = x} e f g = ap (λ t. t ∷ b ∷ c ∷ []) e
-    ∙ ap (λ t. x ∷ t) (two_same f g)
-
-pub word_spelt : (u : ℕ) → u < 65536 → Form u → Spells (unit_word u) (encode_utf8 u)
-word_spelt u fits (One low code) =
-    let word : unit_word u ≡ 16777216 + u = rw (lt-ltb u 128 low) (omega arith) in
-    let byte : (16777216 + u) % 256 ≡ u = omega arith in
-    rw (word, code) (spelt _ 1 _ (omega arith) (omega arith) (ap (λ b. b ∷ []) byte))
-word_spelt u fits (Two from below code) =
-    let word : unit_word u ≡ 33554432 + 32960 + u / 64 + u % 64 * 256 =
-    rw (le-ltb u 128 from, lt-ltb u 2048 below) (omega arith) in
-    rw (word, code)
-    (spelt _ 2 _ (omega arith) (omega arith) (two_same (omega arith) (omega arith)))
-word_spelt u fits (Three from below code) =
-    let word : unit_word u
-    ≡ 58720256 + 32992 + u / 4096 + u / 64 % 64 * 256 + u % 64 * 65536 =
-    rw (le-ltb u 128 (omega arith), le-ltb u 2048 from) (omega arith) in
-    rw (word, code) (spelt _ 3 _ (omega arith) (omega arith)
-    (three_same (omega arith) (omega arith) (omega arith)))
-word_spelt u fits (Four from code) = absurd (omega arith)
-
-pub few_bytes : (us : List ℕ) → Each1 (Fits w16) us
-    → All (λ word. word / 0x100_0000 ≤ 4) (map unit_word us)
-few_bytes [] fit k d h = absurd (omega arith)
-few_bytes (u ∷ us) fit zero d h = (word_spelt u fit.0.fits (form_of u)).0
-few_bytes (u ∷ us) fit (suc k) d h = few_bytes us fit.1 k d (omega arith)
-
-pub words_spelt : (us : List ℕ) → Each1 (Fits w16) us → (n : ℕ)
-    → bytes_of_words (take n (map unit_word us)) ≡ units_of_text encode_utf8 (take n us)
-words_spelt us fit zero = refl
-words_spelt [] fit (suc n) = refl
-words_spelt (u ∷ us) fit (suc n) =
-    ap (λ z. z ++ bytes_of_words (take n (map unit_word us)))
-    (word_spelt u fit.0.fits (form_of u)).1
-    ∙ ap (λ z. encode_utf8 u ++ z) (words_spelt us fit.1 n)
-
--- one more word that is stored
-
-bytes-append : (vs ws : List ℕ) → bytes_of_words (vs ++ ws) ≡ bytes_of_words vs ++ bytes_of_words ws
-bytes-append [] ws = refl
-bytes-append (v ∷ vs) ws =
-    let front = take (v / 0x100_0000) (to_le_bytes w32 v) in
-    ap (λ z. front ++ z) (bytes-append vs ws)
-    ∙ sym (append_assoc front (bytes_of_words vs) (bytes_of_words ws))
-
-pub stored_word : (words : List ℕ) (count : ℕ) → count < length words
-    → (front : List ℕ) {mid after bytes : List ℕ}
-    → bytes ≡ to_le_bytes w32 (get_or words count 0)
-    → mid ≡ front ++ bytes_of_words (take count words)
-    → after ≡ mid ++ take (get_or words count 0 / 0x100_0000) bytes
-    → after ≡ front ++ bytes_of_words (take (count + 1) words)
-stored_word words count inside front {mid} bytes_are before stored =
-    let word = get_or words count 0 in
-    let next : count + 1 ≡ suc count = omega arith in
-    let more = bytes-append (take count words) (word ∷ [])
-    ∙ ap (λ z. bytes_of_words (take count words) ++ z)
-    (append-nil (take (word / 0x100_0000) (to_le_bytes w32 word))) in
-    stored ∙ rw (bytes_are, before, next, take-suc words count 0 inside, more)
-    (append_assoc front _ _)
 
 -- code units that are ASCII, as bytes
 
@@ -105,6 +25,43 @@ stored_ascii at old us long room a =
     ap (λ z. take (at + 8) (put_chunk at old z)) (map-id us)
     ∙ take_more_put_chunk at old us (at + 8) (omega arith) room
     ∙ ap (λ z. take at old ++ z) (sym (ascii_units us a))
+
+-- The first n of eight code units: each of the others is 0, which is stored as one byte.
+zeros_text : (n : ℕ) → units_of_text encode_utf8 (replicate n 0) ≡ replicate n 0
+unfolding encode_utf8
+zeros_text zero = refl
+zeros_text (suc n) = ap (λ bytes. 0 ∷ bytes) (zeros_text n)
+
+module _ (n : ℕ) (us before new : List ℕ) {end : ℕ} {first : List ℕ} (within : end ≤ length new)
+    (are : first ≡ take n us ++ replicate (8 - n) 0)
+    (stored : take end new ≡ before ++ units_of_text encode_utf8 first) where
+  abbrev front : List ℕ
+  front = before ++ units_of_text encode_utf8 (take n us)
+
+  front_and_zeros : take end new ≡ front ++ replicate (8 - n) 0
+  front_and_zeros =
+      stored ∙ rw (are, units-append, zeros_text) (sym (append_assoc before _ _))
+
+  front_long : end ≡ length front + (8 - n)
+  front_long = omega (
+    arith,
+    ap length front_and_zeros,
+    take_length end new,
+    append_length front (replicate (8 - n) 0),
+    length-replicate {A = ℕ} (8 - n) 0,
+    within,
+  )
+
+  pub others_stored : 8 - n ≤ end
+  others_stored = omega (arith, front_long)
+
+  pub front_stored : take (end - (8 - n)) new ≡ front
+  front_stored =
+      let long : end - (8 - n) ≡ length front = omega (arith, front_long) in
+      sym (take-take (end - (8 - n)) end new (omega arith))
+      ∙ ap (take (end - (8 - n))) front_and_zeros
+      ∙ ap (λ k. take k (front ++ replicate (8 - n) 0)) long
+      ∙ take-append_seam front (replicate (8 - n) 0)
 
 -- eight code units and the first n of eight more
 module _ (us vs : List ℕ) (long : length us ≡ 8) where

@@ -1,3 +1,4 @@
+pub mod AsciiCopy
 pub mod Checked
 pub mod Ends
 pub mod Letters

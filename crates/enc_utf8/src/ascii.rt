@@ -2,6 +2,7 @@
 
 ghost use Rattle.std.specs.Prelude.{◌≡◌, ◌≢◌, ◌↔◌, ◌+◌, ◌-◌, ◌≤◌, ◌<◌, ◌++◌, All, length, take, drop};
 ghost use Rattle.std.specs.Prelude.{slice_index, IsTrue};
+ghost use Rattle.enc_utf8.specs.AsciiCopy.{CopiesAscii};
 ghost use Rattle.enc_utf8.specs.Validity.{AreAscii};
 
 use std::simd::prelude::*;
@@ -101,9 +102,7 @@ pub fn ascii_len(bytes: &[u8]) -> usize
 pub fn copy_strides(src: &[u8], dst: &mut [u8], most: usize) -> usize
     requires read { most ≤ length src.now }
     requires room { most ≤ length dst.old }
-    ensures within { result ≤ most }
-    ensures ascii { AreAscii (take result src.now) }
-    ensures copied { dst.new ≡ take result src.now ++ drop result dst.old }
+    ensures { CopiesAscii src.now dst.old dst.new most result }
 {
     let mut at = 0;
     while 64 <= most - at {

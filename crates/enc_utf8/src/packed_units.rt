@@ -118,7 +118,7 @@ pub(crate) fn store_short(buffer: &mut [u8], at: usize, units: u16x8) -> usize
 /// Returns its end.
 #[inline(always)]
 pub(crate) fn store_packed(buffer: &mut [u8], at: usize, units: u16x8, words: u32x8) -> usize
-    requires room { at + 32 ≤ length buffer.old }
+    requires room { at + 28 ≤ length buffer.old }
     requires words { words ≡ map unit_word units }
     ensures bound { result ≤ at + 24 }
     ensures len { length buffer.new ≡ length buffer.old }

@@ -1,19 +1,21 @@
 //! Code units of UTF-16 stored as UTF-8, eight or sixteen at once, with no branch on their lengths.
 
-ghost use Rattle.std.specs.Prelude.{◌≡◌, ℕ, ◌+◌, ◌*◌, ◌/◌, ◌<◌, ◌≤◌, ◌++◌, All, IsTrue, length, map, take};
+ghost use Rattle.std.specs.Prelude.{◌≡◌, ℕ, ◌+◌, ◌-◌, ◌≤◌, ◌++◌, IsTrue, length, map, replicate, take};
 ghost use Rattle.std.specs.Char.{encode_utf8};
 ghost use Rattle.std.specs.Char.Escape.{encode_utf16};
-ghost use Rattle.enc_utf8.specs.UnitWords.{bytes_of_words, unit_word, unit_word_low, unit_word_high};
+ghost use Rattle.enc_utf8.specs.UnitWords.{unit_word, unit_word_low, unit_word_high};
 ghost use Rattle.enc_utf8.specs.Text.{AreScalars, units_of_text};
 ghost use Rattle.enc_utf8.specs.Validity.{AreAscii};
 
 use crate::packed_units::{are_both_short, are_short, store_packed, store_short};
-use crate::utf8_form::store_word;
 use std::simd::prelude::*;
 
 /// The room that a turn of sixteen code units takes: what they store and overwrite, and a character
 /// after them.
-pub const SCALARS_STEP: usize = 68;
+pub const SCALARS_STEP: usize = 52;
+
+/// The numbers of eight lanes.
+const LANES: [u16; 8] = [0, 1, 2, 3, 4, 5, 6, 7];
 
 /// Returns whether all of eight code units are ASCII.
 #[inline(always)]
@@ -74,52 +76,21 @@ fn fronts(units: u16x8) -> u16x8
     units.simd_lt(u16x8::splat(0x80)).select(units, more)
 }
 
-/// Returns the third byte of the UTF-8 of each code unit, with the number of bytes above it.
+/// Returns the third byte of the UTF-8 of each code unit. It is left out where there is none.
 #[inline(always)]
 fn rests(units: u16x8) -> u16x8
     ensures { result ≡ map unit_word_high units }
 {
-    let three = (units & u16x8::splat(63)) + u16x8::splat(0x380);
-    let more = units
-        .simd_lt(u16x8::splat(0x800))
-        .select(u16x8::splat(0x200), three);
-    units
-        .simd_lt(u16x8::splat(0x80))
-        .select(u16x8::splat(0x100), more)
+    (units & u16x8::splat(63)) + u16x8::splat(0x80)
 }
 
-/// Returns the UTF-8 of each code unit as a word: its bytes, the first lowest, and their number in
-/// the highest byte.
+/// Returns the UTF-8 of each code unit as a word: its bytes, the first lowest.
 #[inline(always)]
 fn words_of(units: u16x8) -> u32x8
-    ensures words { result ≡ map unit_word units }
-    ensures bound { All (λ word. word / 0x1000000 ≤ 4) result }
-    ensures utf8 { (n : ℕ) → bytes_of_words (take n result)
-        ≡ units_of_text encode_utf8 (take n units) }
+    ensures { result ≡ map unit_word units }
 {
     let rests = rests(units).cast::<u32>() << u32x8::splat(16);
     fronts(units).cast::<u32>() + rests
-}
-
-/// Stores the bytes of the first `len` words after the first `at` bytes of a buffer. Returns their
-/// end.
-#[inline(always)]
-fn store_words(buffer: &mut [u8], at: usize, words: [u32; 8], len: usize) -> usize
-    requires room { at + 32 ≤ length buffer.old }
-    requires len { len ≤ 8 }
-    requires words { All (λ word. word / 0x1000000 ≤ 4) words }
-    ensures bound { result ≤ at + 4 * len }
-    ensures len { length buffer.new ≡ length buffer.old }
-    ensures stored { take result buffer.new
-        ≡ take at buffer.old ++ bytes_of_words (take len words) }
-{
-    let mut end = at;
-    let mut count = 0;
-    while count < len {
-        end = store_word(buffer, end, words[count]);
-        count += 1;
-    }
-    end
 }
 
 /// Stores eight code units that are ASCII after the first `at` bytes of a buffer. Returns their
@@ -137,13 +108,58 @@ fn store_ascii(buffer: &mut [u8], at: usize, units: u16x8) -> usize
     at + 8
 }
 
+/// Stores the UTF-8 of eight code units after the first `at` bytes of a buffer, and three bytes for
+/// a surrogate. Returns its end.
+#[inline(always)]
+fn store_eight(buffer: &mut [u8], at: usize, units: u16x8) -> usize
+    requires room { at + 28 ≤ length buffer.old }
+    ensures bound { result ≤ at + 24 }
+    ensures len { length buffer.new ≡ length buffer.old }
+    ensures stored { take result buffer.new
+        ≡ take at buffer.old ++ units_of_text encode_utf8 units }
+{
+    if are_ascii_units(units) {
+        return store_ascii(buffer, at, units);
+    }
+    if are_short(units) {
+        return store_short(buffer, at, units);
+    }
+    store_packed(buffer, at, units, words_of(units))
+}
+
+/// Returns the first `count` of eight code units, and 0 in place of the others.
+#[inline(always)]
+fn front_units(units: u16x8, count: usize) -> u16x8
+    requires bound { count ≤ 8 }
+    ensures { result ≡ take count units ++ replicate (8 - count) 0 }
+{
+    let is_front = u16x8::from_array(LANES).simd_lt(u16x8::splat(count as u16));
+    is_front.select(units, u16x8::splat(0))
+}
+
+/// Stores the UTF-8 of the first `count` of eight code units after the first `at` bytes of a
+/// buffer. Returns its end.
+#[inline(always)]
+fn store_front(buffer: &mut [u8], at: usize, units: u16x8, count: usize) -> usize
+    requires room { at + 28 ≤ length buffer.old }
+    requires bound { count ≤ 8 }
+    ensures bound { result ≤ at + 24 }
+    ensures len { length buffer.new ≡ length buffer.old }
+    ensures stored { take result buffer.new
+        ≡ take at buffer.old ++ units_of_text encode_utf8 (take count units) }
+{
+    // each of the others is stored as one byte
+    let end = store_eight(buffer, at, front_units(units, count));
+    end - (8 - count)
+}
+
 /// Stores the UTF-8 of the code units before the first surrogate after the first `at` bytes of a
 /// buffer. Returns their number and the end of their UTF-8.
 #[inline(always)]
 pub fn store_scalars(buffer: &mut [u8], at: usize, units: u16x8) -> (usize, usize)
-    requires room { at + 32 ≤ length buffer.old }
+    requires room { at + 28 ≤ length buffer.old }
     ensures few { result.0 ≤ 8 }
-    ensures bound { result.1 ≤ at + 32 }
+    ensures bound { result.1 ≤ at + 24 }
     ensures len { length buffer.new ≡ length buffer.old }
     ensures scalars { AreScalars (take result.0 units) }
     ensures stored { take result.1 buffer.new
@@ -159,11 +175,10 @@ pub fn store_scalars(buffer: &mut [u8], at: usize, units: u16x8) -> (usize, usiz
     if count == 0 {
         return (0, at);
     }
-    let words = words_of(units);
     if count == 8 {
-        return (8, store_packed(buffer, at, units, words));
+        return (8, store_packed(buffer, at, units, words_of(units)));
     }
-    (count, store_words(buffer, at, words.to_array(), count))
+    (count, store_front(buffer, at, units, count))
 }
 
 /// Stores the UTF-8 of eight code units and of eight more, before the first surrogate, after the
@@ -175,9 +190,9 @@ pub fn store_sixteen_scalars(
     units: u16x8,
     next: u16x8,
 ) -> (usize, usize)
-    requires room { at + 64 ≤ length buffer.old }
+    requires room { at + 52 ≤ length buffer.old }
     ensures few { result.0 ≤ 16 }
-    ensures bound { result.1 ≤ at + 64 }
+    ensures bound { result.1 ≤ at + 48 }
     ensures len { length buffer.new ≡ length buffer.old }
     ensures scalars { AreScalars (take result.0 (units ++ next)) }
     ensures stored { take result.1 buffer.new
@@ -195,14 +210,11 @@ pub fn store_sixteen_scalars(
         let middle = store_packed(buffer, at, units, words_of(units));
         return (16, store_packed(buffer, middle, next, words_of(next)));
     }
-    // surrogates may follow one another
-    if units.to_array()[0] / 0x800 == 27 {
-        return (0, at);
-    }
-    let (count, middle) = store_scalars(buffer, at, units);
+    let count = units_before_surrogate(units);
     if count < 8 {
-        return (count, middle);
+        return (count, store_front(buffer, at, units, count));
     }
-    let (more, end) = store_scalars(buffer, middle, next);
-    (8 + more, end)
+    let middle = store_eight(buffer, at, units);
+    let more = units_before_surrogate(next);
+    (8 + more, store_front(buffer, middle, next, more))
 }

@@ -1,5 +1,5 @@
 use Rattle.std.proofs.Common.{◌-◌}
-use Rattle.enc_utf8.proofs.AsciiLemmas.{CopiesAscii}
+use Rattle.enc_utf8.specs.AsciiCopy.{CopiesAscii}
 use Rattle.enc_input.proofs.utf16_mapped.copy_steps.Given as goal
 
 abbrev pub invariant-loop-more : goal.invariant-loop-more

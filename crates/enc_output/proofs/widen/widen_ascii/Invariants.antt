@@ -1,5 +1,5 @@
 use Rattle.std.proofs.Common.{◌-◌}
-use Rattle.enc_utf8.proofs.AsciiLemmas.{CopiesAscii}
+use Rattle.enc_utf8.specs.AsciiCopy.{CopiesAscii}
 use Rattle.enc_output.proofs.widen.widen_ascii.Given as goal
 
 abbrev pub invariant-loop-at : goal.invariant-loop-at

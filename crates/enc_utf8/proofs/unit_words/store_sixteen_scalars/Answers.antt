@@ -46,27 +46,25 @@ returns-then-are_scalars-clause-stored c =
 
 pub returns-then-count-lt8-clause-scalars : goal.returns-then-count-lt8-clause-scalars
 returns-then-count-lt8-clause-scalars c =
-    let first = c.store_scalars-count.ensures in
-    subst AreScalars (sym (front_of_both _ c.args.units c.args.next first.few c.fits-units.0))
-    first.scalars
+    let before = c.units_before_surrogate-count.ensures in
+    subst AreScalars (sym (front_of_both _ c.args.units c.args.next before.bound c.fits-units.0))
+    before.scalars
 
 pub returns-then-count-lt8-clause-stored : goal.returns-then-count-lt8-clause-stored
 returns-then-count-lt8-clause-stored c =
-    let first = c.store_scalars-count.ensures in
-    first.stored ∙ ap (λ us. take c.args.at c.args.buffer.now ++ units_of_text encode_utf8 us)
-    (sym (front_of_both _ c.args.units c.args.next first.few c.fits-units.0))
+    let before = c.units_before_surrogate-count.ensures in
+    c.store_front.ensures.stored
+    ∙ ap (λ us. take c.args.at c.args.buffer.now ++ units_of_text encode_utf8 us)
+    (sym (front_of_both _ c.args.units c.args.next before.bound c.fits-units.0))
 
 pub returns-clause-scalars : goal.returns-clause-scalars
 returns-clause-scalars c =
-    let first = c.store_scalars-count.ensures in
-    let all = all_eight _ c.args.units c.fits-units.0 first.few (omega arith) in
-    both_scalars c.args.units c.args.next c.fits-units.0 _ (subst AreScalars all first.scalars)
-    c.store_scalars-more.ensures.scalars
+    let before = c.units_before_surrogate-count.ensures in
+    let all = all_eight _ c.args.units c.fits-units.0 before.bound (omega arith) in
+    both_scalars c.args.units c.args.next c.fits-units.0 _ (subst AreScalars all before.scalars)
+    c.units_before_surrogate-more.ensures.scalars
 
 pub returns-clause-stored : goal.returns-clause-stored
 returns-clause-stored c =
-    let first = c.store_scalars-count.ensures in
-    let all = all_eight _ c.args.units c.fits-units.0 first.few (omega arith) in
-    both_stored c.args.units c.args.next c.fits-units.0 _ _
-    (first.stored ∙ ap (λ us. take c.args.at c.args.buffer.now ++ units_of_text encode_utf8 us) all)
-    c.store_scalars-more.ensures.stored
+    both_stored c.args.units c.args.next c.fits-units.0 _ _ c.store_eight-middle.ensures.stored
+    c.store_front-2.ensures.stored

@@ -3,7 +3,7 @@ use Rattle.enc_utf8.proofs.LengthLemmas.{lengths}
 use Rattle.enc_output.specs.CodeUnits.{units_of_bytes}
 use Rattle.enc_output.proofs.CodeUnitsLemmas.{units_put, units_joined}
 use Rattle.enc_output.proofs.GatherLemmas.{stored}
-use Rattle.enc_output.proofs.buffer.Buffer+u8.store_pairs.Goals as goal
+use Rattle.enc_output.proofs.buffer.Buffer+u8.store_long_units.Goals as goal
 
 pub returns-clause-puts : goal.returns-clause-puts
 returns-clause-puts g c src long are_bytes are_more =

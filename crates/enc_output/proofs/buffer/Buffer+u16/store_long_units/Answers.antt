@@ -6,7 +6,7 @@ use Rattle.enc_utf8.proofs.LengthLemmas.{lengths}
 use Rattle.enc_output.specs.CodeUnits.{units_of_bytes}
 use Rattle.enc_output.proofs.CodeUnitsLemmas.{lanes_units}
 use Rattle.enc_output.proofs.PiecesLemmas.{then_rest}
-use Rattle.enc_output.proofs.buffer.Buffer+u16.store_pairs.Goals as goal
+use Rattle.enc_output.proofs.buffer.Buffer+u16.store_long_units.Goals as goal
 
 pub returns-then-are_scalars-clause-puts : goal.returns-then-are_scalars-clause-puts
 returns-then-are_scalars-clause-puts g c src long are_bytes are_more =
