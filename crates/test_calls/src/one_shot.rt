@@ -195,19 +195,19 @@ fn two_encodings_have_two_names_for_debugging(rt: HostRuntime) -> Result<(), Fai
 fn decoders_and_encoders_have_debug_texts(rt: HostRuntime) -> Result<(), Fail> {
     let mut decoder = UTF_8.new_decoder();
     let text = format!(in rt.alloc(); "{decoder:?}")?;
-    let want = "Decoder { encoding: Encoding { id: Utf8 }, finished: false }";
+    let want = "Decoder { encoding: Encoding { UTF-8 }, finished: false }";
     assert!(rt; text.as_str() == want);
     let _ = decoder.decode_to_utf8(b"", &mut [], true);
     let text = format!(in rt.alloc(); "{decoder:?}")?;
-    let want = "Decoder { encoding: Encoding { id: Utf8 }, finished: true }";
+    let want = "Decoder { encoding: Encoding { UTF-8 }, finished: true }";
     assert!(rt; text.as_str() == want);
     let mut encoder = ISO_2022_JP.new_encoder();
     let text = format!(in rt.alloc(); "{encoder:?}")?;
-    let want = "Encoder { encoding: Encoding { id: Iso2022Jp }, pending: false }";
+    let want = "Encoder { encoding: Encoding { ISO-2022-JP }, pending: false }";
     assert!(rt; text.as_str() == want);
     let _ = encoder.encode_from_utf8_without_replacement("あ", &mut [0; 8], false);
     let text = format!(in rt.alloc(); "{encoder:?}")?;
-    let want = "Encoder { encoding: Encoding { id: Iso2022Jp }, pending: true }";
+    let want = "Encoder { encoding: Encoding { ISO-2022-JP }, pending: true }";
     assert!(rt; text.as_str() == want);
     Ok(())
 }

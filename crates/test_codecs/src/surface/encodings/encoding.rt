@@ -12,8 +12,8 @@ fn an_encoding_is_copied_compared_hashed_and_printed(rt: HostRuntime) -> Result<
     let (first, second) = copies(UTF_8)?;
     assert!(rt; are_equal(&first, &second) && hash_of(&first) == hash_of(&second));
     assert!(rt; !are_equal(&UTF_8, &SHIFT_JIS) && hash_of(&UTF_8) != hash_of(&SHIFT_JIS));
-    let text = debug_text(rt.alloc(), &UTF_8)?;
-    assert!(rt; text.as_str().starts_with("Encoding {"));
+    assert!(rt; debug_text(rt.alloc(), &SHIFT_JIS)?.as_str() == "Encoding { Shift_JIS }");
+    assert!(rt; debug_text(rt.alloc(), &UTF_16BE)?.as_str() == "Encoding { UTF-16BE }");
     Ok(())
 }
 
