@@ -4,7 +4,7 @@ use Rattle.std.proofs.Common.{take, drop, Option, None, inl, inr, refl, ap, ◌�
 use Rattle.std.proofs.Common.{nat_eq, ◌||◌}
 use Rattle.std.proofs.Math.ListN.{length-drop}
 use Rattle.std.proofs.lemmas.List.{length-take}
-use Rattle.enc_decoder.specs.Sequence.{sequence_bytes}
+use Rattle.enc_decoder.specs.Sequence.{Sequence, sequence_bytes}
 use Rattle.enc_decoder.specs.Segmentation.{sequences_of}
 use Rattle.enc_decoder.specs.Remainder.{IsUndetermined}
 use Rattle.enc_decoder.proofs.FirstSequenceLemmas.{true_or_false}
@@ -20,11 +20,13 @@ use Rattle.enc_stream.proofs.FoundMarkLemmas.{looked_for_have}
 use Rattle.enc_stream.proofs.RemainingRuleLemmas.{unmarked_remaining}
 use Rattle.enc_stream.proofs.WholeInputLemmas.{joined, remaining_bytes}
 use Rattle.enc_stream.proofs.EndOfInputLemmas.{none_left}
-use Rattle.enc_stream.proofs.FaultLemmas.{no_faults, faults-append}
-use Rattle.enc_reader.specs.Source.{ConsumesRemaining, IsExhausted}
+use Rattle.enc_stream.proofs.FaultLemmas.{faults-append}
+use Rattle.enc_reader.specs.Source.{IsExhausted}
+use Rattle.std.specs.Io.KnownBytes.{Consumes}
 use Rattle.enc_reader.specs.Reading.{ReaderState, ReadsOwed, HandsOut, fresh_reader, owed_sequences}
 use Rattle.enc_reader.specs.Turn.{IsTurn}
-use Rattle.enc_reader.specs.Counting.{HasGiven, owed_faults, PassesFaults, CountsBytes, PullsCounted}
+use Rattle.enc_reader.specs.Counting.{HasGiven, owed_faults, CountsBytes, PullsCounted}
+use Rattle.enc_reader.specs.Counting.{Finds, owed_by, Passes}
 use Rattle.enc_reader.specs.Counting.{HandsOutCounted}
 use Rattle.enc_reader.proofs.ReadingLemmas.{ReaderPlace, reader_at, HasRead, HasRead-turn, HasRead-more}
 use Rattle.enc_reader.proofs.ReadingLemmas.{PullsChunk-after}
@@ -66,7 +68,12 @@ pub none_found_at_start : (handling : BomHandling) (e : Encoding)
     → find_mark (marks_looked_for handling e) [] ≡ None
 none_found_at_start = looked_for_have (λ marks. find_mark marks [] ≡ None) refl refl refl refl refl
 
--- The faults passed are those of the sequences done.
+-- What joined sequences have is joined.
+abbrev pub Joins : {A : Type 0} → Finds A → Type 0
+Joins found = (at : ℕ) (ss ts : List Sequence) → found at (ss ++ ts)
+    ≡ found at ss ++ found (at + length (sequence_bytes ss)) ts
+
+-- What is passed is that of the sequences done.
 module _ {k₀ k₁ : Option (List ℕ)} {old new : ReaderState} {bytes wrote : List ℕ}
     {malformed : Bool} where
   module _ (reads_owed : ReadsOwed k₀ k₁ old new bytes wrote malformed) (given : ℕ)
@@ -88,31 +95,35 @@ module _ {k₀ k₁ : Option (List ℕ)} {old new : ReaderState} {bytes wrote : 
       length-append (sequence_bytes reads_owed.done) (sequence_bytes (owed_sequences new z)),
     )
 
-    pub passes_done : owed_faults given old (bytes ++ z)
-        ≡ faults_from first_offset reads_owed.done ++ owed_faults (given + length bytes) new z
-    passes_done =
-        ap (faults_from first_offset) (reads_owed.residual z ends)
-        ∙ faults-append first_offset reads_owed.done (owed_sequences new z)
-        ∙ ap (λ n. faults_from first_offset reads_owed.done ++ faults_from n (owed_sequences new z))
+    -- what they have, if that of joined sequences is joined
+    pub passes_done : {A : Type 0} (found : Finds A) → Joins found
+        → owed_by found given old (bytes ++ z)
+        ≡ found first_offset reads_owed.done ++ owed_by found (given + length bytes) new z
+    passes_done found joins =
+        ap (found first_offset) (reads_owed.residual z ends)
+        ∙ joins first_offset reads_owed.done (owed_sequences new z)
+        ∙ ap (λ n. found first_offset reads_owed.done ++ found n (owed_sequences new z))
         offset_after
 
--- where none of the sequences done is malformed
+-- where none of the sequences done has anything
 pub passes_none : {k₀ k₁ : Option (List ℕ)} {old new : ReaderState} {bytes wrote : List ℕ}
-    → ReadsOwed k₀ k₁ old new bytes wrote false → (given : ℕ)
-    → length old.unread + length old.decoder.pending ≤ given → PassesFaults given old new bytes []
-passes_none {old = old} {new = new} {bytes = bytes} reads_owed given among z ends =
-    passes_done reads_owed given among z ends
-    ∙ ap (λ faults. faults ++ owed_faults (given + length bytes) new z)
-    (no_faults (first_offset reads_owed given among z ends) reads_owed.done
-    (sym reads_owed.flag))
+    {malformed : Bool} {A : Type 0} (found : Finds A) → Joins found
+    → (reads_owed : ReadsOwed k₀ k₁ old new bytes wrote malformed)
+    → ((at : ℕ) → found at reads_owed.done ≡ []) → (given : ℕ)
+    → length old.unread + length old.decoder.pending ≤ given → Passes found given old new bytes []
+passes_none {old = old} {new = new} {bytes = bytes} found joins reads_owed none given among z ends =
+    passes_done reads_owed given among z ends found joins
+    ∙ ap (λ passed. passed ++ owed_by found (given + length bytes) new z)
+    (none (first_offset reads_owed given among z ends))
 
 -- two steps, of which the second gives no bytes
-pub PassesFaults-turn : (given : ℕ) (a b c : ReaderState) (x : List ℕ) (faults : List (ℕ × ℕ))
-    → (b.ended ≡ true → c.ended ≡ true) → PassesFaults given a b x []
-    → PassesFaults (given + length x) b c [] faults → PassesFaults given a c x faults
-PassesFaults-turn given a b c x faults stays_ended first turn z ends =
+pub Passes-turn : {A : Type 0} (found : Finds A) (given : ℕ) (a b c : ReaderState) (x : List ℕ)
+    (passed : List A) → (b.ended ≡ true → c.ended ≡ true) → Passes found given a b x []
+    → Passes found (given + length x) b c [] passed → Passes found given a c x passed
+Passes-turn found given a b c x passed stays_ended first turn z ends =
     let same : given + length x + 0 ≡ given + length x = omega arith in
-    first z (λ e. ends (stays_ended e)) ∙ turn z ends ∙ ap (λ n. faults ++ owed_faults n c z) same
+    first z (λ e. ends (stays_ended e)) ∙ turn z ends
+    ∙ ap (λ n. passed ++ owed_by found n c z) same
 
 -- the count
 
@@ -152,7 +163,7 @@ module _ {k₀ k₁ : Option (List ℕ)} {old new : ReaderState} {n₀ n₁ : �
     counts = counts;
     replaced = λ given has z ends. (
       faults_from (first_offset hands_out.reads given has.among z ends) hands_out.reads.done,
-      passes_done hands_out.reads given has.among z ends,
+      passes_done hands_out.reads given has.among z ends faults_from faults-append,
     );
   }
 
@@ -174,7 +185,7 @@ module _ {t₀ t₁ : Option (List ℕ)} {d : DecoderState} {ended : Bool} {xs :
   where
     pub PullsCounted-after : (held n : ℕ) (ys : List ℕ)
         → ended ≡ false → has_finished d ≡ false → take held ys ≡ xs → n ≤ length ys - held
-        → ConsumesRemaining t₀ t₁ (take n (drop held ys)) → n₁ ≡ min (n₀ + n) (2 ^ 64 - 1)
+        → Consumes t₀ t₁ (take n (drop held ys)) → n₁ ≡ min (n₀ + n) (2 ^ 64 - 1)
         → PullsCounted t₀ t₁ (record { decoder = d; unread = xs; ended = ended })
         (record { decoder = d; unread = take (held + n - 0) (drop 0 ys); ended = nat_eq n 0 }) n₀ n₁
     PullsCounted-after held n ys not_ended going held_are bound given counted =

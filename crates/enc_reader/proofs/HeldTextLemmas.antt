@@ -155,8 +155,9 @@ text_of ss = units_of_text encode_utf8 (sequence_text ss)
 pub takes_known : (t₀ t₁ : Option (List ℕ)) (a b : TextState) (w : List ℕ)
     → TakesText t₀ t₁ a b w → (b.reader.ended ≡ true → IsExhausted t₁)
     → Consumes (remaining_text t₀ a) (remaining_text t₁ b) w
-takes_known t₀ None a b w takes exhausted = rw takes.reads.given tt
-takes_known t₀ (Some z) a b w takes exhausted =
+takes_known None t₁ a b w takes exhausted = tt
+takes_known (Some x) None a b w takes exhausted = absurd takes.reads.given
+takes_known (Some x) (Some z) a b w takes exhausted =
     let owed = text_of (owed_sequences b.reader z) in
     let whole : owed_text a (takes.bytes ++ z) ≡ w ++ owed_text b z =
     ap (λ ss. a.held ++ text_of ss)
@@ -167,7 +168,7 @@ takes_known t₀ (Some z) a b w takes exhausted =
     ∙ ap (λ l. (a.held ++ l) ++ owed) (sym takes.reads.text)
     ∙ ap (λ l. l ++ owed) takes.held
     ∙ append_assoc w b.held owed in
-    rw takes.reads.given whole
+    ap (owed_text a) takes.reads.given ∙ whole
 
 pub keeps_known : (p q : Option (List ℕ)) → Consumes p q [] → Keeps p q
 keeps_known None q consumes = tt

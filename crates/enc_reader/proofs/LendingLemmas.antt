@@ -29,8 +29,10 @@ use Rattle.enc_reader.specs.Reading.{NoneDetermined, NoTextDetermined}
 use Rattle.enc_reader.proofs.NextSequenceLemmas.{none_determined_is_no_text}
 use Rattle.enc_reader.specs.Turn.{AreOwnBytes, FillsBuffer, IsOwnText}
 use Rattle.enc_reader.specs.Counting.{HasGiven, CountsBytes, FillsCounted, HandsOutCounted}
-use Rattle.enc_reader.proofs.SourceLemmas.{ConsumesRemaining-none}
+use Rattle.std.proofs.KnownBytes.{Consumes-nil}
 use Rattle.enc_reader.proofs.ReadingLemmas.{reader_at, ReadsOwed-none, ReadsOwed-then, before_end}
+use Rattle.enc_reader.proofs.ReadingLemmas.{FailsToRead-kept}
+use Rattle.std.specs.Io.KnownBytes.{Keeps}
 use Rattle.enc_reader.proofs.TurnLemmas.{left_of}
 use Rattle.enc_reader.proofs.CountingLemmas.{HasGiven-then, HandsOutCounted-by}
 
@@ -103,7 +105,7 @@ module _ (d : DecoderState) (src : List ℕ) (ended : Bool) (n : ℕ) (within : 
   pub ReadsOwed-lent : (source : Option (List ℕ))
       → ReadsOwed source source before after [] (take n src) false
   ReadsOwed-lent source = record {
-    given = ConsumesRemaining-none source;
+    given = Consumes-nil source;
     none_after = λ e. (refl, e);
     done = own has.text;
     residual = λ z h. comes_first z;
@@ -159,12 +161,12 @@ HandsOut-chunk source d filled at n xs ended had within_filled w within o none =
 -- a chunk that can't be pulled
 pub FailsToRead-pull : {t₀ t₁ : Option (List ℕ)} {failed_before failed_after : Bool}
     {a b : ReaderState}
-    → t₁ ≡ t₀ → failed_after ≡ true → b ≡ a
+    → Keeps t₀ t₁ → failed_after ≡ true → b ≡ a
     → a.ended ≡ false → failed_before ≡ false → NoneDetermined a
     → FailsToRead t₀ t₁ failed_before failed_after a b
-FailsToRead-pull {t₀ = t₀} {a = a} same failed stays unended going none =
-    rw (same, stays)
-    (record {
+FailsToRead-pull {t₀ = t₀} {t₁ = t₁} {a = a} kept failed stays unended going none =
+    rw stays
+    (FailsToRead-kept t₀ t₀ t₁ kept record {
       bytes = [];
       reads = ReadsOwed-none t₀ a;
       none_determined = none;

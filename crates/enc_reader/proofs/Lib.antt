@@ -1,9 +1,12 @@
 pub mod SourceLemmas
+pub mod RecentLemmas
 pub mod NextSequenceLemmas
 pub mod ReadingLemmas
+pub mod ItemLemmas
 pub mod CountingLemmas
 pub mod TurnLemmas
 pub mod ReportingLemmas
+pub mod ReportedFaultLemmas
 pub mod LendingLemmas
 pub mod FillingLemmas
 pub mod LongTextLemmas

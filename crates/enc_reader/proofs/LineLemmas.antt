@@ -12,7 +12,7 @@ use Rattle.enc_reader.specs.Source.{IsExhausted}
 use Rattle.enc_reader.specs.Reading.{FailsToRead}
 use Rattle.enc_reader.specs.HeldText.{TextState, TakesText, IsTextAtEnd, EndsWithByte, AppendsText, AppendsLine}
 use Rattle.enc_reader.specs.HeldText.{SourceFails, remaining_text}
-use Rattle.enc_reader.proofs.SourceLemmas.{ConsumesRemaining-then}
+use Rattle.std.proofs.KnownBytes.{Consumes-trans}
 use Rattle.enc_reader.proofs.HeldTextLemmas.{TakesText-none, TakesText-then, TakesText-held, takes_known}
 
 abbrev is_no_feed : ℕ → Type 0
@@ -143,7 +143,7 @@ module _ {t₀ t₁ t₂ : Option (List ℕ)} {failed_before failed_between fail
     none_held = none_held;
     none_determined = fails.none_determined;
     bytes = so_far.takes.bytes ++ fails.bytes;
-    given = ConsumesRemaining-then t₀ t₁ t₂ so_far.takes.bytes fails.bytes
+    given = Consumes-trans t₀ t₁ t₂ so_far.takes.bytes fails.bytes
         so_far.takes.reads.given fails.reads.given;
     not_before = sym kept ∙ fails.not_before;
     why = elim fails.why [

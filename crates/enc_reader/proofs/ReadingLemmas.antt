@@ -14,12 +14,12 @@ use Rattle.enc_utf8.proofs.UnitsLemmas.{text_utf8}
 use Rattle.enc_decoder.specs.Sequence.{sequence_text, any_malformed}
 use Rattle.enc_decoder.proofs.SequenceLemmas.{units-append, any_malformed-append, scalars_of-append}
 use Rattle.enc_stream.specs.Decoding.{DecoderState, has_finished, remaining_sequences}
-use Rattle.enc_reader.specs.Source.{ConsumesRemaining}
+use Rattle.std.specs.Io.KnownBytes.{Consumes, Keeps}
 use Rattle.enc_reader.specs.Reading.{ReaderState, ReadsOwed, FailsToRead, NoTextDetermined}
 use Rattle.enc_reader.specs.Reading.{owed_sequences, owed_encoding}
 use Rattle.enc_reader.specs.Reading.{distance_to_end}
 use Rattle.enc_reader.specs.Turn.{IsWaiting, PullsChunk, IsTurn}
-use Rattle.enc_reader.proofs.SourceLemmas.{ConsumesRemaining-none, ConsumesRemaining-then}
+use Rattle.std.proofs.KnownBytes.{Consumes-nil, Consumes-trans, Consumes-kept}
 use Rattle.enc_reader.proofs.NextSequenceLemmas.{no_text_before, unreplaced, waiting_determines_none}
 
 -- A reader over a source that models these bytes.
@@ -34,7 +34,7 @@ reader_at remaining state = record { remaining = remaining; state = state }
 pub ReadsOwed-none : (known : Option (List ℕ)) (s : ReaderState)
     → ReadsOwed known known s s [] [] false
 ReadsOwed-none known s = record {
-  given = ConsumesRemaining-none known;
+  given = Consumes-nil known;
   none_after = λ e. (refl, e);
   done = [];
   residual = λ z h. refl;
@@ -55,7 +55,7 @@ ReadsOwed-then a b c {x = x} {y = y} {w₁ = w₁} {w₂ = w₂} {m₂ = m₂} f
     → y ++ z ≡ [] =
     λ z h e. let ended = then_more.none_after e in ap (λ u. u ++ z) ended.0 ∙ h ended.1 in
     record {
-      given = ConsumesRemaining-then a.remaining b.remaining c.remaining x y first.given
+      given = Consumes-trans a.remaining b.remaining c.remaining x y first.given
           then_more.given;
       none_after = λ e. let first_ended = first.none_after e in
           let then_ended = then_more.none_after first_ended.1 in
@@ -91,7 +91,7 @@ before_end s f = ap (λ b. if b then 0 else 1 + (2 * length s.unread + length s.
 abbrev pub PullsChunk-after : {t₀ t₁ : Option (List ℕ)} {d : DecoderState} {ended : Bool}
     {xs : List ℕ} (held n : ℕ) (ys : List ℕ)
     → ended ≡ false → has_finished d ≡ false → take held ys ≡ xs → n ≤ length ys - held
-    → ConsumesRemaining t₀ t₁ (take n (drop held ys))
+    → Consumes t₀ t₁ (take n (drop held ys))
     → PullsChunk t₀ t₁ (record { decoder = d; unread = xs; ended = ended })
     (record { decoder = d; unread = take (held + n - 0) (drop 0 ys); ended = nat_eq n 0 })
 PullsChunk-after {d = d} {ended = ended} {xs = xs} held n ys not_ended going held_are bound given =
@@ -200,6 +200,34 @@ FailsToRead-waiting {start = start} {now = now} read going why = record {
   not_ended = (read.waiting refl).not_ended;
   not_before = going;
   why = why;
+}
+
+-- the same after a pull that fails, which gives nothing
+pub ReadsOwed-kept : (t₀ t₁ t₂ : Option (List ℕ)) {a b : ReaderState} {bytes wrote : List ℕ}
+    {malformed : Bool} → Keeps t₁ t₂ → ReadsOwed t₀ t₁ a b bytes wrote malformed
+    → ReadsOwed t₀ t₂ a b bytes wrote malformed
+ReadsOwed-kept t₀ t₁ t₂ {bytes = bytes} kept reads = record {
+  given = Consumes-kept t₀ t₁ t₂ bytes reads.given kept;
+  none_after = reads.none_after;
+  done = reads.done;
+  residual = reads.residual;
+  encoding = reads.encoding;
+  scalars = reads.scalars;
+  text = reads.text;
+  flag = reads.flag;
+  nearer = reads.nearer;
+}
+
+pub FailsToRead-kept : (t₀ t₁ t₂ : Option (List ℕ)) {failed_before failed_after : Bool}
+    {a b : ReaderState} → Keeps t₁ t₂ → FailsToRead t₀ t₁ failed_before failed_after a b
+    → FailsToRead t₀ t₂ failed_before failed_after a b
+FailsToRead-kept t₀ t₁ t₂ kept fails = record {
+  bytes = fails.bytes;
+  reads = ReadsOwed-kept t₀ t₁ t₂ kept fails.reads;
+  none_determined = fails.none_determined;
+  not_ended = fails.not_ended;
+  not_before = fails.not_before;
+  why = fails.why;
 }
 
 -- the text handed out is UTF-8

@@ -1,27 +1,10 @@
 -- What a source gives, over several pulls.
-use Rattle.std.proofs.Common.{◌≡◌, ℕ, List, [], ◌++◌, Option, Some, None, refl, ap, ◌∙◌, sym, append_assoc}
+use Rattle.std.proofs.Common.{ℕ, List, Option, Some, None, refl, ap, ◌∙◌, sym}
 use Rattle.std.specs.declared.result.Result.{Result}
 use Rattle.std.specs.Prelude.{Ok, Err, OnErr}
-use Rattle.std.specs.Io.KnownBytes.{prepend_known, IsAtEnd, Keeps, ReadConsumes}
+use Rattle.std.specs.Io.KnownBytes.{IsAtEnd, Keeps, ReadConsumes}
 use Rattle.std.proofs.KnownBytes.{Keeps-trans}
-use Rattle.enc_reader.specs.Source.{ConsumesRemaining, IsExhausted}
-
-prepend_known-nil : (known : Option (List ℕ)) → prepend_known [] known ≡ known
-prepend_known-nil None = refl
-prepend_known-nil (Some xs) = refl
-
-prepend_known-append : (known : Option (List ℕ)) (a b : List ℕ)
-    → prepend_known a (prepend_known b known) ≡ prepend_known (a ++ b) known
-prepend_known-append None a b = refl
-prepend_known-append (Some xs) a b = ap Some (sym (append_assoc a b xs))
-
-pub ConsumesRemaining-none : (known : Option (List ℕ)) → ConsumesRemaining known known []
-ConsumesRemaining-none known = sym (prepend_known-nil known)
-
-pub ConsumesRemaining-then : (k₀ k₁ k₂ : Option (List ℕ)) (a b : List ℕ) → ConsumesRemaining k₀ k₁ a
-    → ConsumesRemaining k₁ k₂ b → ConsumesRemaining k₀ k₂ (a ++ b)
-ConsumesRemaining-then k₀ k₁ k₂ a b h₁ h₂ = h₁ ∙ ap (λ k. prepend_known a k) h₂
-    ∙ prepend_known-append k₂ a b
+use Rattle.enc_reader.specs.Source.{IsExhausted}
 
 -- At the end no byte is still to come.
 pub none_more : (known : Option (List ℕ)) → IsAtEnd known → IsExhausted known

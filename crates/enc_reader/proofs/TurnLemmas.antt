@@ -1,15 +1,16 @@
 -- What a turn of the decoder hands out.
 use Rattle.std.proofs.Common.{◌≡◌, ℕ, ◌+◌, ◌-◌, ◌*◌, ◌^◌, ◌<◌, ◌≤◌, min, inl, inr, Bool, true, false, List, [], ◌∷◌}
 use Rattle.std.proofs.Common.{length, take, drop, Option, None, refl, ap, ◌∙◌, sym, subst, arith}
-use Rattle.std.proofs.Common.{◌&&◌, not, nat_eq, drop-drop}
+use Rattle.std.proofs.Common.{◌&&◌, not, nat_eq, drop-drop, ◌++◌, append_assoc}
+use Rattle.std.proofs.Math.Seq.{take-add}
 use Rattle.std.proofs.Math.ListN.{length-drop}
 use Rattle.std.proofs.Math.Seq.{drop-length}
-use Rattle.std.proofs.lemmas.List.{drop-take, length-take}
+use Rattle.std.proofs.lemmas.List.{drop-take, length-take, take-take}
 use Rattle.std.proofs.lemmas.Bool.{false≢true, eqb-false}
 use Rattle.enc_decoder.proofs.FirstSequenceLemmas.{true_or_false}
 use Rattle.std.specs.Char.{encode_utf8}
 use Rattle.enc_utf8.specs.Text.{AreScalars, units_of_text}
-use Rattle.enc_decoder.specs.Sequence.{Sequence, sequence_text, any_malformed}
+use Rattle.enc_decoder.specs.Sequence.{Sequence, sequence_text, sequence_bytes, any_malformed}
 use Rattle.enc_decoder.specs.declared.error_mode.ErrorMode.{ErrorMode}
 use Rattle.enc_decoder.specs.declared.error_mode.ErrorMode.TheVariants.{Replacement}
 use Rattle.enc_decoder.specs.CallRecord.{Call}
@@ -29,9 +30,11 @@ use Rattle.enc_reader.specs.Reading.{distance_to_end}
 use Rattle.enc_reader.specs.Turn.{IsWaiting, IsTurn}
 use Rattle.enc_reader.specs.Counting.{CountsBytes}
 use Rattle.enc_reader.specs.Reporting.{lens_of_result}
+use Rattle.enc_reader.specs.Recent.{SameEnd}
+use Rattle.enc_reader.proofs.RecentLemmas.{SameEnd-append, SameEnd-left}
 use Rattle.enc_reader.proofs.ReadingLemmas.{ended_at, before_end}
 use Rattle.enc_reader.proofs.NextSequenceLemmas.{call_settles, call_fills_room}
-use Rattle.enc_reader.proofs.SourceLemmas.{ConsumesRemaining-none}
+use Rattle.std.proofs.KnownBytes.{Consumes-nil}
 
 -- What a reader decodes next: its decoder is not finished, a byte is unread or the end is seen, and
 -- there is room for any character.
@@ -91,7 +94,7 @@ module _ (before : ReaderState) {new : DecoderState} {mode : ErrorMode} {room : 
         → HandsOutSequences decodes.call.done handed malformed → (known : Option (List ℕ))
         → ReadsOwed known known before after [] handed malformed
     reads_owed {handed = handed} hands_out known = record {
-      given = ConsumesRemaining-none known;
+      given = Consumes-nil known;
       none_after = λ f. (refl, f);
       done = decodes.call.done;
       residual = decodes.call.residual;
@@ -301,3 +304,24 @@ only_at_end {src = src} {last} {room} {read} result {wrote} {replaced} decodes f
       wrote = wrote;
       replaced = replaced;
     }) decodes finished).0
+
+-- The bytes decoded last end with those pending after a call, and are the last ones of the buffer.
+
+pub SameEnd-call : {old new : DecoderState} {c : Call} (front : List ℕ) {recent : List ℕ}
+    → DecodesChunk encode_utf8 old new c → SameEnd old.pending front
+    → front ++ take c.read c.src ≡ recent → SameEnd new.pending recent
+SameEnd-call {old = old} {new = new} {c = c} front decodes same recent_is =
+    rw (← recent_is) (SameEnd-left (sequence_bytes decodes.call.done) new.pending
+    (front ++ take c.read c.src)
+    (subst (λ xs. SameEnd xs (front ++ take c.read c.src)) decodes.accounted
+    (SameEnd-append old.pending front (take c.read c.src) same)))
+
+pub decoded_end : (recent : List ℕ) (filled at read : ℕ) (xs : List ℕ)
+    → read ≤ length (take (filled - at) (drop at xs))
+    → (recent ++ take at xs) ++ take read (take (filled - at) (drop at xs))
+    ≡ recent ++ take (at + read) xs
+decoded_end recent filled at read xs within =
+    let few : read ≤ filled - at = omega (arith, within, length-take (filled - at) (drop at xs)) in
+    append_assoc recent (take at xs) (take read (take (filled - at) (drop at xs)))
+    ∙ ap (λ l. recent ++ (take at xs ++ l)) (take-take read (filled - at) (drop at xs) few)
+    ∙ ap (λ l. recent ++ l) (sym (take-add at read xs))

@@ -1,27 +1,46 @@
 -- The number of bytes that a reader's source has given, which the reader counts up to 2^64 - 1.
 use Rattle.std.specs.Prelude.{◌≡◌, ℕ, ◌+◌, ◌-◌, ◌^◌, ◌≤◌, min, Bool, true, List, [], ◌++◌, length, Option}
 use Rattle.enc_stream.specs.Faults.{faults_from}
-use Rattle.enc_decoder.specs.Sequence.{sequence_bytes}
+use Rattle.enc_decoder.specs.Sequence.{Sequence, sequence_bytes}
 use Rattle.enc_reader.specs.Reading.{ReaderState, HandsOut, owed_sequences}
 use Rattle.enc_reader.specs.Turn.{PullsChunk, FillsBuffer}
+use Rattle.enc_reader.specs.Items.{Item, items_from}
 
 -- The source has given `given` bytes, those unread and those pending among them.
 pub record HasGiven (count : ℕ) (s : ReaderState) (given : ℕ) : Type 0 where
   pub counted : count ≡ min given (2 ^ 64 - 1)
   pub among : length s.unread + length s.decoder.pending ≤ given
 
--- The offset and length of each malformed sequence that a reader owes, if its source has given
--- `given` bytes and still gives exactly z. The sequences owed are the last ones of the whole input.
-abbrev pub owed_faults : ℕ → ReaderState → List ℕ → List (ℕ × ℕ)
-owed_faults given s z =
-    faults_from (given + length z - length (sequence_bytes (owed_sequences s z)))
+-- What sequences have, by the offset of the first of them.
+abbrev pub Finds : Type 0 → Type 0
+Finds A = ℕ → List Sequence → List A
+
+-- What the sequences have that a reader owes, if its source has given `given` bytes and still gives
+-- exactly z. They are the last ones of the whole input.
+abbrev pub owed_by : {A : Type 0} → Finds A → ℕ → ReaderState → List ℕ → List A
+owed_by found given s z = found (given + length z - length (sequence_bytes (owed_sequences s z)))
     (owed_sequences s z)
 
--- The source gives `bytes`. Then the faults owed before are these and those owed now, whatever it
+-- The source gives `bytes`. Then what is owed before is `passed` and what is owed now, whatever it
 -- still gives.
+abbrev pub Passes : {A : Type 0} → Finds A → ℕ → ReaderState → ReaderState → List ℕ → List A
+    → Type 0
+Passes found given old new bytes passed = (z : List ℕ) → (new.ended ≡ true → z ≡ [])
+    → owed_by found given old (bytes ++ z) ≡ passed ++ owed_by found (given + length bytes) new z
+
+-- the offset and length of each malformed sequence
+abbrev pub owed_faults : ℕ → ReaderState → List ℕ → List (ℕ × ℕ)
+owed_faults = owed_by faults_from
+
 abbrev pub PassesFaults : ℕ → ReaderState → ReaderState → List ℕ → List (ℕ × ℕ) → Type 0
-PassesFaults given old new bytes faults = (z : List ℕ) → (new.ended ≡ true → z ≡ [])
-    → owed_faults given old (bytes ++ z) ≡ faults ++ owed_faults (given + length bytes) new z
+PassesFaults = Passes faults_from
+
+-- the characters and the malformed sequences
+abbrev pub owed_items : ℕ → ReaderState → List ℕ → List Item
+owed_items = owed_by items_from
+
+abbrev pub PassesItems : ℕ → ReaderState → ReaderState → List ℕ → List Item → Type 0
+PassesItems = Passes items_from
 
 -- The source gives `bytes` in a step, and they are counted. Those unread and those pending are
 -- among the bytes given.

@@ -1,11 +1,12 @@
 -- What is printed of the faults of a reader, and their kinds as I/O errors.
-use Rattle.std.specs.Prelude.{◌≡◌, ◌≢◌, ℕ, ◌⊎◌, List, Option, Some, codes}
+use Rattle.std.specs.Prelude.{◌≡◌, ◌≢◌, ℕ, ◌⊎◌, List, Option, Some, None, codes}
 use Rattle.std.specs.IoError.{error_kind}
 use Rattle.std.specs.declared.io.Error.{Error}
 use Rattle.std.specs.declared.io.ErrorKind.{ErrorKind}
 use Rattle.std.specs.declared.io.ErrorKind.TheVariants.{Other, OutOfMemory, InvalidData, Interrupted}
 use Rattle.enc_reader.specs.declared.decode_reader.ReadFault.{ReadFault}
 use Rattle.enc_reader.specs.declared.decode_reader.ReadFault.TheVariants.{Reader, Failed}
+use Rattle.enc_reader.specs.declared.caused.Caused.{Caused}
 use Rattle.enc_reader.specs.declared.line_fault.LineFault.{LineFault}
 use Rattle.enc_reader.specs.declared.line_fault.LineFault.TheVariants.{Read, Memory, MidCharacter}
 
@@ -28,3 +29,19 @@ line_error_kind MidCharacter = InvalidData
 pub record IsErrorOfReader (kept : Option Error) (error : Error) : Type 0 where
   pub either : (kept ≡ Some error) ⊎ (error_kind error ≡ Other)
   pub retried : error_kind error ≢ Interrupted
+
+-- What is printed of a fault with its cause: that of the fault, if there is no cause. No text of an
+-- I/O error is modelled.
+abbrev pub printed_with_cause : Option (List ℕ) → Option Error → Option (List ℕ)
+printed_with_cause fault None = fault
+printed_with_cause fault (Some cause) = None
+
+-- The I/O error of a fault: its cause, or one of this kind if it has none.
+abbrev pub IsCauseOrOf : Option Error → ErrorKind → Error → Type 0
+IsCauseOrOf (Some cause) kind error = error ≡ cause
+IsCauseOrOf None kind error = error_kind error ≡ kind
+
+-- a fault of a read, as one of a line
+pub record IsLineErrorOf (read : Caused ReadFault) (line : Caused LineFault) : Type 0 where
+  pub fault : line.fault ≡ Read read.fault
+  pub cause : line.cause ≡ read.cause

@@ -1,7 +1,8 @@
 -- Text that is taken byte by byte or line by line, from a reader whose text is held in between.
 use Rattle.std.specs.Prelude.{◌≡◌, ◌≢◌, ℕ, ◌-◌, ◌^◌, ◌<◌, ◌≤◌, ◌⊎◌, Bool, true, false, ◌||◌, List, [], ◌++◌}
 use Rattle.std.specs.Prelude.{length, take, drop, slice_index, All, Option, option_map}
-use Rattle.std.specs.Prelude.{Ok, Err}
+use Rattle.std.specs.Prelude.{Ok, Err, IfOk, OnOk}
+use denote.Ref.{Bor}
 use Rattle.std.specs.declared.result.Result.{Result}
 use Rattle.std.specs.Str.{IsUtf8}
 use Rattle.std.specs.Char.{encode_utf8}
@@ -9,7 +10,7 @@ use Rattle.std.specs.Io.{StopsAt}
 use Rattle.enc_utf8.specs.Text.{units_of_text}
 use Rattle.enc_decoder.specs.Sequence.{sequence_text}
 use Rattle.enc_reader.specs.declared.decoded_text.DecodedText.{DecodedText}
-use Rattle.enc_reader.specs.Source.{ConsumesRemaining}
+use Rattle.std.specs.Io.KnownBytes.{Consumes}
 use Rattle.enc_reader.specs.Reading.{ReaderState, ReadsOwed, IsReaderAtEnd, NoneDetermined, owed_sequences}
 use Rattle.enc_reader.specs.Reader.{state_of, handed_text}
 
@@ -92,8 +93,16 @@ pub record AppendsLine (remaining_before remaining_after : Option (List ℕ)) (o
 pub record SourceFails (remaining_before remaining_after : Option (List ℕ))
     (failed_before failed_after : Bool) (new : TextState) : Type 0 where
   pub bytes : List ℕ
-  pub given : ConsumesRemaining remaining_before remaining_after bytes
+  pub given : Consumes remaining_before remaining_after bytes
   pub none_held : new.held ≡ []
   pub none_determined : NoneDetermined new.reader
   pub not_before : failed_before ≡ false
   pub why : (failed_after ≡ true) ⊎ (2 ^ 64 - 1 ≤ length bytes)
+
+-- The text that is held is shown, after one read if none was held. Nothing is taken, and nothing is
+-- lost. It is empty only at the end.
+pub record FillsText {E : Type 0} (remaining_before remaining_after : Option (List ℕ))
+    (old new : TextState) (result : Result (Bor (List ℕ)) E) : Type 0 where
+  pub takes : TakesText remaining_before remaining_after old new []
+  pub shown : IfOk result (λ text. text.now ≡ new.held)
+  pub end : OnOk result (new.held ≡ [] → IsTextAtEnd remaining_after new)

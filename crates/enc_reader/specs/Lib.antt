@@ -1,6 +1,8 @@
 pub mod Source
+pub mod Recent
 pub mod Reading
 pub mod Turn
+pub mod Items
 pub mod Lending
 pub mod Counting
 pub mod Reporting

@@ -2,7 +2,7 @@
 use Rattle.std.specs.Prelude.{◌≡◌, ℕ, ◌+◌, ◌*◌, ◌-◌, ◌^◌, ◌<◌, ◌≤◌, ◌⊎◌, min, Bool, true, false, ◌||◌, List, [], ◌∷◌}
 use Rattle.std.specs.Prelude.{◌++◌, length, Option, if◌then◌else◌}
 use Rattle.std.specs.Char.{encode_utf8}
-use Rattle.std.specs.Io.KnownBytes.{IsAtEnd}
+use Rattle.std.specs.Io.KnownBytes.{IsAtEnd, Consumes}
 use Rattle.enc_utf8.specs.Text.{AreScalars, units_of_text}
 use Rattle.enc_decoder.specs.Sequence.{Sequence, sequence_text, any_malformed}
 use Rattle.enc_decoder.specs.Remainder.{AreDetermined}
@@ -11,7 +11,7 @@ use Rattle.enc_stream.specs.declared.bom.BomHandling.TheVariants.{Sniff}
 use Rattle.enc_stream.specs.declared.encoding.Encoding.{Encoding}
 use Rattle.enc_stream.specs.Bom.{find_mark, encoding_of_mark_or}
 use Rattle.enc_stream.specs.Decoding.{DecoderState, has_finished, fresh_decoder, remaining_sequences}
-use Rattle.enc_reader.specs.Source.{ConsumesRemaining, IsExhausted}
+use Rattle.enc_reader.specs.Source.{IsExhausted}
 
 -- The state of a reader between two reads: its decoder, the bytes given by the source and not
 -- decoded yet, and whether the source is at its end.
@@ -68,7 +68,7 @@ distance_to_end s = if has_finished s.decoder then 0 else 1
 -- A part of a read, in which the source gives `bytes`, and the text `wrote` is handed out.
 pub record ReadsOwed (remaining_before remaining_after : Option (List ℕ)) (old new : ReaderState)
     (bytes wrote : List ℕ) (malformed : Bool) : Type 0 where
-  pub given : ConsumesRemaining remaining_before remaining_after bytes
+  pub given : Consumes remaining_before remaining_after bytes
   -- After its end the source gives nothing.
   pub none_after : old.ended ≡ true → (bytes ≡ []) × (new.ended ≡ true)
   -- The sequences owed before are those done and those owed now, whatever the source still gives.

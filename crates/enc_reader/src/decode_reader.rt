@@ -1,29 +1,32 @@
 //! The reader of text.
 
 ghost use Rattle.std.specs.Prelude.{◌≡◌, ◌↔◌, ◌-◌, ◌<◌, ◌≤◌, length, take, drop, [], true, false};
-ghost use Rattle.std.specs.Prelude.{IsUtf8, Option, Some};
+ghost use Rattle.std.specs.Prelude.{◌++◌, IsUtf8, Option, Some, IsErrAnd};
 ghost use Rattle.std.specs.Prelude.{None, IfOk, OnOk, OnErr, IsErrOf, unwrap_or, IfErr};
 ghost use Rattle.enc_utf8.specs.Validity.{IsLongestPrefix, IsWellFormedUtf8};
 ghost use Rattle.enc_stream.specs.declared.bom.BomHandling.TheVariants.{Sniff};
 ghost use Rattle.enc_stream.specs.declared.constants.TheConstants.{UTF_8};
 ghost use Rattle.std.specs.Char.{encode_utf8};
-ghost use Rattle.std.specs.Io.KnownBytes.{IsAtEnd};
+ghost use Rattle.std.specs.Io.KnownBytes.{IsAtEnd, Consumes, Keeps};
 ghost use Rattle.enc_output.specs.Results.{decoder_result_of};
 ghost use Rattle.enc_decoder.specs.declared.error_mode.ErrorMode.TheVariants.{Replacement};
 ghost use Rattle.enc_decoder.specs.Remainder.{IsUndetermined};
 ghost use Rattle.enc_stream.specs.Latin1.{DecoderMayBeLatin1};
 ghost use Rattle.enc_stream.specs.Decoding.{has_finished, remaining_sequences, AnswersDecode};
-ghost use Rattle.enc_reader.specs.Source.{ConsumesRemaining, IsExhausted};
+ghost use Rattle.enc_reader.specs.Source.{IsExhausted};
+ghost use Rattle.enc_reader.specs.Recent.{SameEnd};
 ghost use Rattle.std.proofs.Props.{props};
 
 mod reporting;
 
+use crate::caused::{Caused, ReadError};
+use crate::recent::shift_in;
 use crate::source::Source;
 use enc_decoder_utf::plain::is_incomplete_sequence;
 use enc_stream::constants::UTF_8;
 use enc_stream::laws::ascii_compatible_decode_ascii;
 use enc_stream::{BomHandling, CoderResult, Decoder, Encoding};
-pub use reporting::ReadStop;
+pub use reporting::{ReadStop, TextPart};
 use std::{fmt, io};
 
 /// The least number of bytes that are lent. Fewer are decoded together with those that
@@ -138,14 +141,18 @@ fn decode_unread(
     }
 }
 
-/// Moves the bytes of `input` from `at` to `filled` to its start.
-fn move_to_start(input: &mut [u8], at: usize, filled: usize)
+/// Moves the bytes of `input` from `at` to `filled` to its start. Returns the last eight bytes of
+/// `recent` and then those before `at`.
+fn move_to_start(input: &mut [u8], recent: [u8; 8], at: usize, filled: usize) -> [u8; 8]
     requires before { at ≤ filled }
     requires within { filled ≤ length input.old }
+    ensures recent { result ≡ drop (length (take at input.old)) (recent ++ take at input.old) }
     ensures moved { take (filled - at) input.new ≡ take (filled - at) (drop at input.old) }
     ensures length { length input.new ≡ length input.old }
 {
+    let shifted = shift_in(recent, &input[..at]);
     input.copy_within(at..filled, 0);
+    shifted
 }
 
 /// Reads the next bytes of a source into `input`, after its first `held` bytes, which stay. Returns
@@ -156,11 +163,11 @@ fn pull_after<R: Source>(reader: &mut R, input: &mut [u8], held: usize) -> Resul
     ensures held { take held input.new ≡ take held input.old }
     ensures length { length input.new ≡ length input.old }
     ensures bound { IfOk result (λ n. n ≤ length input.old - held) }
-    ensures bytes { IfOk result (λ n. ConsumesRemaining (R.remaining reader.old)
+    ensures bytes { IfOk result (λ n. Consumes (R.remaining reader.old)
         (R.remaining reader.new) (take n (drop held input.new))) }
     ensures end { IfOk result (λ n. n ≡ 0 → IsAtEnd (R.remaining reader.new)) }
     ensures ok { OnOk result (R.has_failed reader.new ≡ R.has_failed reader.old) }
-    ensures none_given { OnErr result (R.remaining reader.new ≡ R.remaining reader.old) }
+    ensures none_given { OnErr result (Keeps (R.remaining reader.old) (R.remaining reader.new)) }
     ensures err { OnErr result (R.has_failed reader.new ≡ true) }
 {
     reader.pull(&mut input[held..])
@@ -192,6 +199,8 @@ pub struct DecodeReader<'a, R: Source> {
     // the number of bytes of `input` that the source has returned, and how many of them are decoded
     filled: usize,
     at: usize,
+    // the last bytes decoded before those of `input`
+    recent: [u8; 8],
     // the number of bytes that the source has given, up to 2^64 - 1
     given: u64,
     // whether the source is at its end
@@ -207,6 +216,8 @@ pub struct DecodeReader<'a, R: Source> {
     ghost going: { failed ≡ false → R.has_failed reader.now ≡ false },
     ghost settled: { at ≡ filled → ended ≡ false
         → IsUndetermined (remaining_sequences decoder) } by { Prim.hlevel props },
+    ghost same_end: { SameEnd decoder.pending
+        (recent ++ take at input.now) } by { Prim.hlevel props },
 }
 
 impl<'a, R: Source> fmt::Debug for DecodeReader<'a, R> {
@@ -304,6 +315,7 @@ impl<'a, R: Source> DecodeReader<'a, R> {
             input,
             filled: 0,
             at: 0,
+            recent: [0; 8],
             given: 0,
             ended: false,
             failed,
@@ -323,8 +335,8 @@ impl<'a, R: Source> DecodeReader<'a, R> {
         ensures kept { OnOk result (R.has_failed self.new.reader.now
             ≡ R.has_failed self.old.reader.now) }
         ensures going { OnOk result (self.new.failed ≡ self.old.failed) }
-        ensures none_given { OnErr result (R.remaining self.new.reader.now
-            ≡ R.remaining self.old.reader.now) }
+        ensures none_given { OnErr result (Keeps (R.remaining self.old.reader.now)
+            (R.remaining self.new.reader.now)) }
         ensures err { OnErr result (R.has_failed self.new.reader.now ≡ true) }
         ensures failed { OnErr result (self.new.failed ≡ true) }
         ensures same { OnErr result (state_of self.new ≡ state_of self.old) }
@@ -333,7 +345,8 @@ impl<'a, R: Source> DecodeReader<'a, R> {
         ensures had_errors { self.new.had_errors ≡ self.old.had_errors }
         ensures same_reader { self.new.reader.ghost_name ≡ self.old.reader.ghost_name }
     {
-        move_to_start(self.input, self.at, self.filled);
+        let recent = move_to_start(self.input, self.recent, self.at, self.filled);
+        self.recent = recent;
         self.filled -= self.at;
         self.at = 0;
         let Ok(n) = pull_after(self.reader, self.input, self.filled) else {
@@ -452,6 +465,55 @@ impl<'a, R: Source> DecodeReader<'a, R> {
         }
         self.had_errors |= replaced;
         Ok(turn.written)
+    }
+
+    /// Reads the next text into `dst` as [`DecodeReader::read_str`] does, and returns it.
+    ///
+    /// It is empty only at the end, and then in each later read. An `Err` has the cause of the
+    /// fault, if the source keeps that. Condition: `dst` has at least four bytes.
+    ///
+    /// ```rust
+    /// let mut source = FromRead::new(b"\x93caf\xE9\x94".as_slice());
+    /// let mut buffer = [0; 64];
+    /// let mut reader = DecodeReader::new(&mut source, Some(WINDOWS_1252), &mut buffer);
+    /// let mut room = [0; 64];
+    /// let text = reader.read_text(&mut room)?;
+    /// assert!(rt; text == "“café”");
+    /// ```
+    pub fn read_text<'b>(&mut self, dst: &'b mut [u8]) -> Result<&'b str, ReadError>
+        requires room { 4 ≤ length dst.old }
+        ensures ok { IfOk result (λ text. HandsOut (R.remaining self.old.reader.now)
+            (R.remaining self.new.reader.now) (state_of self.old) (state_of self.new)
+            text.now self.old.had_errors self.new.had_errors) }
+        ensures counted { IfOk result (λ text. HandsOutCounted (R.remaining self.old.reader.now)
+            (R.remaining self.new.reader.now) (state_of self.old) (state_of self.new)
+            self.old.given self.new.given text.now self.old.had_errors self.new.had_errors) }
+        ensures full { IfOk result (λ text.
+            FillsRoom (length dst.old) (length text.now) (state_of self.new)) }
+        ensures end { IfOk result (λ text. text.now ≡ []
+            → IsReaderAtEnd (R.remaining self.new.reader.now) (state_of self.new)) }
+        ensures kept { OnOk result (R.has_failed self.new.reader.now
+            ≡ R.has_failed self.old.reader.now) }
+        ensures no_error { OnErr result (self.new.had_errors ≡ self.old.had_errors) }
+        ensures reader_fault { IfErr result (λ e. e.fault ≡ ReadFault.Reader
+            → FailsToRead (R.remaining self.old.reader.now) (R.remaining self.new.reader.now)
+            (R.has_failed self.old.reader.now) (R.has_failed self.new.reader.now)
+            (state_of self.old) (state_of self.new)) }
+        ensures failed_before { IfErr result (λ e. e.fault ≡ ReadFault.Failed
+            → (self.old.failed ≡ true) × (self.new ≡ self.old)) }
+        ensures refused { self.old.failed ≡ true
+            → IsErrAnd result (λ e. e.fault ≡ ReadFault.Failed) }
+        ensures cause { IfErr result (λ e. IfSome e.cause
+            (λ cause. R.error self.new.reader.now ≡ Some cause)) }
+        ensures going { OnOk result (self.new.failed ≡ false) }
+        ensures failed { OnErr result (self.new.failed ≡ true) }
+        ensures buffer_len { length self.new.input.now ≡ length self.old.input.now }
+        ensures same_reader { self.new.reader.ghost_name ≡ self.old.reader.ghost_name }
+    {
+        match self.read_str(dst) {
+            Ok(len) => Ok(unsafe { str::from_utf8_unchecked(&dst[..len]) }),
+            Err(fault) => Err(self.with_cause(fault)),
+        }
     }
 
     /// Returns whether the decoder is between two sequences, and no byte order mark may come.
@@ -599,7 +661,16 @@ impl<'a, R: Source> DecodeReader<'a, R> {
     /// Returns the text of the last read, which got `dst`.
     ///
     /// Condition: there was no read, and no write to `dst`, since.
-    pub fn text<'b>(&'b self, dst: &'b [u8], handed: HandedText) -> &'b [u8]
+    pub fn text<'b>(&'b self, dst: &'b [u8], handed: HandedText) -> &'b str
+        requires at_hand { IsAtHand self.now dst.now handed }
+        requires utf_8 { IsUtf8 (handed_text self.now dst.now handed) }
+        ensures { result.now ≡ handed_text self.now dst.now handed }
+    {
+        unsafe { str::from_utf8_unchecked(self.handed_bytes(dst, handed)) }
+    }
+
+    /// Returns the bytes of the text of the last read, which got `dst`.
+    pub(crate) fn handed_bytes<'b>(&'b self, dst: &'b [u8], handed: HandedText) -> &'b [u8]
         requires at_hand { IsAtHand self.now dst.now handed }
         ensures { result.now ≡ handed_text self.now dst.now handed }
     {
@@ -619,6 +690,15 @@ impl<'a, R: Source> DecodeReader<'a, R> {
         ensures retried { IfSome result (λ e. error_kind e ≢ ErrorKind.Interrupted) }
     {
         self.reader.error()
+    }
+
+    /// Returns a fault with the error that caused it, if the source keeps that.
+    pub fn with_cause(&self, fault: ReadFault) -> ReadError
+        ensures fault { result.fault ≡ fault }
+        ensures cause { IfSome result.cause (λ e. R.error self.now.reader.now ≡ Some e) }
+        ensures failed { OnSome result.cause (self.now.failed ≡ true) }
+    {
+        Caused::new(fault, self.error())
     }
 
     /// Returns a fault as an I/O error: the source's own, or one of the kind `Other`.

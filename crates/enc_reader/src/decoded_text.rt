@@ -7,8 +7,9 @@ ghost use Rattle.std.specs.Str.{IsUtf8};
 ghost use Rattle.std.specs.Io.{appended_bytes};
 ghost use Rattle.std.specs.Io.KnownBytes.{Consumes};
 ghost use Rattle.std.specs.Io.BufRead.{DropsConsumable};
-ghost use Rattle.enc_reader.specs.Reader.{IsAtHand};
+ghost use Rattle.enc_reader.specs.Reader.{IsAtHand, handed_text};
 
+use crate::caused::{Caused, LineError};
 use crate::decode_reader::{DecodeReader, HandedText, ReadFault};
 use crate::line_fault::LineFault;
 use crate::lines::{append, line_len};
@@ -31,6 +32,7 @@ pub struct DecodedText<'a, R: Source> {
     at: usize,
     ghost at_hand: { IsAtHand reader text.now handed },
     ghost within: { at ≤ handed.len },
+    ghost utf_8: { ∥ IsUtf8 (handed_text reader text.now handed) ∥₁ },
     ghost room: { 4 ≤ length text.now },
 }
 
@@ -39,7 +41,14 @@ impl<'a, R: Source> DecodedText<'a, R> {
     ghost use Rattle.enc_reader.specs.Reader.{state_of};
     ghost use Rattle.enc_reader.specs.Reading.{FailsToRead};
     ghost use Rattle.enc_reader.specs.HeldText.{IsTextAtEnd, AppendsText, AppendsLine, SourceFails};
-    ghost use Rattle.enc_reader.specs.HeldText.{BeginsWithCharacter};
+    ghost use Rattle.enc_reader.specs.HeldText.{BeginsWithCharacter, FillsText};
+    ghost use Rattle.std.specs.Prelude.{IfSome};
+    ghost use Rattle.std.specs.Str.{IsCharBoundary};
+    ghost use types.Logic.{sem};
+    ghost use mir.Syntax.{named};
+    ghost use Rattle.std.specs.Io.{StartsWith};
+    ghost use Rattle.std.specs.Io.BufRead.{Rests};
+    ghost use Rattle.enc_reader.specs.contracts.decoded_text.DecodedText.{the_row as text-row};
     ghost use Rattle.enc_reader.specs.Errors.{IsErrorOfReader};
 
     /// Returns the text that `reader` still hands out, through the buffer `text`.
@@ -73,7 +82,7 @@ impl<'a, R: Source> DecodedText<'a, R> {
         ensures value { result.now ≡ (text_state_of self.now).held }
         ensures len { length result.now ≡ self.now.handed.len - self.now.at }
     {
-        let all = self.reader.text(self.text, self.handed);
+        let all = self.reader.handed_bytes(self.text, self.handed);
         &all[self.at..]
     }
 
@@ -208,20 +217,95 @@ impl<'a, R: Source> DecodedText<'a, R> {
         Ok(is_whole)
     }
 
-    /// Appends the next line to `line`, with its line feed U+000A.
+    /// Returns a fault with the error that caused it, if the reader failed and its source keeps
+    /// that.
+    fn with_cause(&self, fault: LineFault) -> LineError
+        ensures fault { result.fault ≡ fault }
+        ensures cause { IfSome result.cause (λ e. R.error self.now.reader.reader.now ≡ Some e) }
+    {
+        let cause = match &fault {
+            LineFault::Read(_) => self.reader.error(),
+            _ => None,
+        };
+        Caused::new(fault, cause)
+    }
+
+    /// Returns the text that is held, after one read of the reader if none is.
     ///
-    /// Without a line feed it goes to the end of the text. Returns the number of bytes appended, 0
-    /// only at the end. Takes memory for `line` alone.
+    /// It is empty only at the end. [`BufRead::consume`] takes its first bytes: until then each
+    /// call returns the same text, and nothing is read.
     ///
-    /// After an `Err` nothing is lost: the text before the fault is appended, and the next call
-    /// goes on after it.
-    ///
-    /// - `Read`: the reader failed, as [`DecodeReader::read_str`] does: `Reader` in this call, and
-    ///   `Failed` in each later one.
-    /// - `Memory`: the text of the fault is still to be read.
-    /// - `MidCharacter`: only if `read` or `consume` took a part of a character before. It is
-    ///   returned again until `read` or `consume` takes the rest of that character.
-    pub fn read_line(&mut self, line: &mut String) -> Result<usize, LineFault>
+    /// Errors, after which nothing is lost: `Read`, with the cause, if the reader failed, and
+    /// `MidCharacter` after `read` or `consume` has taken a part of a character, until it takes the
+    /// rest.
+    pub fn fill_text(&mut self) -> Result<&str, LineError>
+        ensures shown { IfSome (remaining_text (R.remaining self.old.reader.reader.now)
+            (text_state_of self.old)) (λ xs. IfOk result (λ text. StartsWith xs text.now)) }
+        ensures end { IfSome (remaining_text (R.remaining self.old.reader.reader.now)
+            (text_state_of self.old)) (λ xs. IfOk result (λ text. length text.now ≡ 0 → xs ≡ [])) }
+        ensures cut { IfErr result (λ e. e.fault ≡ LineFault.MidCharacter
+            → IsUtf8 (text_state_of self.old).held → ⊥) }
+        ensures failed_before { IfErr result (λ e. e.fault ≡ LineFault.Read ReadFault.Failed
+            → self.old.reader.failed ≡ true) }
+        ensures* after_borrow { sem 𝓛 (Rests
+            (text-row (record { mir = named 1; lft = [] }) R.row R.Source) self.entry (λ new.
+            FillsText (R.remaining self.old.reader.reader.now) (R.remaining new.reader.reader.now)
+            (text_state_of self.old) (text_state_of new) result)) }
+    {
+        if let Err(error) = self.fill_whole() {
+            return Err(error);
+        }
+        Ok(self.held_text())
+    }
+
+    /// Reads the next text if none is held. An `Err` too if what is held begins within a character.
+    fn fill_whole(&mut self) -> Result<(), LineError>
+        ensures takes { TakesText (R.remaining self.old.reader.reader.now)
+            (R.remaining self.new.reader.reader.now) (text_state_of self.old)
+            (text_state_of self.new) [] }
+        ensures end { OnOk result ((text_state_of self.new).held ≡ []
+            → IsTextAtEnd (R.remaining self.new.reader.reader.now) (text_state_of self.new)) }
+        ensures whole { OnOk result
+            (IsCharBoundary (handed_text self.new.reader self.new.text.now self.new.handed)
+            self.new.at) }
+        ensures cut { IfErr result (λ e. e.fault ≡ LineFault.MidCharacter
+            → IsUtf8 (text_state_of self.old).held → ⊥) }
+        ensures read { IfErr result (λ e. (e.fault ≡ LineFault.Memory) → ⊥) }
+        ensures failed_before { IfErr result (λ e. e.fault ≡ LineFault.Read ReadFault.Failed
+            → self.old.reader.failed ≡ true) }
+        ensures same_reader { self.new.reader.reader.ghost_name
+            ≡ self.old.reader.reader.ghost_name }
+    {
+        if let Err(fault) = self.fill() {
+            return Err(self.with_cause(LineFault::Read(fault)));
+        }
+        let at = self.at;
+        if !self.handed_text().is_char_boundary(at) {
+            return Err(self.with_cause(LineFault::MidCharacter));
+        }
+        Ok(())
+    }
+
+    /// Returns the text that the reader has handed out last.
+    fn handed_text(&self) -> &str
+        ensures { result.now ≡ handed_text self.now.reader self.now.text.now self.now.handed }
+    {
+        self.reader.text(self.text, self.handed)
+    }
+
+    /// Returns the text that is held, which does not begin within a character.
+    fn held_text(&self) -> &str
+        requires whole { IsCharBoundary (handed_text self.now.reader self.now.text.now
+            self.now.handed) self.now.at }
+        ensures { result.now ≡ (text_state_of self.now).held }
+    {
+        let at = self.at;
+        let (_, rest) = self.handed_text().split_at(at);
+        rest
+    }
+
+    /// Does [`DecodedText::read_line`], without the cause of a fault.
+    fn append_line(&mut self, line: &mut String) -> Result<usize, LineFault>
         ensures ok { OnOk result (AppendsLine (R.remaining self.old.reader.reader.now)
             (R.remaining self.new.reader.reader.now) (text_state_of self.old)
             (text_state_of self.new) (string_bytes line.old) (string_bytes line.new) true) }
@@ -260,6 +344,61 @@ impl<'a, R: Source> DecodedText<'a, R> {
             if self.append_part(line)? {
                 return Ok(line.len() - start);
             }
+        }
+    }
+
+    /// Appends the next line to `line`, with its line feed U+000A.
+    ///
+    /// Without a line feed it goes to the end of the text. Returns the number of bytes appended, 0
+    /// only at the end. Takes memory for `line` alone.
+    ///
+    /// After an `Err` nothing is lost: the text before the fault is appended, and the next call
+    /// goes on after it.
+    ///
+    /// - `Read`: the reader failed, as [`DecodeReader::read_str`] does: `Reader` in this call, and
+    ///   `Failed` in each later one. The cause is the error of the source, if it keeps that.
+    /// - `Memory`: the text of the fault is still to be read.
+    /// - `MidCharacter`: only if `read` or `consume` took a part of a character before. It is
+    ///   returned again until `read` or `consume` takes the rest of that character.
+    pub fn read_line(&mut self, line: &mut String) -> Result<usize, LineError>
+        ensures ok { OnOk result (AppendsLine (R.remaining self.old.reader.reader.now)
+            (R.remaining self.new.reader.reader.now) (text_state_of self.old)
+            (text_state_of self.new) (string_bytes line.old) (string_bytes line.new) true) }
+        ensures count { IfOk result (λ n. string_len line.new ≡ string_len line.old + n) }
+        ensures none_lost { AppendsText (R.remaining self.old.reader.reader.now)
+            (R.remaining self.new.reader.reader.now) (text_state_of self.old)
+            (text_state_of self.new) (string_bytes line.old) (string_bytes line.new) }
+        ensures known { Consumes
+            (remaining_text (R.remaining self.old.reader.reader.now) (text_state_of self.old))
+            (remaining_text (R.remaining self.new.reader.reader.now) (text_state_of self.new))
+            (appended_bytes (string_bytes line.old) (string_bytes line.new)) }
+        ensures utf_8 { IsUtf8 (text_state_of self.old).held
+            → IsUtf8 (text_state_of self.new).held }
+        ensures cut { IfErr result (λ e. e.fault ≡ LineFault.MidCharacter
+            → IsUtf8 (text_state_of self.old).held → ⊥) }
+        ensures reader_fault { IfErr result (λ e. e.fault ≡ LineFault.Read ReadFault.Reader
+            → SourceFails (R.remaining self.old.reader.reader.now)
+            (R.remaining self.new.reader.reader.now) (R.has_failed self.old.reader.reader.now)
+            (R.has_failed self.new.reader.reader.now) (text_state_of self.new)) }
+        ensures failed_before { IfErr result (λ e. e.fault ≡ LineFault.Read ReadFault.Failed
+            → self.old.reader.failed ≡ true) }
+        ensures memory { IfErr result (λ e. e.fault ≡ LineFault.Memory
+            → self.new.reader.failed ≡ self.old.reader.failed) }
+        ensures memory_of_text { IfErr result (λ e. e.fault ≡ LineFault.Memory
+            → BeginsWithCharacter (text_state_of self.new).held) }
+        ensures cut_going { IfErr result (λ e. e.fault ≡ LineFault.MidCharacter
+            → self.new.reader.failed ≡ self.old.reader.failed) }
+        ensures kept { OnOk result (R.has_failed self.new.reader.reader.now
+            ≡ R.has_failed self.old.reader.reader.now) }
+        ensures going { OnOk result (self.new.reader.failed ≡ self.old.reader.failed) }
+        ensures same_reader { self.new.reader.reader.ghost_name
+            ≡ self.old.reader.reader.ghost_name }
+        ensures cause { IfErr result (λ e. IfSome e.cause
+            (λ cause. R.error self.new.reader.reader.now ≡ Some cause)) }
+    {
+        match self.append_line(line) {
+            Ok(n) => Ok(n),
+            Err(fault) => Err(self.with_cause(fault)),
         }
     }
 }

@@ -7,8 +7,7 @@ ghost use Rattle.std.specs.Option.{ForSome};
 ghost use Rattle.std.specs.declared.io.ErrorKind.TheVariants.{Interrupted};
 ghost use Rattle.std.specs.declared.io.Error.{Error};
 ghost use Rattle.std.specs.IoError.{error_kind};
-ghost use Rattle.std.specs.Io.KnownBytes.{IsAtEnd, ReadConsumes};
-ghost use Rattle.enc_reader.specs.Source.{ConsumesRemaining};
+ghost use Rattle.std.specs.Io.KnownBytes.{IsAtEnd, Consumes, Keeps, ReadConsumes};
 
 use std::io::{ErrorKind, Read};
 use std::{fmt, io};
@@ -34,11 +33,11 @@ pub trait Source {
     fn pull(&mut self, buf: &mut [u8]) -> Result<usize, ()>
         requires going { has_failed self.old ≡ false }
         ensures bound { IfOk result (λ n. n ≤ length buf.new) }
-        ensures bytes { IfOk result (λ n. ConsumesRemaining (remaining self.old)
+        ensures bytes { IfOk result (λ n. Consumes (remaining self.old)
             (remaining self.new) (take n buf.new)) }
         ensures end { IfOk result (λ n. n ≡ 0 → 0 < length buf.new → IsAtEnd (remaining self.new)) }
         ensures ok { OnOk result (has_failed self.new ≡ has_failed self.old) }
-        ensures none_given { OnErr result (remaining self.new ≡ remaining self.old) }
+        ensures none_given { OnErr result (Keeps (remaining self.old) (remaining self.new)) }
         ensures err { OnErr result (has_failed self.new ≡ true) };
 
     /// Returns whether a pull has failed.
@@ -98,9 +97,10 @@ fn read_uninterrupted<R: Read>(reader: &mut R, buf: &mut [u8]) -> io::Result<usi
     Err(all_interrupted())
 }
 
-/// A source over any reader. It models no bytes, since a reader may not know them.
+/// A source over any reader of `std`: its bytes are those that the reader models.
 ///
-/// It keeps the error of the reader for which it has failed.
+/// So the bytes of a slice, a `Cursor`, or a `BufReader` or `Take` over one are known to proofs,
+/// and those of a file are not. It keeps the error of the reader for which it has failed.
 #[derive(Drop)]
 pub struct FromRead<R: Read> {
     inner: R,
@@ -168,7 +168,7 @@ impl<R: Read> fmt::Debug for FromRead<R> {
 }
 
 impl<R: Read> Source for FromRead<R> {
-    ghost remaining = { λ _. None };
+    ghost remaining = { λ source. R.remaining source.inner };
 
     ghost has_failed = { λ source. source.failed };
 

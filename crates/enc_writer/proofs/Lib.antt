@@ -6,3 +6,6 @@ pub mod StoppingLemmas
 pub mod ReportStepLemmas
 pub mod ReportLemmas
 pub mod AfterReportLemmas
+pub mod Utf16Lemmas
+pub mod Utf16WritingLemmas
+pub mod Utf8WritingLemmas

@@ -4,26 +4,29 @@ use Rattle.std.proofs.Common.{◌∙◌, sym, append_assoc, append-nil, arith}
 use Rattle.std.proofs.Math.Seq.{take-add}
 use Rattle.std.proofs.lemmas.List.{take-take, take-append-drop}
 use Rattle.std.specs.declared.result.Result.{Result}
-use Rattle.std.specs.Prelude.{Ok, Err, OnErr}
-use Rattle.std.specs.Io.KnownBytes.{append_known, Appends, Keeps}
+use Rattle.std.specs.Prelude.{Ok, Err, OnOk, OnErr}
+use Rattle.std.specs.Io.KnownBytes.{Appends, Keeps}
 use Rattle.enc_writer.specs.Sink.{AppendsContents, AppendsPrefix}
 
-append_known-nil : (known : Option (List ℕ)) → append_known known [] ≡ known
-append_known-nil None = refl
-append_known-nil (Some xs) = ap Some (append-nil xs)
-
-append_known-append : (known : Option (List ℕ)) (a b : List ℕ)
-    → append_known (append_known known a) b ≡ append_known known (a ++ b)
-append_known-append None a b = refl
-append_known-append (Some xs) a b = ap Some (append_assoc xs a b)
-
 pub AppendsContents-none : (known : Option (List ℕ)) → AppendsContents known known []
-AppendsContents-none known = sym (append_known-nil known)
+AppendsContents-none None = tt
+AppendsContents-none (Some xs) = sym (append-nil xs)
 
 pub AppendsContents-then : (k₀ k₁ k₂ : Option (List ℕ)) (a b : List ℕ) → AppendsContents k₀ k₁ a
     → AppendsContents k₁ k₂ b → AppendsContents k₀ k₂ (a ++ b)
-AppendsContents-then k₀ k₁ k₂ a b h₁ h₂ = h₂ ∙ ap (λ k. append_known k b) h₁
-    ∙ append_known-append k₀ a b
+AppendsContents-then None k₁ k₂ a b h₁ h₂ = tt
+AppendsContents-then (Some xs) None k₂ a b h₁ h₂ = absurd h₁
+AppendsContents-then (Some xs) (Some ys) None a b h₁ h₂ = absurd h₂
+AppendsContents-then (Some xs) (Some ys) (Some zs) a b h₁ h₂ =
+    h₂ ∙ ap (λ t. t ++ b) h₁ ∙ append_assoc xs a b
+
+-- these bytes are taken, and those known stay
+pub AppendsContents-keeps : (k₀ k₁ k₂ : Option (List ℕ)) (bytes : List ℕ)
+    → AppendsContents k₀ k₁ bytes → Keeps k₁ k₂ → AppendsContents k₀ k₂ bytes
+AppendsContents-keeps None k₁ k₂ bytes h₁ h₂ = tt
+AppendsContents-keeps (Some xs) None k₂ bytes h₁ h₂ = absurd h₁
+AppendsContents-keeps (Some xs) (Some ys) None bytes h₁ h₂ = absurd h₂
+AppendsContents-keeps (Some xs) (Some ys) (Some zs) bytes h₁ h₂ = h₂ ∙ h₁
 
 -- `at` bytes are taken, and n more
 pub AppendsContents-push : (k₀ k₁ k₂ : Option (List ℕ)) (bytes : List ℕ) (at n : ℕ)
@@ -38,12 +41,12 @@ AppendsContents-push k₀ k₁ k₂ bytes at n h t₁ t₂ =
 
 -- `at` bytes are taken, and then no more
 pub AppendsPrefix-push : (k₀ k₁ k₂ : Option (List ℕ)) (bytes : List ℕ) (at : ℕ)
-    → AppendsContents k₀ k₁ (take at bytes) → k₂ ≡ k₁ → AppendsPrefix k₀ k₂ bytes
-AppendsPrefix-push k₀ k₁ k₂ bytes at t e = record {
+    → AppendsContents k₀ k₁ (take at bytes) → Keeps k₁ k₂ → AppendsPrefix k₀ k₂ bytes
+AppendsPrefix-push k₀ k₁ k₂ bytes at t keeps = record {
   wrote = take at bytes;
   unwritten = drop at bytes;
   prefix = sym (take-append-drop at bytes);
-  taken = e ∙ t;
+  taken = AppendsContents-keeps k₀ k₁ k₂ (take at bytes) t keeps;
 }
 
 -- a prefix of the first of two buffers is taken
@@ -96,3 +99,12 @@ Keeps-nothing (Some xs) (Some ys) h = h ∙ append-nil xs
 pub on_err : {T E : Type 0} (r : Result T E) (P : Type 0) → P → OnErr r P
 on_err (Ok x) P h = tt
 on_err (Err e) P h = h
+
+pub on_ok : {T E : Type 0} (r : Result T E) (P : Type 0) → P → OnOk r P
+on_ok (Ok x) P h = h
+on_ok (Err e) P h = tt
+
+pub on_ok_both : {T E : Type 0} (r : Result T E) {P Q R : Type 0} → (P → Q → R) → OnOk r P
+    → OnOk r Q → OnOk r R
+on_ok_both (Ok x) both p q = both p q
+on_ok_both (Err e) both p q = tt

@@ -5,12 +5,14 @@ use Rattle.std.proofs.Math.Bool.{or_assoc}
 use Rattle.enc_encoder.specs.Unmappable.{any_unmappable}
 use Rattle.enc_encoder.proofs.UnmappableLemmas.{any_unmappable-append}
 use Rattle.enc_stream.specs.Encoder.{raw_state}
+use Rattle.std.specs.Io.KnownBytes.{Keeps}
 use Rattle.enc_writer.specs.Sink.{AppendsPrefix}
 use Rattle.enc_writer.specs.EncodedText.{EncodesText, bytes_from_state, text_to_encode}
 use Rattle.enc_writer.specs.Writing.{WriterState, HasEncoded, HasWrittenText, TakesPrefix, StopsWithin, EndsText}
 use Rattle.enc_writer.specs.Writing.{ended_writer, owed_bytes}
 use Rattle.enc_writer.specs.Stopping.{HasStopped, StopsText}
 use Rattle.enc_writer.proofs.SinkLemmas.{AppendsContents-none, AppendsContents-then}
+use Rattle.enc_writer.proofs.SinkLemmas.{AppendsContents-keeps}
 use Rattle.enc_writer.proofs.EncodingLemmas.{EncodesText-none, EncodesText-then, none_owed}
 use Rattle.enc_writer.proofs.WritingLemmas.{HasWrittenText-none, or_false, owed_by, same_rule}
 
@@ -115,8 +117,8 @@ same_by same =
 
 -- all of a text is written, and the sink then fails without taking any more
 pub HasStopped-written : {k₀ k₁ k₂ : Option (List ℕ)} {a b c : WriterState} {t : List ℕ}
-    → HasWrittenText k₀ k₁ a b t → k₂ ≡ k₁ → SameState b c → HasStopped k₀ k₂ a c t false
-HasStopped-written {k₀} {k₂ = k₂} {a} {b} {c} {t} written none_taken same =
+    → HasWrittenText k₀ k₁ a b t → Keeps k₁ k₂ → SameState b c → HasStopped k₀ k₂ a c t false
+HasStopped-written {k₀} {k₁} {k₂} {a} {b} {c} {t} written none_taken same =
     same_state (λ w. HasStopped k₀ k₂ a w t false) b c same (record {
       encoding = written.encoding;
       barred = written.barred;
@@ -126,14 +128,14 @@ HasStopped-written {k₀} {k₂ = k₂} {a} {b} {c} {t} written none_taken same 
       flag = written.flag;
       pushed = written.pushed;
       lost = b.held;
-      taken = none_taken ∙ written.taken;
+      taken = AppendsContents-keeps k₀ k₁ k₂ written.pushed written.taken none_taken;
       owed = λ z ends. written.owed z;
     })
 
 -- the end of a text is written, and the sink then fails without taking any more
 pub HasStopped-ended : {k₀ k₁ k₂ : Option (List ℕ)} {a c : WriterState} → EndsText k₀ k₁ a
-    → k₂ ≡ k₁ → SameState (ended_writer a) c → HasStopped k₀ k₂ a c [] true
-HasStopped-ended {k₀} {k₂ = k₂} {a} {c} ends none_taken same =
+    → Keeps k₁ k₂ → SameState (ended_writer a) c → HasStopped k₀ k₂ a c [] true
+HasStopped-ended {k₀} {k₁} {k₂} {a} {c} ends none_taken same =
     let ended = ended_writer a in
     same_state (λ w. HasStopped k₀ k₂ a w [] true) ended c same (record {
       encoding = refl;
@@ -144,7 +146,8 @@ HasStopped-ended {k₀} {k₂ = k₂} {a} {c} ends none_taken same =
       flag = or_false a.had_unmappables;
       pushed = owed_bytes a [];
       lost = [];
-      taken = none_taken ∙ ends k₀ a [] (HasWrittenText-none k₀ a);
+      taken = AppendsContents-keeps k₀ k₁ k₂ (owed_bytes a [])
+          (ends k₀ a [] (HasWrittenText-none k₀ a)) none_taken;
       owed = λ z none.
           ap (owed_bytes a) (none refl) ∙ sym (append-nil (owed_bytes a []))
           ∙ ap (λ x. owed_bytes a [] ++ x) (sym (none_owed ended.encoder refl)

@@ -14,11 +14,13 @@ use Rattle.enc_encoder.specs.Unmappable.{any_unmappable}
 use Rattle.enc_encoder.proofs.UnmappableLemmas.{any_unmappable-append}
 use Rattle.enc_stream.specs.Encodings.{output_rule}
 use Rattle.enc_stream.specs.Encoder.{EncoderState, EncodesChunk, raw_state, html_mode}
+use Rattle.std.specs.Io.KnownBytes.{Keeps}
 use Rattle.enc_writer.specs.Sink.{AppendsContents}
 use Rattle.enc_writer.specs.EncodedText.{EncodesText, bytes_from_state, text_to_encode}
 use Rattle.enc_writer.specs.Writing.{WriterState, PushesBytes, HasEncoded, HasWrittenText}
 use Rattle.enc_writer.specs.Writing.{WritesText, EndsText, ended_writer, owed_bytes}
 use Rattle.enc_writer.proofs.SinkLemmas.{AppendsContents-none, AppendsContents-then}
+use Rattle.enc_writer.proofs.SinkLemmas.{AppendsContents-keeps}
 use Rattle.enc_writer.proofs.EncodingLemmas.{not_ended, none_owed, EncodesText-none, EncodesText-call}
 use Rattle.enc_writer.proofs.EncodingLemmas.{EncodesText-then}
 
@@ -238,6 +240,19 @@ HasWrittenText-then {k₀} {k₁} {k₂} {a} {b} {c} {t} {u} first next = record
       ∙ or_assoc a.had_unmappables (any_unmappable rule t) (any_unmappable rule u)
       ∙ ap (λ r. a.had_unmappables || r) (sym (any_unmappable-append rule t u));
 }
+
+-- the sink keeps its bytes after that
+pub HasWrittenText-keeps : {k₀ k₁ k₂ : Option (List ℕ)} {a b c : WriterState} {t : List ℕ}
+    → HasWrittenText k₀ k₁ a b t → Keeps k₁ k₂ → c ≡ b → HasWrittenText k₀ k₂ a c t
+HasWrittenText-keeps {k₀} {k₁} {k₂} {a} {t = t} written keeps same =
+    subst (λ w. HasWrittenText k₀ k₂ a w t) (sym same) (record {
+      encoding = written.encoding;
+      barred = written.barred;
+      pushed = written.pushed;
+      taken = AppendsContents-keeps k₀ k₁ k₂ written.pushed written.taken keeps;
+      owed = written.owed;
+      flag = written.flag;
+    })
 
 pub WritesText-alone : {k₀ k₁ : Option (List ℕ)} {a b : WriterState} {t : List ℕ}
     → HasWrittenText k₀ k₁ a b t → WritesText k₀ k₁ a b t

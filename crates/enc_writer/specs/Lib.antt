@@ -6,3 +6,8 @@ pub mod Stopping
 pub mod Reporting
 pub mod ReportedSteps
 pub mod Writer
+pub mod Utf16
+pub mod Utf16Writing
+pub mod Utf16Writer
+pub mod Utf8Writing
+pub mod Utf8Writer

@@ -1,10 +1,11 @@
--- Sinks of bytes, by the bytes taken. A sink that models none still models none after a write.
+-- Sinks of bytes, by the bytes taken. They are modelled as std models the bytes that a writer
+-- holds: where a sink models none, nothing is promised of them.
 use Rattle.std.specs.Prelude.{◌≡◌, ℕ, List, ◌++◌, Option}
-use Rattle.std.specs.Io.KnownBytes.{append_known}
+use Rattle.std.specs.Io.KnownBytes.{Appends}
 
 -- These bytes more are taken.
 abbrev pub AppendsContents : Option (List ℕ) → Option (List ℕ) → List ℕ → Type 0
-AppendsContents old new bytes = new ≡ append_known old bytes
+AppendsContents old new bytes = Appends old new bytes
 
 -- A prefix of these bytes more is taken.
 pub record AppendsPrefix (old new : Option (List ℕ)) (bytes : List ℕ) : Type 0 where

@@ -3,6 +3,7 @@
 ghost use Rattle.std.specs.Prelude.{◌≡◌, ◌↔◌, ◌+◌, ◌<◌, ◌≤◌, length, drop, [], true, false, ◌++◌, chars};
 ghost use Rattle.std.specs.Prelude.{◌≢◌, IfOk, OnOk, OnErr, OnSome, IsErrOf, IfErr, IfSome, IfNone, Some};
 ghost use Rattle.std.specs.IoError.{error_kind};
+ghost use Rattle.std.specs.Io.KnownBytes.{Keeps};
 ghost use Rattle.std.specs.Str.{IsCharBoundary};
 ghost use Rattle.std.specs.Char.Utf16.{utf16_lossy_chars};
 
@@ -11,6 +12,7 @@ use crate::fault::{UnmappableStop, WriteFault};
 use crate::pushing::push_both;
 use crate::sink::Sink;
 use crate::unencoded::unencoded_len;
+use crate::write_error::WriteError;
 use enc_stream::{CoderResult, Encoder, EncoderResult, Encoding};
 use std::io::ErrorKind;
 use std::{fmt, io};
@@ -474,7 +476,8 @@ impl<'a, W: Sink> EncodeWriter<'a, W> {
     /// Flushes the sink. After an `Err`, which is `Writer`, the sink has failed.
     fn flush_sink(&mut self) -> Result<(), WriteFault>
         requires going { self.old.failed ≡ false }
-        ensures contents { W.contents self.new.writer.now ≡ W.contents self.old.writer.now }
+        ensures contents { Keeps (W.contents self.old.writer.now)
+            (W.contents self.new.writer.now) }
         ensures unchanged { writer_of self.new ≡ writer_of self.old }
         ensures kept { OnOk result (W.has_failed self.new.writer.now
             ≡ W.has_failed self.old.writer.now) }
@@ -616,6 +619,21 @@ impl<'a, W: Sink> EncodeWriter<'a, W> {
         self.writer.error()
     }
 
+    /// Returns a fault of this writer with its cause, which [`EncodeWriter::error`] gives.
+    ///
+    /// The cause is that of the first fault also with `Failed`, until it is taken out of the sink.
+    pub fn with_cause(&self, fault: WriteFault) -> WriteError
+        ensures fault { result.fault ≡ fault }
+        ensures cause { IfSome result.cause (λ e. W.error self.now.writer.now ≡ Some e) }
+        ensures failed { OnSome result.cause (self.now.failed ≡ true) }
+        ensures retried { IfSome result.cause (λ e. error_kind e ≢ ErrorKind.Interrupted) }
+    {
+        WriteError {
+            fault,
+            cause: self.error(),
+        }
+    }
+
     /// Returns the encoding that it writes, which is an output encoding.
     pub fn encoding(&self) -> Encoding
         ensures { result ≡ self.now.encoder.encoding }
@@ -631,6 +649,23 @@ impl<'a, W: Sink> EncodeWriter<'a, W> {
         ensures { result ≡ self.now.had_unmappables }
     {
         self.had_unmappables
+    }
+}
+
+impl<'a, W: Sink> fmt::Write for EncodeWriter<'a, W> {
+    ghost use Rattle.enc_writer.specs.Writing.{WritesText};
+    ghost use Rattle.enc_writer.specs.Writer.{writer_of};
+
+    ghost write_str_gives = { λ old text new. WritesText (W.contents old.writer.now)
+        (W.contents new.writer.now) (writer_of old) (writer_of new) (chars text) };
+
+    /// Writes a text as [`EncodeWriter::write_str`] does, so that `write!` works. After an `Err`
+    /// [`EncodeWriter::error`] names the cause.
+    fn write_str(&mut self, text: &str) -> fmt::Result {
+        match EncodeWriter::write_str(self, text) {
+            Ok(()) => Ok(()),
+            Err(_) => Err(fmt::Error),
+        }
     }
 }
 

@@ -8,7 +8,7 @@ use crate::sink::Sink;
 /// Pushes all the bytes, in as many pushes as it takes, none of them of an empty buffer.
 ///
 /// After an `Err` the sink has failed and has taken a prefix of the bytes.
-fn push_all<W: Sink>(writer: &mut W, bytes: &[u8]) -> Result<(), ()>
+pub(crate) fn push_all<W: Sink>(writer: &mut W, bytes: &[u8]) -> Result<(), ()>
     requires going { W.has_failed writer.old ≡ false }
     ensures ok { OnOk result
         (AppendsContents (W.contents writer.old) (W.contents writer.new) bytes.now) }

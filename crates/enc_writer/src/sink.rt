@@ -35,7 +35,7 @@ pub trait Sink {
         ensures bytes { IfOk result (λ n. AppendsContents (contents self.old) (contents self.new)
             (take n buf.now)) }
         ensures ok { OnOk result (has_failed self.new ≡ has_failed self.old) }
-        ensures none_taken { OnErr result (contents self.new ≡ contents self.old) }
+        ensures none_taken { OnErr result (Keeps (contents self.old) (contents self.new)) }
         ensures err { OnErr result (has_failed self.new ≡ true) };
 
     /// Returns whether a push or a flush has failed.
@@ -48,7 +48,7 @@ pub trait Sink {
     /// flush, which is the default. Condition: it has not failed before.
     fn flush(&mut self) -> Result<(), ()>
         requires going { has_failed self.old ≡ false }
-        ensures contents { contents self.new ≡ contents self.old }
+        ensures contents { Keeps (contents self.old) (contents self.new) }
         ensures ok { OnOk result (has_failed self.new ≡ has_failed self.old) }
         ensures err { OnErr result (has_failed self.new ≡ true) }
     {
@@ -157,7 +157,8 @@ fn flush_all<W: Write>(writer: &mut W) -> io::Result<()>
     Err(timeout_error("every flush was interrupted"))
 }
 
-/// A sink over any writer. It models no bytes, since a writer may not know them.
+/// A sink over any writer. Its bytes are those that std models of the writer: over a `Vec`, or a
+/// `&mut` of one, all that it holds.
 ///
 /// It keeps the error that has stopped it.
 #[derive(Drop)]
@@ -240,7 +241,7 @@ impl<W: Write> fmt::Debug for FromWrite<W> {
 }
 
 impl<W: Write> Sink for FromWrite<W> {
-    ghost contents = { λ _. None };
+    ghost contents = { λ sink. W.contents sink.inner };
 
     ghost has_failed = { λ sink. sink.failed };
 

@@ -1,2 +1,3 @@
 pub mod WrittenText
 pub mod MalformedCount
+pub mod SliceLemmas

@@ -3,14 +3,19 @@
 //! `example_callers LABEL` writes the text of standard input, the beginning of it that fits in 48
 //! bytes, the number of malformed sequences, and the length and offset of the first. The text is
 //! decoded into a buffer of the queried length, which is never full. The beginning is decoded in
-//! two chunks into one array.
+//! two chunks into one array. Then it writes the offset and length of each malformed sequence, as a
+//! reader reports them, and the number of bytes of the text in the encoding, after the text was
+//! copied line by line.
 #![tactic(auto)]
+
+mod streams;
 
 ghost use Rattle.std.specs.Prelude.{◌≡◌, ◌+◌, ◌≤◌, length, take, IfOk, IfSome};
 ghost use Rattle.enc_stream.specs.declared.bom.BomHandling.TheVariants.{Sniff};
 ghost use Rattle.encoding_rs.specs.Decoding.{whole_utf_8, whole_sequences};
 ghost use Rattle.example_callers.specs.Count.{malformed_count};
 
+use crate::streams::{copy_lines, malformed_of, written_bytes};
 use encoding_rs::{CoderResult, DecoderResult, Encoding, laws};
 use std::alloc::{AllocError, Global};
 use std::io::{Error, Read, Write};
@@ -140,8 +145,13 @@ fn main(rt: HostRuntime) -> io::Result<()> {
     out.write_all(&text)?;
     out.write_all(&beginning[..len])?;
     writeln!(out, "\nmalformed sequences: {count}")?;
-    match first_malformed(encoding, &bytes) {
-        Some((at, len)) => writeln!(out, "the first: {len} at {at}"),
-        None => Ok(()),
+    if let Some((at, len)) = first_malformed(encoding, &bytes) {
+        writeln!(out, "the first: {len} at {at}")?;
     }
+    for (at, len) in malformed_of(rt.alloc(), encoding, &bytes)? {
+        writeln!(out, "malformed: {len} at {at}")?;
+    }
+    let copy = copy_lines(rt.alloc(), encoding, &bytes)?;
+    let written = written_bytes(rt.alloc(), copy.as_str(), encoding)?;
+    writeln!(out, "written: {} bytes", written.len())
 }

@@ -100,12 +100,10 @@ fn encode_all<R: Read, W: Write>(
     let mut text = [0; LENGTH];
     let mut replaced = false;
     'pieces: for _ in 0..u64::MAX {
-        let Ok(len) = reader.read_str(&mut text) else {
-            return Err(io::Error::from(ErrorKind::Other));
-        };
-        let piece = unsafe { str::from_utf8_unchecked(&text[..len]) };
-        replaced |= encode_text(&mut encoder, piece, len == 0, out)?;
-        if len == 0 {
+        let piece = reader.read_text(&mut text)?;
+        let last = piece.is_empty();
+        replaced |= encode_text(&mut encoder, piece, last, out)?;
+        if last {
             return Ok(replaced | reader.had_errors());
         }
     }

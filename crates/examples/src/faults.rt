@@ -2,9 +2,8 @@
 //!
 //! Those that the program prints of data/diary.txt are where Python's codec gb18030 stops.
 
-use enc_reader::{DecodeReader, FromRead, ReadStop};
+use enc_reader::{DecodeReader, FromRead, MalformedSequence};
 use encoding_rs::Encoding;
-use std::alloc::Global;
 use std::io;
 use std::io::{Error, Read, Write};
 
@@ -46,19 +45,15 @@ impl Place {
     }
 }
 
-/// Returns the `len` bytes from an offset on.
-fn bytes_at(bytes: &[u8], offset: u64, len: u8) -> &[u8] {
-    let at = offset as usize;
-    bytes
-        .get(at..at.saturating_add(usize::from(len)))
-        .unwrap_or_default()
-}
-
 /// Writes a line for a malformed sequence: its offset in bytes, its place, and its bytes.
-fn write_fault<W: Write>(offset: u64, place: Place, bytes: &[u8], out: &mut W) -> io::Result<()> {
+fn write_fault<W: Write>(found: &MalformedSequence, place: Place, out: &mut W) -> io::Result<()> {
     let Place { line, column } = place;
-    write!(out, "offset {offset}, line {line}, column {column}:")?;
-    for byte in bytes {
+    write!(
+        out,
+        "offset {}, line {line}, column {column}:",
+        found.offset()
+    )?;
+    for byte in found.bytes() {
         write!(out, " {byte:02X}")?;
     }
     out.write_all(b"\n")
@@ -67,45 +62,36 @@ fn write_fault<W: Write>(offset: u64, place: Place, bytes: &[u8], out: &mut W) -
 /// Writes a line for each malformed sequence of a whole input, and returns their number.
 ///
 /// A malformed sequence counts as one character of the text, as U+FFFD does where it is replaced.
-fn write_faults<W: Write>(bytes: &[u8], encoding: Encoding, out: &mut W) -> io::Result<usize> {
-    let mut unread = bytes;
-    let mut source = FromRead::new(&mut unread);
-    let mut input = [0; LENGTH];
-    let mut text = [0; LENGTH];
-    let mut reader = DecodeReader::new(&mut source, Some(encoding), &mut input);
+fn write_faults<R: Read, W: Write>(
+    input: &mut R,
+    encoding: Encoding,
+    out: &mut W,
+) -> io::Result<usize> {
+    let mut source = FromRead::new(input);
+    let mut bytes = [0; LENGTH];
+    let mut room = [0; LENGTH];
+    let mut reader = DecodeReader::new(&mut source, Some(encoding), &mut bytes);
     let mut place = Place::START;
     let mut count = 0usize;
     for _ in 0..u64::MAX {
-        match reader.read_str_without_replacement(&mut text)? {
-            ReadStop::Text(0) => return Ok(count),
-            ReadStop::Text(written) => {
-                place = place.after_text(unsafe { str::from_utf8_unchecked(&text[..written]) });
-            }
-            ReadStop::Malformed {
-                written,
-                offset,
-                len,
-            } => {
-                place = place.after_text(unsafe { str::from_utf8_unchecked(&text[..written]) });
-                write_fault(offset, place, bytes_at(bytes, offset, len), out)?;
+        let part = reader.read_text_without_replacement(&mut room)?;
+        place = place.after_text(part.text);
+        match part.malformed {
+            Some(found) => {
+                write_fault(&found, place, out)?;
                 place = place.after('\u{FFFD}');
                 count = count.saturating_add(1);
             }
+            None if part.text.is_empty() => return Ok(count),
+            None => {}
         }
     }
     Err(Error::other("no end"))
 }
 
 /// Reads an input, and writes a line for each malformed sequence and a line with their number.
-pub(crate) fn run<R: Read, W: Write>(
-    alloc: Global,
-    label: &str,
-    input: &mut R,
-    out: &mut W,
-) -> io::Result<()> {
+pub(crate) fn run<R: Read, W: Write>(label: &str, input: &mut R, out: &mut W) -> io::Result<()> {
     let encoding = Encoding::for_label(label.as_bytes()).ok_or(Error::other("unknown label"))?;
-    let mut bytes = Vec::new(alloc);
-    let _len = input.read_to_end(&mut bytes)?;
-    let count = write_faults(&bytes, encoding, out)?;
+    let count = write_faults(input, encoding, out)?;
     writeln!(out, "malformed sequences: {count}")
 }

@@ -9,7 +9,7 @@ use enc_reader::{DecodeReader, FromRead};
 use encoding_rs::{Encoding, WINDOWS_1252};
 use std::alloc::{AllocError, Global};
 use std::io;
-use std::io::{BufRead, BufReader, Error, ErrorKind, Read, Write};
+use std::io::{BufRead, BufReader, Error, Read, Write};
 
 /// The length in bytes of a chunk, and of the room for its text, which is at least 4.
 const CHUNK: usize = 1460;
@@ -132,17 +132,15 @@ fn decode_body<R: Read, W: Write>(
     let mut source = FromRead::new(input);
     let mut chunk = [0; CHUNK];
     let mut reader = DecodeReader::new(&mut source, Some(encoding), &mut chunk);
-    let mut text = [0; CHUNK];
+    let mut room = [0; CHUNK];
     'pieces: for _ in 0..u64::MAX {
-        let Ok(len) = reader.read_str(&mut text) else {
-            return Err(Error::from(ErrorKind::Other));
-        };
-        if len == 0 {
+        let text = reader.read_text(&mut room)?;
+        if text.is_empty() {
             return Ok(reader.had_errors());
         }
-        out.write_all(&text[..len])?;
+        out.write_all(text.as_bytes())?;
     }
-    Err(Error::from(ErrorKind::Other))
+    Err(Error::other("no end"))
 }
 
 /// Reads a header, an empty line and a body. Writes the text of the body, and then its encoding and

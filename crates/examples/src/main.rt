@@ -56,7 +56,7 @@ const PARTED: &[(&str, &str)] = &[
 fn run<R: Read>(rt: &HostRuntime, name: &str, label: &str, input: &mut R) -> io::Result<()> {
     let mut out = rt.stdout();
     match name {
-        "faults" => faults::run(rt.alloc(), label, input, &mut out),
+        "faults" => faults::run(label, input, &mut out),
         "form-data" => form_data::run(rt.alloc(), label, input, &mut out),
         "lines" => lines::run(rt.alloc(), label, input, &mut out),
         "mail-part" => mail_part::run(rt.alloc(), input, &mut out),

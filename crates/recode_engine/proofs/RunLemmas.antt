@@ -19,10 +19,11 @@ use Rattle.enc_stream.specs.Encoder.{whole_bytes}
 use Rattle.enc_stream.specs.Decoding.{has_finished, fresh_decoder, whole_sequences}
 use Rattle.enc_stream.proofs.EndOfInputLemmas.{none_left}
 use Rattle.enc_stream.proofs.EncoderProgressLemmas.{output_rule_is}
-use Rattle.enc_reader.specs.Source.{ConsumesRemaining, IsExhausted}
+use Rattle.enc_reader.specs.Source.{IsExhausted}
+use Rattle.std.specs.Io.KnownBytes.{Consumes}
 use Rattle.enc_reader.specs.Reading.{ReaderState, ReadsOwed, HandsOut, FailsToRead, IsReaderAtEnd, distance_to_end}
 use Rattle.enc_reader.specs.Reading.{fresh_reader, owed_sequences}
-use Rattle.enc_reader.proofs.SourceLemmas.{ConsumesRemaining-then}
+use Rattle.std.proofs.KnownBytes.{Consumes-trans}
 use Rattle.enc_reader.proofs.ReadingLemmas.{ReaderPlace, reader_at, ReadsOwed-none, ReadsOwed-then, handed_utf_8}
 use Rattle.enc_writer.specs.Sink.{AppendsContents}
 use Rattle.enc_writer.specs.Writing.{WriterState, HasWrittenText, TakesPrefix, StopsWithin, EndsText, WritesText}
@@ -136,10 +137,11 @@ none_after s f z = none_left s.decoder (s.unread ++ z) f
 
 -- A source that says all its bytes gives no more than they are.
 whole_given : (old new : Option (List ℕ)) (bytes : List ℕ) {failed : Bool}
-    → ConsumesRemaining old new bytes → (length bytes < 2 ^ 62 → failed ≡ true)
+    → Consumes old new bytes → (length bytes < 2 ^ 62 → failed ≡ true)
     → IfSome old (λ all. length all < 2 ^ 62 → failed ≡ true)
-whole_given old None bytes given fails = rw given tt
-whole_given old (Some rest) bytes given fails =
+whole_given None new bytes given fails = tt
+whole_given (Some all) None bytes given fails = absurd given
+whole_given (Some all) (Some rest) bytes given fails =
     rw given (λ few. fails (omega (arith, few, length-append bytes rest)))
 
 -- Some reads have handed out `text`, of which the sink has taken a prefix of the bytes.
@@ -344,7 +346,7 @@ module _ {start : RunStart} {now : RunState} (so_far : HasRun start now) where
         (λ all. length all < 2 ^ 62 → failed_after ≡ true)
     has_failed-reading =
         whole_given start.remaining next.remaining (so_far.bytes ++ fails.bytes)
-        (ConsumesRemaining-then start.remaining now.source.remaining next.remaining so_far.bytes
+        (Consumes-trans start.remaining now.source.remaining next.remaining so_far.bytes
         fails.bytes so_far.reads.given fails.reads.given)
         (λ few. elim fails.why [
           | inl failed ↦ failed

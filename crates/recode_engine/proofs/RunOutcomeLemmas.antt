@@ -11,7 +11,7 @@ use Rattle.enc_stream.specs.declared.encoding.Encoding.{Encoding}
 use Rattle.enc_reader.specs.declared.decode_reader.ReadFault.{ReadFault}
 use Rattle.enc_reader.specs.declared.decode_reader.ReadFault.TheVariants as fault
 use Rattle.enc_reader.specs.Reading.{ReaderState, HandsOut}
-use Rattle.enc_reader.proofs.SourceLemmas.{ConsumesRemaining-none}
+use Rattle.std.proofs.KnownBytes.{Consumes-nil}
 use Rattle.recode_engine.specs.declared.engine.RecodeFault.{RecodeFault}
 use Rattle.recode_engine.specs.declared.engine.RecodeFault.TheVariants as side_fault
 use Rattle.enc_stream.specs.Recoding.{recoded_bytes}
@@ -143,7 +143,7 @@ IsRecodeRun-not_begun {handling} {from} {to} {source} {sink} fault read write so
       sink_kept = tt;
       err = record {
         bytes = [];
-        given = ConsumesRemaining-none source.bytes;
+        given = Consumes-nil source.bytes;
         ended = false;
         none_left = λ e. absurd (false≢true e);
         wrote = [];

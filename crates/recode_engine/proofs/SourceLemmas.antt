@@ -1,19 +1,20 @@
 -- What a source gives to its end.
-use Rattle.std.proofs.Common.{◌≡◌, ℕ, List, [], ◌++◌, Option, Some, None, refl, ap, ◌∙◌, sym, append-nil}
-use Rattle.std.specs.Prelude.{IfSome, option_map}
-use Rattle.std.specs.Io.KnownBytes.{IsAtEnd}
-use Rattle.enc_reader.specs.Source.{ConsumesRemaining}
+use Rattle.std.proofs.Common.{◌≡◌, ℕ, List, [], ◌++◌, Option, Some, None, ap, ◌∙◌, sym, append-nil}
+use Rattle.std.specs.Prelude.{IfSome}
+use Rattle.std.specs.Io.KnownBytes.{IsAtEnd, Consumes}
 
 -- At the end they are all the bytes of the source.
-pub all_given : (old new : Option (List ℕ)) (bytes : List ℕ) → ConsumesRemaining old new bytes
+pub all_given : (old new : Option (List ℕ)) (bytes : List ℕ) → Consumes old new bytes
     → IsAtEnd new
     → IfSome old (λ all. bytes ≡ all)
-all_given old None bytes given end = rw given tt
-all_given old (Some xs) bytes given end =
-    rw given (sym (ap (λ t. bytes ++ t) end ∙ append-nil bytes))
+all_given None new bytes given end = tt
+all_given (Some xs) None bytes given end = absurd given
+all_given (Some xs) (Some ys) bytes given end =
+    sym (given ∙ ap (λ t. bytes ++ t) end ∙ append-nil bytes)
 
-pub none_remaining : (old new : Option (List ℕ)) (bytes : List ℕ) → ConsumesRemaining old new bytes
+pub none_remaining : (old new : Option (List ℕ)) (bytes : List ℕ) → Consumes old new bytes
     → IsAtEnd new
-    → new ≡ option_map (λ _. []) old
-none_remaining old None bytes given end = rw given refl
-none_remaining old (Some xs) bytes given end = rw given (ap Some end)
+    → IfSome old (λ _. new ≡ Some [])
+none_remaining None new bytes given end = tt
+none_remaining (Some xs) None bytes given end = absurd given
+none_remaining (Some xs) (Some ys) bytes given end = ap Some end

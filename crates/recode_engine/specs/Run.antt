@@ -2,7 +2,7 @@
 -- are decoded by `from`, or by the encoding of a byte order mark at the start, if `handling` looks
 -- for it. The mark is dropped. The text is written in the output encoding of `to`.
 use Rattle.std.specs.Prelude.{◌≡◌, ℕ, ◌^◌, ◌<◌, Bool, true, false, ◌||◌, List, [], ◌∷◌, ◌++◌, length, Option, IfSome}
-use Rattle.std.specs.Prelude.{option_map, IfOk, OnOk, OnErr, IsErrOf}
+use Rattle.std.specs.Prelude.{Some, IfOk, OnOk, OnErr, IsErrOf}
 use Rattle.std.specs.declared.result.Result.{Result}
 use Rattle.enc_stream.specs.declared.bom.BomHandling.{BomHandling}
 use Rattle.enc_stream.specs.declared.encoding.Encoding.{Encoding}
@@ -12,7 +12,8 @@ use Rattle.enc_stream.specs.Properties.{output_encoding_of}
 use Rattle.enc_stream.specs.Decoding.{whole_sequences}
 use Rattle.enc_stream.specs.Encoder.{EncoderState, whole_bytes}
 use Rattle.enc_stream.specs.Recoding.{recoded_bytes, any_replaced}
-use Rattle.enc_reader.specs.Source.{ConsumesRemaining, IsExhausted}
+use Rattle.enc_reader.specs.Source.{IsExhausted}
+use Rattle.std.specs.Io.KnownBytes.{Consumes}
 use Rattle.recode_engine.specs.declared.engine.RecodeFault.{RecodeFault}
 use Rattle.recode_engine.specs.declared.engine.RecodeFault.TheVariants as fault
 use Rattle.enc_writer.specs.Sink.{AppendsContents, BeginsWithBytes}
@@ -23,10 +24,10 @@ use Rattle.enc_writer.specs.EncodedText.{bytes_from_state}
 pub record RunsToEnd (handling : BomHandling) (from to : Encoding)
     (remaining_before remaining_after : Option (List ℕ))
     (taken_before taken_after : Option (List ℕ)) (replaced : Bool) : Type 0 where
-  -- the bytes read: all those of the source, which has none left
+  -- the bytes read: all those of the source, which has none left, if it models them
   pub bytes : List ℕ
   pub all_read : IfSome remaining_before (λ all. bytes ≡ all)
-  pub none_left : remaining_after ≡ option_map (λ _. []) remaining_before
+  pub none_left : IfSome remaining_before (λ _. remaining_after ≡ Some [])
   -- whether a sequence or a character was replaced
   pub flag : replaced ≡ any_replaced handling from to bytes
   -- the sink has taken exactly the bytes of their text
@@ -38,7 +39,7 @@ pub record RunsToFault (handling : BomHandling) (from to : Encoding)
     (taken_before taken_after : Option (List ℕ)) : Type 0 where
   -- the bytes that the source gave during the run
   pub bytes : List ℕ
-  pub given : ConsumesRemaining remaining_before remaining_after bytes
+  pub given : Consumes remaining_before remaining_after bytes
   -- whether the run has seen the end of the source, which has no more bytes then
   pub ended : Bool
   pub none_left : ended ≡ true → IsExhausted remaining_after
@@ -55,7 +56,7 @@ pub record WritesDetermined (handling : BomHandling) (from to : Encoding)
     (taken_before taken_after : Option (List ℕ)) : Type 0 where
   -- the bytes that the source gave during the run
   pub bytes : List ℕ
-  pub given : ConsumesRemaining remaining_before remaining_after bytes
+  pub given : Consumes remaining_before remaining_after bytes
   -- the sequences that they determine, whatever bytes follow, and none more
   pub done : List Sequence
   pub determined : Determines (whole_sequences handling from) bytes done

@@ -95,7 +95,7 @@ fn write_all<R: Source, W: Sink>(
             };
             return Ok(decoding.had_errors() | replaced);
         }
-        let Ok(()) = encoding.write_str(unsafe { str::from_utf8_unchecked(piece) }) else {
+        let Ok(()) = encoding.write_str(piece) else {
             return Err(RecodeFault::Write);
         };
         let Ok(()) = encoding.push_held() else {

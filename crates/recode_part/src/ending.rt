@@ -1,10 +1,10 @@
 //! How the program ends: the line that it prints, and its exit status.
 
-ghost use Rattle.std.specs.Prelude.{◌≡◌, Some};
+ghost use Rattle.std.specs.Prelude.{◌≡◌};
 ghost use Rattle.recode_part.specs.Endings.{status_of_ending, printed_text};
 
 use crate::task::Refusal;
-use recode_engine::{RecodeFault, status};
+use recode_engine::{RecodeError, status};
 use std::fmt;
 
 /// How the program ends.
@@ -12,12 +12,14 @@ use std::fmt;
 pub(crate) enum Ending {
     /// There was nothing to run.
     Refused(Refusal),
-    /// A run returned this.
-    Ran(Result<bool, RecodeFault>),
+    /// A run has reached the end. It returned whether something was replaced.
+    Ran(bool),
+    /// A run failed.
+    Failed(RecodeError),
 }
 
 impl fmt::Display for Ending {
-    ghost output = { λ ending. Some (printed_text ending) };
+    ghost output = { printed_text };
 
     /// Writes the line for standard error, with its line feed; nothing after a run without fault.
     fn fmt<W: fmt::Write>(&self, f: &mut fmt::Formatter<W>) -> fmt::Result {
@@ -27,12 +29,12 @@ impl fmt::Display for Ending {
                 refusal.fmt(f)?;
                 f.write_str("\n")
             }
-            Ending::Ran(Err(fault)) => {
+            Ending::Failed(error) => {
                 f.write_str("recode_part: ")?;
-                fault.fmt(f)?;
+                error.fmt(f)?;
                 f.write_str("\n")
             }
-            Ending::Ran(Ok(_)) => Ok(()),
+            Ending::Ran(_) => Ok(()),
         }
     }
 }
@@ -43,6 +45,7 @@ pub(crate) fn exit_status(ending: &Ending) -> u8
 {
     match ending {
         Ending::Refused(_) => 2,
-        Ending::Ran(outcome) => status(outcome),
+        Ending::Ran(replaced) => status(&Ok(*replaced)),
+        Ending::Failed(_) => 3,
     }
 }

@@ -17,7 +17,7 @@ mod tests;
 use crate::ending::{Ending, exit_status};
 use crate::part::recode_part;
 use crate::task::{Arguments, Refusal, task_of};
-pub use recode_engine::{FromRead, FromWrite};
+pub use recode_engine::{FromRead, FromWrite, RecodeError};
 use std::process::ExitCode;
 use std::{env, io};
 
@@ -51,8 +51,11 @@ fn run(rt: &HostRuntime) -> Ending {
         Ok(task) => {
             let reader = FromRead::new(rt.stdin());
             let mut writer = FromWrite::new(rt.stdout());
-            let (_reader, outcome) = recode_part(&task, reader, &mut writer);
-            Ending::Ran(outcome)
+            let (reader, outcome) = recode_part(&task, reader, &mut writer);
+            match outcome {
+                Ok(replaced) => Ending::Ran(replaced),
+                Err(fault) => Ending::Failed(RecodeError::new(fault, &reader, &writer)),
+            }
         }
         Err(refusal) => Ending::Refused(refusal),
     }

@@ -5,8 +5,9 @@ use crate::part::recode_part;
 use crate::task::{Arguments, Refusal, Task, bound, handling, task_of};
 use enc_stream::Encoding;
 use enc_stream::constants::{ISO_2022_JP, SHIFT_JIS, UTF_8, UTF_16BE, WINDOWS_1252};
-use recode_engine::{BomHandling, FromRead, FromWrite, RecodeFault};
+use recode_engine::{BomHandling, FromRead, FromWrite, RecodeError, RecodeFault};
 use std::alloc::{AllocError, Global};
+use std::io;
 use std::test::Fail;
 
 /// Returns the arguments that these words are, after FROM and TO, PART and maybe LENGTH.
@@ -194,18 +195,24 @@ fn a_run_recodes_the_bytes_of_its_part(rt: HostRuntime) -> Result<(), Fail> {
     Ok(())
 }
 
+/// Returns the fault of a run whose sides keep no error.
+fn failed(fault: RecodeFault) -> RecodeError {
+    let (mut bytes, mut out) = (b"".as_slice(), io::empty());
+    RecodeError::new(fault, &FromRead::new(&mut bytes), &FromWrite::new(&mut out))
+}
+
 #[test]
 fn an_ending_has_a_line_and_a_status(rt: HostRuntime) -> Result<(), Fail> {
     for (ending, line, wanted) in [
-        (Ending::Ran(Ok(false)), "", 0),
-        (Ending::Ran(Ok(true)), "", 1),
+        (Ending::Ran(false), "", 0),
+        (Ending::Ran(true), "", 1),
         (
-            Ending::Ran(Err(RecodeFault::Read)),
+            Ending::Failed(failed(RecodeFault::Read)),
             "recode_part: read failed\n",
             3,
         ),
         (
-            Ending::Ran(Err(RecodeFault::Write)),
+            Ending::Failed(failed(RecodeFault::Write)),
             "recode_part: write failed\n",
             3,
         ),

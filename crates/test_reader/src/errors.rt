@@ -1,6 +1,6 @@
 //! Reads of a source, the error for which it has failed, and how that comes to callers.
 
-use enc_reader::{DecodeReader, DecodedText, FromRead, LineFault, ReadFault, Source};
+use enc_reader::{DecodeReader, DecodedText, FromRead, LineError, LineFault, ReadFault, Source};
 use enc_stream::constants::WINDOWS_1252;
 use std::io;
 use std::io::{BufRead, ErrorKind, Read};
@@ -73,7 +73,17 @@ fn std_gets_the_error_of_the_source(rt: HostRuntime) -> Result<(), Fail> {
             assert!(rt; text.read(&mut [0; 4]).err().map(|e| e.kind()) == Some(kind));
         }
         let mut line = String::new(rt.alloc());
-        assert!(rt; text.read_line(&mut line) == Err(LineFault::Read(ReadFault::Failed)));
+        let Err(error) = text.read_line(&mut line) else {
+            return Err("no error".into());
+        };
+        assert!(rt; *error.fault() == LineFault::Read(ReadFault::Failed));
+        assert!(rt; error.cause().map(|e| e.kind()) == Some(kind));
+        let printed = text_of(rt.alloc(), &error)?;
+        assert!(rt; printed.as_str().ends_with(MESSAGE));
+        let error = io::Error::from(error);
+        assert!(rt; error.kind() == kind);
+        let printed = text_of(rt.alloc(), &error)?;
+        assert!(rt; printed.as_str() == MESSAGE);
         let printed = message_of(rt.alloc(), text.reader().error())?;
         assert!(rt; printed.as_str() == MESSAGE);
     }
@@ -120,5 +130,60 @@ fn a_source_that_keeps_no_error_has_one_for_std(rt: HostRuntime) -> Result<(), F
         let printed = message_of(rt.alloc(), error)?;
         assert!(rt; printed.as_str() == want);
     }
+    Ok(())
+}
+
+/// What follows the text of a fault whose cause has [`MESSAGE`].
+const CAUSE: &str = ": 9 of 10 blocks";
+
+#[test]
+fn an_error_has_its_cause(rt: HostRuntime) -> Result<(), Fail> {
+    let steps = [
+        BYTE,
+        Step::FailWithMessage(ErrorKind::NotADirectory),
+        ALL_BYTES,
+    ];
+    let mut source = FromRead::new(StepReader::new(b"ab", &steps));
+    let mut input = [0; 4];
+    let mut reader = DecodeReader::new(&mut source, Some(WINDOWS_1252), &mut input);
+    let mut room = [0; 4];
+    assert!(rt; reader.read_text(&mut room)? == "a");
+    for fault in [ReadFault::Reader, ReadFault::Failed] {
+        let Err(error) = reader.read_text(&mut room) else {
+            return Err("no error".into());
+        };
+        assert!(rt; *error.fault() == fault);
+        let reason = text_of(rt.alloc(), &fault)?;
+        let printed = text_of(rt.alloc(), &error)?;
+        assert!(rt; printed.as_str().strip_prefix(reason.as_str()) == Some(CAUSE));
+        let printed = text_of(rt.alloc(), &LineError::from(error))?;
+        assert!(rt; printed.as_str().strip_prefix(reason.as_str()) == Some(CAUSE));
+    }
+    let Err(error) = reader.read_text_without_replacement(&mut room) else {
+        return Err("no error".into());
+    };
+    let error = io::Error::from(error);
+    assert!(rt; error.kind() == ErrorKind::NotADirectory);
+    let printed = text_of(rt.alloc(), &error)?;
+    assert!(rt; printed.as_str() == MESSAGE);
+    Ok(())
+}
+
+#[test]
+fn an_error_of_a_source_that_keeps_none_is_its_fault(rt: HostRuntime) -> Result<(), Fail> {
+    let mut source = Broken { failed: false };
+    let mut input = [0; 4];
+    let mut reader = DecodeReader::new(&mut source, Some(WINDOWS_1252), &mut input);
+    let mut room = [0; 4];
+    let Err(error) = reader.read_text(&mut room) else {
+        return Err("no error".into());
+    };
+    assert!(rt; error.cause().is_none());
+    let printed = text_of(rt.alloc(), &error)?;
+    assert!(rt; printed.as_str() == "the source of the text failed");
+    let error = io::Error::from(error);
+    assert!(rt; error.kind() == ErrorKind::Other);
+    let printed = text_of(rt.alloc(), &error)?;
+    assert!(rt; printed.as_str() == "the source of the text failed");
     Ok(())
 }

@@ -105,7 +105,7 @@ fn read_once<R: Source>(
             Err(fault) => gathered.fail(fault),
         },
         _ => match reader.read_or_lend(part) {
-            Ok(handed) => gathered.add(reader.text(part, handed)),
+            Ok(handed) => gathered.add(reader.text(part, handed).as_bytes()),
             Err(fault) => gathered.fail(fault),
         },
     }
@@ -142,7 +142,7 @@ fn take_once<R: Source>(
             let mut line = String::new(alloc);
             let outcome = held.read_line(&mut line);
             gathered.add_line(line.as_bytes())?;
-            match outcome {
+            match outcome.map_err(|error| error.into_fault()) {
                 Ok(n) if n == line.len() => Ok(n > 0),
                 Err(LineFault::Read(fault)) => gathered.fail(fault),
                 _ => Err("another outcome of a line".into()),

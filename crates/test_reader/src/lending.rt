@@ -71,7 +71,10 @@ fn compare_pieces(
         let Ok(handed) = reader.read_or_lend(&mut part) else {
             return Err("the source can't be read".into());
         };
-        assert!(rt; reader.text(&part, handed) == want, "of {len} bytes");
+        assert!(rt;
+            reader.text(&part, handed).as_bytes() == want,
+            "of {len} bytes"
+        );
         assert!(rt;
             part.as_slice().starts_with(want) != *is_lent,
             "of {len} bytes"

@@ -1,8 +1,10 @@
 //! Reads of a `DecodeReader`, one after another: with replacement and without.
 
-use enc_reader::{DecodeReader, FromRead, ReadFault, ReadStop, Source};
-use enc_stream::BomHandling;
-use enc_stream::constants::{REPLACEMENT, UTF_8, UTF_16LE, WINDOWS_1252};
+use enc_reader::{DecodeReader, FromRead, MalformedSequence, ReadFault, ReadStop, Source};
+use enc_stream::constants::{
+    GB18030, ISO_2022_JP, REPLACEMENT, SHIFT_JIS, UTF_8, UTF_16LE, WINDOWS_1252,
+};
+use enc_stream::{BomHandling, Encoding};
 use std::process::Abort;
 use std::test::Fail;
 use test_devices::{BYTE, FAULT, Step, StepReader};
@@ -143,6 +145,74 @@ fn looks_for_the_byte_order_marks_that_it_is_to(rt: HostRuntime) -> Result<(), F
         let mut dst = [0; 16];
         let n = reader.read_str(&mut dst)?;
         assert!(rt; &dst[..n] == text.as_bytes() && reader.encoding() == by);
+    }
+    Ok(())
+}
+
+/// An encoding, an input, and the offset and the bytes of each malformed sequence.
+type MalformedRow = (Encoding, &'static [u8], &'static [(u64, &'static [u8])]);
+
+/// By the Encoding Standard, by hand.
+const MALFORMED: &[MalformedRow] = &[
+    (
+        UTF_8,
+        b"a\xE2\x82b\xF0\x9F\x98",
+        &[(1, b"\xE2\x82"), (4, b"\xF0\x9F\x98")],
+    ),
+    (
+        UTF_8,
+        b"\xED\xA0\x80c",
+        &[(0, b"\xED"), (1, b"\xA0"), (2, b"\x80")],
+    ),
+    (GB18030, b"\x81\x30\x82\x20a", &[(0, b"\x81"), (2, b"\x82")]),
+    (GB18030, b"ab\x81\x30\x81", &[(2, b"\x81\x30\x81")]),
+    (
+        SHIFT_JIS,
+        b"\x81\x20\x81\xFDz\x81",
+        &[(0, b"\x81"), (2, b"\x81\xFD"), (5, b"\x81")],
+    ),
+    (
+        ISO_2022_JP,
+        b"\x1B(B\x1B(Ba\x1Bc",
+        &[(0, b"\x1B(B"), (7, b"\x1B")],
+    ),
+    (UTF_16LE, b"\x00\xDCa\0b", &[(0, b"\x00\xDC"), (4, b"b")]),
+];
+
+/// Reads up to the next malformed sequence, or to the end.
+fn next_malformed<R: Source>(
+    reader: &mut DecodeReader<'_, R>,
+) -> Result<Option<MalformedSequence>, Fail> {
+    let mut room = [0; 4];
+    for _ in 0..100 {
+        let Ok(part) = reader.read_text_without_replacement(&mut room) else {
+            return Err("the source can't be read".into());
+        };
+        if part.malformed.is_some() || part.text.is_empty() {
+            return Ok(part.malformed);
+        }
+    }
+    Err("there is no end".into())
+}
+
+#[test]
+fn malformed_bytes_are_those_of_the_input(rt: HostRuntime) -> Result<(), Fail> {
+    for (encoding, bytes, malformed) in MALFORMED {
+        for len in 1..10 {
+            let mut source = FromRead::new(*bytes);
+            let mut input = [0; 10];
+            let input = &mut input[..len];
+            let off = BomHandling::Off;
+            let mut reader = DecodeReader::with_bom_handling(&mut source, *encoding, off, input);
+            for (offset, wanted) in *malformed {
+                let found = next_malformed(&mut reader)?.ok_or("no malformed sequence")?;
+                assert!(rt;
+                    (found.offset(), found.bytes()) == (*offset, *wanted),
+                    "{offset}"
+                );
+            }
+            assert!(rt; next_malformed(&mut reader)?.is_none());
+        }
     }
     Ok(())
 }

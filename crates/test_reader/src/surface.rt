@@ -2,7 +2,9 @@
 //! another, fails the build (those of a `DecodedText` are in `lines`). And the texts of its values
 //! and faults.
 
-use enc_reader::{DecodeReader, FromRead, HandedText, LineFault, ReadFault, ReadStop, Source};
+use enc_reader::{
+    DecodeReader, FromRead, HandedText, LineFault, ReadError, ReadFault, ReadStop, Source, TextPart,
+};
 use enc_stream::constants::UTF_8;
 use enc_stream::{BomHandling, Encoding};
 use std::io;
@@ -92,8 +94,12 @@ fn a_source_gives_bytes_and_a_reader_text(rt: HostRuntime) -> Result<(), Fail> {
     let Ok(handed) = answer else {
         return Err("the source can't be read".into());
     };
-    let text: &[u8] = reader.text(&dst, handed);
-    assert!(rt; text == b"".as_slice());
+    let text: &str = reader.text(&dst, handed);
+    assert!(rt; text.is_empty());
+    let text: Result<&str, ReadError> = reader.read_text(&mut dst);
+    assert!(rt; text.is_ok_and(|text| text.is_empty()));
+    let part: Result<TextPart<'_>, ReadError> = reader.read_text_without_replacement(&mut dst);
+    assert!(rt; part.is_ok_and(|part| part.text.is_empty() && part.malformed.is_none()));
     let error: Option<io::Error> = reader.error();
     assert!(rt; error.is_none());
     let error: Option<io::Error> = source.take_error();

@@ -1,10 +1,14 @@
 //! Tests of `enc_writer` and of `recode_engine`: texts in several writes and their bytes, sinks
-//! that fail and are flushed, and runs from a source to a sink.
+//! that fail and are flushed, writers of UTF-16 and of bytes, and runs from a source to a sink.
 //!
 //! Bytes of mappable characters are of Python's codecs; other expected values come from the
 //! Encoding Standard, by hand.
 #![tactic(auto)]
 
+#[cfg(test)]
+mod bytes;
+#[cfg(test)]
+mod causes;
 #[cfg(test)]
 mod faults;
 #[cfg(test)]
@@ -19,5 +23,7 @@ mod sinks;
 mod surface;
 #[cfg(test)]
 mod texts;
+#[cfg(test)]
+mod utf_16;
 #[cfg(test)]
 mod writing;

@@ -73,11 +73,10 @@ returns-in_default-write_str-clause-run g c = λ handling from to fresh_reader f
     let next = reader_at (g.R.Source.remaining c.read_or_lend.new.self.reader.now)
     (state_of c.read_or_lend.new.self) in
     let ran = c.reads.invariant.ran handling from to fresh_reader fresh_writer in
-    let same : c.from_utf8_unchecked.result.now ≡ c.text-piece.result.now = search rules in
     IsRecodeRun-fault c.requires.reader c.requires.writer Write refl
     (RunsToFault-writing next ran
     (HandsOut-by c.text-piece.ensures c.in-Ok.ensures.ok)
-    (when_err c.write_str.result (search rules) (rw same at c.write_str.ensures.err)))
+    (when_err c.write_str.result (search rules) c.write_str.ensures.err))
     (λ is. cc) (λ _. (search rules, search rules))
 
 pub returns-in_default-push_held-clause-run : goal.returns-in_default-push_held-clause-run
@@ -85,11 +84,10 @@ returns-in_default-push_held-clause-run g c = λ handling from to fresh_reader f
     let next = reader_at (g.R.Source.remaining c.read_or_lend.new.self.reader.now)
     (state_of c.read_or_lend.new.self) in
     let ran = c.reads.invariant.ran handling from to fresh_reader fresh_writer in
-    let same : c.from_utf8_unchecked.result.now ≡ c.text-piece.result.now = search rules in
     IsRecodeRun-fault c.requires.reader c.requires.writer Write refl
     (RunsToFault-pushing next ran
     (HandsOut-by c.text-piece.ensures c.in-Ok.ensures.ok)
-    (rw same at c.in-Ok-write_str.ensures.ok)
+    c.in-Ok-write_str.ensures.ok
     (when_err c.push_held.result (search rules) c.push_held.ensures.err))
     (λ is. cc) (λ _. (search rules, search rules))
 
@@ -97,13 +95,12 @@ pub reads-preserved : goal.reads-preserved
 reads-preserved g c =
     let next = reader_at (g.R.Source.remaining c.read_or_lend.new.self.reader.now)
     (state_of c.read_or_lend.new.self) in
-    let same : c.from_utf8_unchecked.result.now ≡ c.text-piece.result.now = search rules in
     let some : 0 < length c.text-piece.result.now = some_text _ (search rules) in
     record {
       ran = λ handling from to fresh_reader fresh_writer.
           HasRun-more next (c.reads.invariant.ran handling from to fresh_reader fresh_writer)
           (HandsOut-by c.text-piece.ensures c.in-Ok.ensures.ok)
-          (rw same at c.in-Ok-write_str.ensures.ok) c.in-Ok-push_held.ensures.ok
+          c.in-Ok-write_str.ensures.ok c.in-Ok-push_held.ensures.ok
           (ap (λ (w : WriterState). w.held) c.in-Ok-push_held.ensures.none_held) some;
       text_room = search rules;
       reading = search rules;

@@ -1,9 +1,10 @@
-use Rattle.std.proofs.Common.{rules, arith, ◌≡◌, ◌≤◌, length, take, [], false, not, ap, sym, ◌∙◌, length-take-le}
+use Rattle.std.proofs.Common.{◌++◌, rules, arith, ◌≡◌, ◌≤◌, length, take, [], false, not, ap, sym, ◌∙◌, length-take-le}
 use Rattle.std.proofs.lemmas.Bool.{false≢true, not-true, not-false}
 use Rattle.enc_stream.specs.Decoding.{has_finished}
 use Rattle.enc_reader.specs.Reader.{state_of}
 use Rattle.enc_reader.proofs.TurnLemmas.{IsTurn-call, CountsBytes-call, chunk_can_decode, left_of, some_text, all_read}
-use Rattle.enc_reader.proofs.TurnLemmas.{only_at_end, unreported, chunk_settles, chunk_fills_room}
+use Rattle.enc_reader.proofs.TurnLemmas.{SameEnd-call, decoded_end, only_at_end, unreported}
+use Rattle.enc_reader.proofs.TurnLemmas.{chunk_settles, chunk_fills_room}
 use Rattle.enc_reader.proofs.decode_reader.DecodeReader.decode.Goals as goal
 
 pub returns-then-call-gt0-clause-turn : goal.returns-then-call-gt0-clause-turn
@@ -102,3 +103,11 @@ returns-clause-full g c =
     reader.decoded reader.within 0
     (length-take-le call.result.written call.new.dst within ∙ omega arith)
     (unreported call.result.result))
+
+pub invariant_of-self-clause-same_end : goal.invariant_of-self-clause-same_end
+invariant_of-self-clause-same_end g c =
+    let reader = c.args.self.now in
+    let decodes = c.decode_unread-call.ensures.call.decodes in
+    rw c.decode_unread-call.ensures.kept
+    (SameEnd-call (reader.recent ++ take reader.at reader.input.now) decodes reader.same_end
+    (decoded_end reader.recent reader.filled reader.at _ reader.input.now decodes.call.within))

@@ -1,10 +1,13 @@
-use Rattle.std.proofs.Common.{rules, ◌≡◌, ◌≤◌, length, take, true, false, ap, sym, ◌∙◌, length-take-le}
+use Rattle.std.proofs.Common.{rules, arith, ◌≡◌, ◌≤◌, ◌++◌, length, take, true, false, ap, sym, ◌∙◌}
+use Rattle.std.proofs.Common.{length-append, length-take-le}
 use Rattle.enc_stream.specs.Decoding.{has_finished}
 use Rattle.enc_reader.specs.Reader.{state_of}
 use Rattle.enc_reader.proofs.TurnLemmas.{CountsBytes-call, chunk_can_decode, left_of, all_read}
 use Rattle.enc_reader.proofs.TurnLemmas.{chunk_settles, chunk_fills_room}
 use Rattle.enc_stream.proofs.DecoderProgressLemmas.{ends_read}
-use Rattle.enc_reader.proofs.ReportingLemmas.{IsTurn-reporting, TurnPassesFaults-call, nothing_handed}
+use Rattle.enc_reader.proofs.ReportingLemmas.{IsTurn-reporting, TurnPassesItems-call, nothing_handed}
+use Rattle.enc_reader.proofs.ReportingLemmas.{HasShortLens-call, TurnPassesItems-none}
+use Rattle.enc_reader.proofs.TurnLemmas.{SameEnd-call, decoded_end}
 use Rattle.enc_reader.proofs.decode_reader.DecodeReader.decode_reporting.Goals as goal
 
 pub returns-clause-turn : goal.returns-clause-turn
@@ -27,16 +30,38 @@ returns-clause-turn g c =
     let ended = c.waits_on-waits.ensures.goes_on f none.0 (lens ∙ none.1) in
     let finished : has_finished call.new.decoder ≡ true = search rules in finished))
 
-pub returns-clause-faults : goal.returns-clause-faults
-returns-clause-faults g c =
+pub returns-clause-items : goal.returns-clause-items
+returns-clause-items g c =
     let reader = c.args.self.now in
     let call = c.report_unread-call in
     let decodes = call.ensures.call.decodes in
     rw (c.reported_lens-malformed.ensures, call.ensures.kept)
-    (TurnPassesFaults-call (state_of reader) decodes
+    (TurnPassesItems-call (state_of reader) decodes
     (chunk_can_decode reader.filled reader.at reader.input.now (search rules) reader.decoded
     reader.within c.if-self.false c.requires.room)
-    (left_of reader.filled reader.at _ reader.input.now reader.decoded decodes.call.within))
+    (reader.recent ++ take reader.at reader.input.now)
+    (omega (arith, length-append reader.recent (take reader.at reader.input.now)))
+    reader.same_end
+    (left_of reader.filled reader.at _ reader.input.now reader.decoded decodes.call.within)
+    (decoded_end reader.recent reader.filled reader.at _ reader.input.now decodes.call.within))
+
+pub returns-clause-lens : goal.returns-clause-lens
+returns-clause-lens g c =
+    let reader = c.args.self.now in
+    let decodes = c.report_unread-call.ensures.call.decodes in
+    rw c.reported_lens-malformed.ensures
+    (HasShortLens-call (state_of reader) decodes
+    (chunk_can_decode reader.filled reader.at reader.input.now (search rules) reader.decoded
+    reader.within c.if-self.false c.requires.room))
+
+pub invariant_of-self-clause-same_end : goal.invariant_of-self-clause-same_end
+invariant_of-self-clause-same_end g c =
+    let reader = c.args.self.now in
+    let call = c.report_unread-call in
+    let decodes = call.ensures.call.decodes in
+    rw call.ensures.kept
+    (SameEnd-call (reader.recent ++ take reader.at reader.input.now) decodes reader.same_end
+    (decoded_end reader.recent reader.filled reader.at _ reader.input.now decodes.call.within))
 
 pub returns-clause-counts : goal.returns-clause-counts
 returns-clause-counts g c =
@@ -80,3 +105,13 @@ returns-clause-full g c =
     reader.decoded reader.within call.result.written
     (length-take-le call.result.written call.new.dst within)
     (sym c.reported_lens-malformed.ensures ∙ none))
+
+pub returns-then-is_finished-clause-items : goal.returns-then-is_finished-clause-items
+returns-then-is_finished-clause-items g c =
+    TurnPassesItems-none (state_of c.args.self.now)
+    (c.args.self.now.recent ++ take c.args.self.now.at c.args.self.now.input.now)
+
+pub returns-then-self-clause-items : goal.returns-then-self-clause-items
+returns-then-self-clause-items g c =
+    TurnPassesItems-none (state_of c.args.self.now)
+    (c.args.self.now.recent ++ take c.args.self.now.at c.args.self.now.input.now)

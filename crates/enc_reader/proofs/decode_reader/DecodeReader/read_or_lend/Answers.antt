@@ -1,10 +1,11 @@
-use Rattle.std.proofs.Common.{[], arith, rules, ◌<◌, refl, ap}
+use Rattle.std.proofs.Common.{◌+◌, ◌++◌, take, [], arith, rules, ◌<◌, refl, ap}
 use Rattle.enc_stream.specs.Bom.{find_mark}
 use Rattle.enc_reader.proofs.ReadingLemmas.{handed_utf_8}
 use Rattle.enc_reader.proofs.CountingLemmas.{nothing_undetermined}
 use Rattle.enc_reader.proofs.LendingLemmas.{HandsOutCounted-filled, HandsOutCounted-lent, CountsBytes-lent}
 use Rattle.enc_reader.proofs.LendingLemmas.{HandsOut-filled, HandsOut-chunk, FailsToRead-filled}
 use Rattle.enc_reader.proofs.LongTextLemmas.{own_text_at_hand, lent_len}
+use Rattle.enc_reader.proofs.RecentLemmas.{SameEnd-nil}
 use Rattle.enc_reader.proofs.decode_reader.DecodeReader.read_or_lend.Goals as goal
 
 pub returns-then-len-ge-LEAST_LENT-clause-ok : goal.returns-then-len-ge-LEAST_LENT-clause-ok
@@ -105,3 +106,10 @@ returns-clause-lends g c =
                 (record { some = omega (arith, least); among = among; own = is_own }),
           ));
     })
+
+pub invariant_of-self-clause-same_end : goal.invariant_of-self-clause-same_end
+invariant_of-self-clause-same_end g c =
+    let some : 0 < c.text_ahead-len.result = omega arith in
+    rw (c.text_ahead-len.ensures.own some).between.none_pending
+    (SameEnd-nil (c.fill.new.self.recent
+    ++ take (c.fill.new.self.at + c.text_ahead-len.result) c.fill.new.self.input.now))

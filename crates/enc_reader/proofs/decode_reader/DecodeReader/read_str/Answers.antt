@@ -2,6 +2,7 @@ use Rattle.std.proofs.Common.{rules, arith, ◌≡◌, ◌||◌, take, [], ap, s
 use Rattle.enc_reader.specs.Reader.{state_of}
 use Rattle.enc_reader.specs.Reading.{FillsRoom}
 use Rattle.enc_reader.proofs.ReadingLemmas.{HasRead-turn, HasRead-more, FailsToRead-waiting}
+use Rattle.enc_reader.proofs.ReadingLemmas.{FailsToRead-kept}
 use Rattle.enc_reader.proofs.CountingLemmas.{HasCounted-turn, HasCounted-more, HandsOutCounted-read}
 use Rattle.enc_reader.proofs.decode_reader.DecodeReader.read_str.Goals as goal
 
@@ -72,5 +73,6 @@ returns-in_err-pull-clause-reader_fault g c =
     let none : take c.pulls.turn.written c.pulls.dst ≡ [] =
     ap (λ n. take n c.pulls.dst) (invariant.none c.pulls-test.true) in
     let waited = rw (none, c.pulls-test.true) at invariant.read in
-    λ _. rw (failed.same, failed.none_given)
-    (FailsToRead-waiting waited (c.args.self.now.going c.if-self.false) (inl failed.err))
+    λ _. rw failed.same
+    (FailsToRead-kept _ _ _ failed.none_given
+    (FailsToRead-waiting waited (c.args.self.now.going c.if-self.false) (inl failed.err)))

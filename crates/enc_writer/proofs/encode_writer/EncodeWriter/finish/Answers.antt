@@ -1,6 +1,7 @@
 use Rattle.std.proofs.Common.{◌∙◌}
+use Rattle.enc_writer.specs.Writing.{owed_bytes}
 use Rattle.enc_writer.specs.Writer.{writer_of}
-use Rattle.enc_writer.proofs.SinkLemmas.{on_err}
+use Rattle.enc_writer.proofs.SinkLemmas.{AppendsContents-keeps, on_err}
 use Rattle.enc_writer.proofs.StoppingLemmas.{HasStopped-ended, StopsText-by, StopsWithin-stopped, same_by}
 use Rattle.enc_writer.proofs.encode_writer.EncodeWriter.finish.Goals as goal
 
@@ -20,5 +21,6 @@ returns-in_err-flush_sink-clause-stopped g c =
 
 pub returns-clause-ok : goal.returns-clause-ok
 returns-clause-ok g c =
-    λ k start text first. c.flush_sink.ensures.contents
-    ∙ c.in_ok-had_unmappables.ensures.ok k start text first
+    λ k start text first.
+    AppendsContents-keeps k _ _ (owed_bytes start text)
+    (c.in_ok-had_unmappables.ensures.ok k start text first) c.flush_sink.ensures.contents

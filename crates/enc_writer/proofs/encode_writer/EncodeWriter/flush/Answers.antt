@@ -1,5 +1,6 @@
 use Rattle.enc_writer.specs.Writer.{writer_of}
-use Rattle.enc_writer.proofs.SinkLemmas.{on_err}
+use Rattle.enc_writer.proofs.SinkLemmas.{on_err, on_ok}
+use Rattle.enc_writer.proofs.WritingLemmas.{HasWrittenText-keeps, WritesText-alone}
 use Rattle.enc_writer.proofs.StoppingLemmas.{HasStopped-written, StopsText-by, StopsWithin-stopped, same_by}
 use Rattle.enc_writer.proofs.encode_writer.EncodeWriter.flush.Goals as goal
 
@@ -16,3 +17,9 @@ returns-clause-stopped g c =
     (StopsText-by
     (HasStopped-written c.in_ok-push_held.ensures.ok.alone c.flush_sink.ensures.contents
     (same_by c.flush_sink.ensures.unchanged)))
+
+pub returns-clause-ok : goal.returns-clause-ok
+returns-clause-ok g c =
+    on_ok c.flush_sink.result _
+    (WritesText-alone (HasWrittenText-keeps c.in_ok-push_held.ensures.ok.alone
+    c.flush_sink.ensures.contents c.flush_sink.ensures.unchanged))

@@ -1,0 +1,2 @@
+pub mod LoopLemmas
+pub mod WholeLemmas

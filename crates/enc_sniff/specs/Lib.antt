@@ -1,0 +1,11 @@
+pub mod Positions
+pub mod Attributes
+pub mod Labels
+pub mod Xml
+pub mod Content
+pub mod Meta
+pub mod Html
+pub mod Runs
+pub mod Views
+pub mod Sniff
+pub mod Evidence
