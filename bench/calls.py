@@ -15,7 +15,7 @@ import textwrap
 
 import corpora
 import counts
-from report import STYLE, markdown
+from report import STYLE, head, markdown
 
 # The lengths of pieces, and those of chunks with the room of a call.
 LENGTHS = (16, 64, 256)
@@ -39,6 +39,9 @@ CODECS = {"from-utf8": "utf-8", "encode": "utf-8", "encode-lending": "utf-8", "f
 
 ASCII_LABELS = ("windows-1252", "Shift_JIS", "ISO-2022-JP")
 PICTURE = "The rate of short calls by that of the crate encoding_rs, for each text and length"
+AXIS = "bytes of a piece, or chunk/room of a call"
+# The colours of the cells, by their ratios.
+LEGEND = {"less": "slower: below 1.00", "more": "1.00 to 1.49", "much": "1.50 and more"}
 LEFT = 270
 CELL = 44
 HIGH = 20
@@ -256,9 +259,20 @@ def fill(ratio):
     return "less" if is_less(ratio) else "more" if ratio < 1.495 else "much"
 
 
-def draw_rows(kinds, rows, top):
+def draw_legend(top):
+    """The colours of the cells, in a line at a height."""
+    made = []
+    for number, (kind, said) in enumerate(LEGEND.items()):
+        x = LEFT + 200 * number
+        made.append(f'<rect class="{kind}" x="{x}" y="{top - 13}" width="{CELL - 2}" height="{HIGH - 2}"/>')
+        made.append(f'<text x="{x + CELL + 4}" y="{top}">{said}</text>')
+    return made
+
+
+def draw_rows(name, kinds, rows, top):
     """The rows of a direction, from a height on, below the heads of its columns."""
-    made, left = [], LEFT
+    made, left = [f'<text class="title" x="8" y="{top}">{name}</text>'], LEFT
+    made.append(f'<text x="{LEFT - 8}" y="{top + 16}" text-anchor="end">{AXIS}</text>')
     for _, chunks, title in kinds:
         heads = names(chunks)
         made.append(f'<text x="{left}" y="{top}">{title}</text>')
@@ -281,11 +295,10 @@ def draw_rows(kinds, rows, top):
 def draw(path, directions):
     """Writes the picture: a cell for each text and length, by whether it is slower than the crate or faster."""
     width = LEFT + CELL * sum(len(names(chunks)) for _, chunks, _ in DECODING) + GAP * len(DECODING)
-    made, top = [], 20
-    for _, kinds, rows in directions:
-        made += draw_rows(kinds, rows, top)
+    made, top = draw_legend(44), 76
+    for name, kinds, rows in directions:
+        made += draw_rows(name, kinds, rows, top)
         top += 24 + HIGH * len(rows) + 30
-    begin = [f'<svg xmlns="http://www.w3.org/2000/svg" viewBox="0 0 {width} {top - 20}" role="img">',
-             f"<title>{PICTURE}</title>", STYLE.replace("</style>", CELL_STYLE + "</style>")]
+    begin = head(PICTURE, width, top - 20, STYLE.replace("</style>", CELL_STYLE + "</style>"))
     with open(path, "w", encoding="utf-8") as file:
         file.write("\n".join([*begin, *made, "</svg>", ""]))

@@ -39,6 +39,7 @@ QUERIED = {"valid-utf8": corpora.UNICODE[:3], "valid-ascii": corpora.UNICODE[:1]
            "valid-iso-2022-jp": corpora.UNICODE[:1], "latin1": corpora.LATIN1}
 
 PICTURE = "The rate of decoding to UTF-16 by that of the crate encoding_rs"
+AXIS = "rate of decode_to_utf16 / its rate in encoding_rs"
 
 
 def build_simdutf():

@@ -10,17 +10,21 @@ DECODING = "How many times as fast as the crate encoding_rs recode decodes"
 ENCODING = "How many times as fast as the best of encoding_rs, iconv and uconv recode encodes"
 PEERS = ("encoding_rs", "iconv", "uconv")
 
-# The pictures: the name of each, its way, its title, and the programs that it compares with.
+# The pictures: the name of each, its way, its title, that of its axis, and the programs that it compares with.
 PICTURES = (
-    ("speed", "decode", DECODING, ("encoding_rs",)),
-    ("speed-encoding", "encode", ENCODING, PEERS),
+    ("speed", "decode", DECODING, "rate of recode / rate of encoding_rs", ("encoding_rs",)),
+    ("speed-encoding", "encode", ENCODING, "rate of recode / best rate of the three", PEERS),
 )
 
 BAR = 16
 LEFT = 270
 WIDTH = 820
+# Where the first bar begins, below the title, the names of the axes and the numbers.
+FIRST = 72
 STYLE = """<style>
+  :root { color-scheme: light dark; }
   text { font: 12px sans-serif; fill: #1f2328; }
+  .title { font-size: 14px; font-weight: 600; }
   .bar { fill: #2f6fb3; }
   .grid { stroke: #8c959f; stroke-width: 0.5; }
   .one { stroke: #c0562b; stroke-width: 1.5; }
@@ -86,23 +90,27 @@ def text(circumstances, rows):
     return "\n\n".join(parts)
 
 
-def picture(title, bars):
-    """Horizontal bars, each with its title: how many times as fast as its peers a program is."""
+def head(title, width, height, style=STYLE):
+    """What a picture begins with: its style, and its title."""
+    return [f'<svg xmlns="http://www.w3.org/2000/svg" viewBox="0 0 {width} {height}" role="img">',
+            f"<title>{title}</title>", style, f'<text class="title" x="8" y="18">{title}</text>']
+
+
+def picture(title, axis, bars):
+    """Horizontal bars, each with the name of its text: how many times as fast as its peers a program is."""
     most = max(2, *(ratio for _, ratio in bars))
     scale = (WIDTH - LEFT - 60) / most
-    height = 40 + (BAR + 8) * len(bars)
-    made = [
-        f'<svg xmlns="http://www.w3.org/2000/svg" viewBox="0 0 {WIDTH} {height}" role="img">',
-        f"<title>{title}</title>",
-        STYLE,
-    ]
+    height = FIRST + 10 + (BAR + 8) * len(bars)
+    made = head(title, WIDTH, height)
+    made.append(f'<text x="{LEFT - 8}" y="{FIRST - 14}" text-anchor="end">text</text>')
+    made.append(f'<text x="{LEFT}" y="40">{axis}</text>')
     for number in range(int(most) + 1):
         x = LEFT + scale * number
         kind = "one" if number == 1 else "grid"
-        made.append(f'<line class="{kind}" x1="{x:.1f}" y1="22" x2="{x:.1f}" y2="{height - 12}"/>')
-        made.append(f'<text x="{x:.1f}" y="16" text-anchor="middle">{number}</text>')
+        made.append(f'<line class="{kind}" x1="{x:.1f}" y1="{FIRST - 8}" x2="{x:.1f}" y2="{height - 12}"/>')
+        made.append(f'<text x="{x:.1f}" y="{FIRST - 14}" text-anchor="middle">{number}</text>')
     for number, (name, ratio) in enumerate(bars):
-        y = 30 + (BAR + 8) * number
+        y = FIRST + (BAR + 8) * number
         length = scale * ratio
         made.append(f'<text x="{LEFT - 8}" y="{y + 12}" text-anchor="end">{name}</text>')
         made.append(f'<rect class="bar" x="{LEFT}" y="{y}" width="{length:.1f}" height="{BAR}"/>')
@@ -112,14 +120,15 @@ def picture(title, bars):
 
 def draw(folder, rows):
     """Writes the pictures."""
-    for name, way, title, peers in PICTURES:
-        put_picture(f"{folder}/{name}.svg", title, [(row.title, row.ratio(peers)) for row in rows if row.way == way])
+    for name, way, title, axis, peers in PICTURES:
+        bars = [(row.title, row.ratio(peers)) for row in rows if row.way == way]
+        put_picture(f"{folder}/{name}.svg", title, axis, bars)
 
 
-def put_picture(path, title, bars):
+def put_picture(path, title, axis, bars):
     """Writes a picture to a file."""
     with open(path, "w", encoding="utf-8") as file:
-        file.write(picture(title, bars))
+        file.write(picture(title, axis, bars))
 
 
 def put_between_marks(path, text, begin=BEGIN):

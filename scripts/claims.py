@@ -96,12 +96,14 @@ def cited(said, path):
 
 
 def named(path, before):
-    """The functions of a name, public ones if there are any, and its qualifiers: its own, or those before it."""
+    """The functions of a name, public and with clauses if there are any, and its qualifiers: its own or those before."""
     *qualifiers, name = path.split("::")
     qualifiers = qualifiers or before
     found = [it for it in functions() if fnmatch.fnmatchcase(it.name, name) and it.qualifiers.issuperset(qualifiers)]
     found = [it for it in found if not it.owner or it.owner in qualifiers]
-    return [it for it in found if it.public] or found, qualifiers
+    found = [it for it in found if it.public] or found
+    # a method of a trait that states nothing itself has the name of one of the type's own
+    return (len(found) > 1 and [it for it in found if it.clauses]) or found, qualifiers
 
 
 class Claims:

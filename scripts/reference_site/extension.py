@@ -1,4 +1,8 @@
-"""What Sphinx does beside pages of Markdown: the list of pages beside each, and pages of sources."""
+"""What Sphinx does beside pages of Markdown.
+
+It makes the list of pages beside each, pages of sources, the passages that a search shows, and what Debian's theme
+lacks.
+"""
 
 import html
 import json
@@ -21,9 +25,14 @@ PAGE = """<!doctype html>
 <title>{title}</title>
 <link rel="stylesheet" href="{up}_static/pygments.css"><link rel="stylesheet" href="{up}_static/styles/furo.css">
 <link rel="stylesheet" href="{up}_static/site.css"></head>
-<body class="of-source"><p><a href="{up}index.html">encoding_rs in Rattle</a></p>
+<body class="of-source"><script>{choose_theme}</script><p><a href="{up}index.html">encoding_rs in Rattle</a></p>
 <h1>{title}</h1>{body}</body></html>
 """
+
+# The choice of colours that the theme keeps.
+CHOOSE_THEME = 'document.body.dataset.theme = localStorage.getItem("theme") || "auto";'
+# What the search asks of the browser, and the page that it is on.
+SEARCH, SEARCH_FILES = "search", ("passages.js", "search.js")
 
 
 @simplefilter
@@ -107,17 +116,88 @@ def body_of_file(top, path):
     return f'<div class="highlight lines"><pre>{rows}</pre></div>'
 
 
-def take_along(app, failure):
-    """Copies what styles of Debian's theme take from a web server, and has them take it from beside them."""
-    for at, _, names in os.walk(os.path.join(app.outdir, "_static")) if not failure else ():
-        for path in (os.path.join(at, it) for it in names if it.endswith(".css")):
-            with open(path, encoding="utf-8") as file:
-                text = file.read()
-            for wanted in set(re.findall(r"url\((/javascript/[^)]+)\)", text)):
-                shutil.copy(f"/usr/share{wanted}", at)
-                text = text.replace(wanted, os.path.basename(wanted))
+# The theme, as Debian builds it, lacks what upstream's tools add.
+
+def read(path):
+    with open(path, encoding="utf-8") as file:
+        return file.read()
+
+
+def with_files(text, at):
+    """A style with what it takes from a web server beside it."""
+    for wanted in set(re.findall(r"url\((/javascript/[^)]+)\)", text)):
+        shutil.copy(f"/usr/share{wanted}", at)
+        text = text.replace(wanted, os.path.basename(wanted))
+    return text
+
+
+def with_dark_by_itself(text, _):
+    """A style whose dark colours hold where the browser asks for them, too, unless the reader has chosen others."""
+    dark = re.search(r'@media not print \{(\s+body\[data-theme="dark"\].*?\} )\}\n', text, re.S)
+    if not dark or "prefers-color-scheme" in text:
+        return text
+    dark = dark[1].replace('[data-theme="dark"]', ':not([data-theme="light"])')
+    return f"{text}@media not print {{ @media (prefers-color-scheme: dark) {{{dark}}} }}\n"
+
+
+def with_imports(text, at):
+    """A script with those that it imports before it: no browser loads a module from a file."""
+    return re.sub(r'^import \w+ from "\./([^"]+)";$', lambda it: read(f"{at}/{it[1]}"), text, flags=re.M)
+
+
+STEPS = {".css": (with_files, with_dark_by_itself), ".js": (with_imports,)}
+
+
+def complete_theme(app, failure):
+    """Adds to the copies of the theme's files in the site."""
+    static = os.path.join(app.outdir, "_static")
+    for at, _, names in os.walk(static) if not failure else ():
+        for path in (os.path.join(at, it) for it in names):
+            steps = STEPS.get(os.path.splitext(path)[1], ())
+            text = after = read(path) if steps else ""
+            for step in steps:
+                after = step(after, at)
+            if after != text:
                 with open(path, "w", encoding="utf-8") as file:
-                    file.write(text)
+                    file.write(after)
+
+
+# Search
+
+def words_of(part):
+    """The text of a part of a page."""
+    text = re.sub(r"</?(?:a|b|code|em|i|span|strong|wbr)\b[^>]*>", "", part)
+    return " ".join(html.unescape(re.sub(r"<[^>]*>", " ", text)).split())
+
+
+def passages_of(page):
+    """The text of a page by sections, each with its anchor: what stands before the first has none.
+
+    In each the prose comes first, and then the code.
+    """
+    article = re.search(r'<article role="main">(.*?)</article>', page, re.S)[1]
+    article = re.sub(r'<(h[1-6]|script|style)\b.*?</\1>|<div class="item-head">.*?</div>', "", article, flags=re.S)
+    parts = re.split(r'<section id="([^"]+)">', article)
+    for anchor, part in zip(["", *parts[1::2]], parts[::2]):
+        code = re.findall(r"<pre\b.*?</pre>", part, re.S)
+        prose = re.sub(r"<pre\b.*?</pre>", " ", part, flags=re.S)
+        if text := words_of(" ".join([prose, *code])):
+            yield anchor, text
+
+
+def write_passages(app, failure):
+    """Writes the passages of all pages as a script, since a page from a file can't read another one."""
+    if failure:
+        return
+    pages = {it: [*passages_of(read(os.path.join(app.outdir, f"{it}.html")))] for it in sorted(app.env.found_docs)}
+    with open(os.path.join(app.outdir, "_static", SEARCH_FILES[0]), "w", encoding="utf-8") as file:
+        file.write(f"const passages = {json.dumps(pages, ensure_ascii=False, separators=(',', ':'))};\n")
+
+
+def put_search(app, pagename, templatename, context, doctree):  # pylint: disable=unused-argument
+    """Gives the page of the search the scripts that show passages."""
+    for it in SEARCH_FILES if pagename == SEARCH else ():
+        app.add_js_file(it)
 
 
 def write_sources(app, failure):
@@ -130,12 +210,15 @@ def write_sources(app, failure):
         os.makedirs(os.path.dirname(to), exist_ok=True)
         body = body_of_folder(path, page, pages) if os.path.isdir(f"{top}/{path}") else body_of_file(top, path)
         with open(to, "w", encoding="utf-8") as file:
-            file.write(PAGE.format(title=html.escape(path), up="../" * page.count("/"), body=body))
+            up = "../" * page.count("/")
+            file.write(PAGE.format(title=html.escape(path), up=up, body=body, choose_theme=CHOOSE_THEME))
 
 
 def setup(app):
     app.connect("doctree-read", tell_apart, priority=100)
     app.connect("html-page-context", put_tree, priority=400)
-    app.connect("build-finished", take_along)
+    app.connect("html-page-context", put_search)
+    app.connect("build-finished", complete_theme)
+    app.connect("build-finished", write_passages)
     app.connect("build-finished", write_sources)
     return {"parallel_read_safe": True, "parallel_write_safe": True}

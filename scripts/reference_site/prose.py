@@ -25,6 +25,9 @@ CLAIM_LIST = re.compile(rf"(?:{CLAIM.pattern}\n)+", re.M)
 LIST_OF_NAMES = re.compile(r"^- \*([^*]+)\*:", re.M)
 # The comments around what scripts write. Others stay: they end a list.
 WRITTEN = re.compile(r"<!-- (?:scripts/|to here).*?-->\n?", re.S)
+# What a picture has for dark colours, and says of both.
+DARK = re.compile(r"^ *@media \(prefers-color-scheme: dark\) \{\n(.*?)^ *\}\n(?= *(?:\.|<))", re.M | re.S)
+BOTH = re.compile(r"^ *:root \{ color-scheme: light dark; \}\n", re.M)
 
 
 def documents():
@@ -37,10 +40,10 @@ def page_of_document(path):
 
 
 class Sources:
-    """The files that have a page of their own, and those that are copied."""
+    """The files that have a page of their own, those that are copied, and pictures, by their texts."""
 
     def __init__(self):
-        self.pages, self.copied = {}, {}
+        self.pages, self.copied, self.pictures = {}, {}, {}
 
     def page(self, path):
         """The page of a file, or of a folder, whose files get one too."""
@@ -54,6 +57,17 @@ class Sources:
     def copy(self, path):
         self.copied[path] = f"files/{path}"
         return self.copied[path]
+
+    def schemes(self, path):
+        """A picture by the class of its element. One with dark colours is two: the theme, which a reader can choose,
+        decides which is shown, and not the browser."""
+        if not path.endswith(".svg") or not DARK.search(text := BOTH.sub("", read(path))):
+            return {"picture": self.copy(path)}
+        light, dark = DARK.sub("", text), DARK.sub(r"\1", text)
+        made = {"picture only-light": ("light", light), "picture only-dark": ("dark", dark)}
+        stem = f"files/{path.removesuffix('.svg')}"
+        self.pictures |= {f"{stem}-{scheme}.svg": drawn for scheme, drawn in made.values()}
+        return {kind: f"{stem}-{scheme}.svg" for kind, (scheme, _) in made.items()}
 
 
 class Prose:
@@ -104,10 +118,11 @@ class Prose:
         """A link, a picture, a name or a path of a document, as HTML."""
         folder = os.path.dirname(document)
         if match["picture"]:
-            at = self.file_address(os.path.join(folder, match["picture"]), page)
-            if not at:
-                self.dead.append(f"{document}: {match['picture']}")
-            return f'<img class="picture" src="{at}" alt="{html.escape(match["alt"])}">'
+            path = posixpath.normpath(os.path.join(folder, match["picture"]))
+            self.dead += [f"{document}: {match['picture']}"] * (not is_there(path))
+            made = self.pages.sources.schemes(path) if is_there(path) else {}
+            return "".join(f'<img class="{kind}" src="{posixpath.relpath(to, posixpath.dirname(page))}" '
+                           f'alt="{html.escape(match["alt"])}">' for kind, to in made.items())
         if target := match["target"]:
             path, *anchor = re.split("(?=#)", target)
             is_address = "://" in target or not path
@@ -118,6 +133,9 @@ class Prose:
             self.links += 1
             inner = re.sub(r"`([^`]*)`", lambda it: f"<code>{html.escape(it[1], quote=False)}</code>", match["text"])
             return f'<a href="{at}">{inner}</a>' if at else inner
+        # (a search shows a heading as a link)
+        if match.string[match.string.rfind("\n", 0, match.start()) + 1:].startswith("#"):
+            return match[0]
         if path := match["path"]:
             at = self.file_address(path, page) if self.is_shown(path) else None
             self.links += bool(at)
@@ -162,4 +180,6 @@ class Prose:
         parts = FENCE.split(text)
         found = "".join(it if it.startswith("```") else self.text(it, document, page) for it in parts)
         found = re.sub(r"%CLAIMS(\d+)%", lambda it: lists[int(it[1])], found)
-        return page, re.sub(r"^```text$", "```none", found, flags=re.M)
+        # (names of languages that Pygments knows)
+        found = re.sub(r"^```(\w+),.*$", r"```\1", found, flags=re.M)
+        return page, re.sub(r"^```(?:text|antt)$", "```none", found, flags=re.M)

@@ -5,8 +5,9 @@ its definition, each definition to those under it and to its section of the stan
 to its clauses. The site is written to FOLDER, or to out/reference. It needs no server and no network: open index.html.
 
 --walk then walks through it in headless Chromium, and says what it saw: every link leads somewhere, a search finds
-what it should, clicks lead from a call to the rule of UTF-8, nothing is wider than a phone, and nothing is fetched. The
-status is 0 only if all of that held.
+what it should and shows a passage of it, clicks lead from a call to the rule of UTF-8, a button chooses light or dark
+colours, in which pictures can be read, nothing is wider than a phone, and nothing is fetched. The status is 0 only if
+all of that held.
 
 Sphinx, MyST and furo, and for the walk Chromium and Selenium, are Debian's packages, and are installed where they are
 missing. Where one cannot be had, a line says which, and the status is 2.
@@ -24,7 +25,7 @@ import tempfile
 
 from browsers import PYTHON, driven
 from claim_links import LinkedClaims
-from common import TOP, give_up
+from common import TOP, give_up, write
 from definitions import spec_files
 from homes import Homes
 from names import Marker, breakable, href
@@ -164,6 +165,8 @@ class Site:
         for path, to in self.sources.copied.items():
             os.makedirs(os.path.dirname(f"{room}/extra/{to}"), exist_ok=True)
             shutil.copy(f"{TOP}/{path}", f"{room}/extra/{to}")
+        for to, text in self.sources.pictures.items():
+            write(f"{room}/extra/{to}", text)
 
     def counts(self):
         """The numbers of the reference, and what could not be linked."""

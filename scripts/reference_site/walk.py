@@ -1,12 +1,15 @@
 """Walks through the reference in headless Chromium, with no network: walk.py FOLDER
 
-It says what it saw, and its status is 0 only if each link leads somewhere, a search finds a call, clicks lead from a
-call to the rule of UTF-8, no page is wider than a phone, and nothing was fetched from anywhere else.
+It says what it saw, and its status is 0 only if each link leads somewhere, a search finds a call and shows a passage of
+each page that it finds, clicks lead from a call to the rule of UTF-8, a button chooses the colours, in which pictures
+can be read, no page is wider than a phone, and nothing was fetched from anywhere else.
 """
 
 import collections
+import itertools
 import json
 import os
+import re
 import sys
 import time
 from urllib.parse import unquote, urlsplit
@@ -26,6 +29,13 @@ SOUGHT = {
 }
 # The walk by clicks: from the clauses of a function to a definition.
 FROM, TO = ("crates/encoding_rs/run.html", "decode_run."), ("definitions/enc_decoder_utf/Utf8.html", "utf_8_rule")
+# The fewest letters of a passage.
+LEAST_PASSAGE = 20
+# A page with pictures, and what a browser asks for with what the button then chooses, click by click.
+PICTURED = "documents/SPEED.html"
+SCHEMES = {"light": ("auto", "dark", "light"), "dark": ("auto", "light", "dark")}
+# The least contrast of text (WCAG 2, level AA).
+LEAST_CONTRAST = 4.5
 # The most faults of a kind that are listed.
 MOST_LISTED = 20
 # What a page has: links, anchors, blocks with their links, what is wider than its room or the screen (except code and
@@ -47,13 +57,23 @@ return {
   missing: all('img').filter((it) => !it.naturalWidth).map((it) => it.src),
 };
 """
+COLOURS = """
+const shown = (query) => [...document.querySelectorAll(query)].filter((it) => it.getClientRects().length);
+return {
+  chosen: document.body.dataset.theme,
+  background: getComputedStyle(document.body).backgroundColor,
+  pictures: shown('img.only-light, img.only-dark').map((it) => it.src),
+  buttons: shown('button.theme-toggle').length,
+};
+"""
 BLOCK = """
 const [name] = arguments;
 return [...document.querySelectorAll('.definition[data-name], .clause[id]')].find(
   (it) => (it.dataset.name || it.id) === name);
 """
-
-
+CLICK_THEME = """
+[...document.querySelectorAll('button.theme-toggle')].find((it) => it.getClientRects().length).click();
+"""
 IN_SIGHT = """
 const place = document.getElementById(arguments[0]).getBoundingClientRect();
 return place.top > -40 && place.top < window.innerHeight;
@@ -70,6 +90,16 @@ def requests(driver):
         if message["method"] == "Network.loadingFailed":
             failed.append(message["params"]["requestId"])
     return [*asked.values()], [asked.get(it, it) for it in failed]
+
+
+def contrast(one, other):
+    """The contrast of two colours (WCAG 2), each of three numbers up to 255."""
+    def luminance(colour):
+        parts = [it / 255 / 12.92 if it <= 10 else ((it / 255 + 0.055) / 1.055) ** 2.4 for it in colour]
+        return sum(it * weight for it, weight in zip(parts, (0.2126, 0.7152, 0.0722)))
+
+    lesser, greater = sorted(map(luminance, (one, other)))
+    return (greater + 0.05) / (lesser + 0.05)
 
 
 def pages_of(folder):
@@ -158,11 +188,42 @@ class Walk:
         time.sleep(1)
         links = self.driver.find_elements(By.CSS_SELECTOR, "#search-results li a")
         texts = [it.text for it in links]
+        passages = self.driver.find_elements(By.CSS_SELECTOR, "#search-results li > a + .passage")
+        faults = [f"{len(texts)} results have {len(passages)} passages"] * (len(texts) != len(passages))
+        faults += [f"{it.text} is no passage" for it in passages if len(it.text) < LEAST_PASSAGE]
         links[0].click()
         page, anchor = self.place(self.driver.current_url)
         is_right = page == found and anchor.replace("-", "_") == sought
-        faults = [] if is_right else [f"it leads to {page}#{anchor}"]
+        faults += [] if is_right else [f"it leads to {page}#{anchor}"]
         self.report(f"a search finds {sought}", faults, f"{len(texts)} results, first {'; '.join(texts[:3])}")
+
+    def look_at_colours(self):
+        """Chooses each scheme of colours by the button, and looks at the pictures in it."""
+        faults, least = [], 21.0
+        for size, (asked, themes) in itertools.product((PHONE, DESK), SCHEMES.items()):
+            feature = {"name": "prefers-color-scheme", "value": asked}
+            self.driver.execute_cdp_cmd("Emulation.setEmulatedMedia", {"features": [feature]})
+            set_size(self.driver, size)
+            self.driver.get(self.address(PICTURED))
+            for theme in themes:
+                saw = self.driver.execute_script(COLOURS)
+                where = f"{PICTURED} at {size[0]} pixels, {asked}, {theme}"
+                if saw["chosen"] != theme or saw["buttons"] != 1 or not saw["pictures"]:
+                    faults.append(f"{where}: {saw}")
+                    break
+                least = min(least, *(self.contrast_of(it, saw["background"]) for it in saw["pictures"]))
+                faults += [f"{where}: text has a contrast of {least:.1f}"] * (least < LEAST_CONTRAST)
+                self.driver.execute_script(CLICK_THEME)
+            self.driver.execute_script("localStorage.clear()")
+        self.driver.execute_cdp_cmd("Emulation.setEmulatedMedia", {"features": []})
+        self.report("a button chooses the colours, in which pictures can be read", faults,
+                    f"text of pictures has a contrast of {least:.1f} at least")
+
+    def contrast_of(self, address, background):
+        """The contrast of the text of a picture with what it is shown on."""
+        with open(f"{self.folder}/{self.place(address)[0]}", encoding="utf-8") as file:
+            fill = re.findall(r"^ *text \{.*?fill: #(\w{6})", file.read(), re.M)[-1]
+        return contrast(bytes.fromhex(fill), [int(it) for it in re.findall(r"\d+", background)[:3]])
 
     def way(self):
         """The shortest way of links in blocks from a clause of the function to the definition."""
@@ -211,7 +272,8 @@ def main(folder):
     driver = browser()
     try:
         walk = Walk(driver, os.path.realpath(folder))
-        for look in (walk.open_all, walk.look_at_widths, walk.look_at_links, walk.search_all, walk.click_through):
+        for look in (walk.open_all, walk.look_at_widths, walk.look_at_links, walk.search_all, walk.click_through,
+                     walk.look_at_colours):
             look()
     finally:
         driver.quit()
