@@ -91,7 +91,7 @@ def text(circumstances, rows):
 
 
 def head(title, width, height, style=STYLE):
-    """What a picture begins with: its style, and its title."""
+    """The start of a picture: its style, and its title."""
     return [f'<svg xmlns="http://www.w3.org/2000/svg" viewBox="0 0 {width} {height}" role="img">',
             f"<title>{title}</title>", style, f'<text class="title" x="8" y="18">{title}</text>']
 

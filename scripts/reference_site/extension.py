@@ -1,4 +1,4 @@
-"""What Sphinx does beside pages of Markdown.
+"""Steps of Sphinx beside pages of Markdown.
 
 It makes the list of pages beside each, pages of sources, the passages that a search shows, and what Debian's theme
 lacks.
@@ -31,7 +31,7 @@ PAGE = """<!doctype html>
 
 # The choice of colours that the theme keeps.
 CHOOSE_THEME = 'document.body.dataset.theme = localStorage.getItem("theme") || "auto";'
-# What the search asks of the browser, and the page that it is on.
+# The page that searches, and its scripts.
 SEARCH, SEARCH_FILES = "search", ("passages.js", "search.js")
 
 

@@ -25,7 +25,7 @@ CLAIM_LIST = re.compile(rf"(?:{CLAIM.pattern}\n)+", re.M)
 LIST_OF_NAMES = re.compile(r"^- \*([^*]+)\*:", re.M)
 # The comments around what scripts write. Others stay: they end a list.
 WRITTEN = re.compile(r"<!-- (?:scripts/|to here).*?-->\n?", re.S)
-# What a picture has for dark colours, and says of both.
+# The style of a picture in dark colours, and its declaration of both.
 DARK = re.compile(r"^ *@media \(prefers-color-scheme: dark\) \{\n(.*?)^ *\}\n(?= *(?:\.|<))", re.M | re.S)
 BOTH = re.compile(r"^ *:root \{ color-scheme: light dark; \}\n", re.M)
 
