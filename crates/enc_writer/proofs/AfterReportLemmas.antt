@@ -23,11 +23,11 @@ use Rattle.enc_writer.specs.ReportedSteps.{ReportsSteps}
 use Rattle.enc_writer.proofs.WritingLemmas.{same_rule}
 use Rattle.enc_writer.proofs.ReportStepLemmas.{leaves_front, has_references, reference_written}
 
-or_true : (x : Bool) → (x || true) ≡ true
+pub or_true : (x : Bool) → (x || true) ≡ true
 or_true true = refl
 or_true false = refl
 
-any_at_end : (ps : List Step) → ends_in_report ps ≡ true → any_reported ps ≡ true
+pub any_at_end : (ps : List Step) → ends_in_report ps ≡ true → any_reported ps ≡ true
 any_at_end [] ends = cc
 any_at_end (p ∷ []) ends = ap (λ x. x || false) ends
 any_at_end (p ∷ q ∷ ps) ends =

@@ -6,6 +6,10 @@ pub mod StoppingLemmas
 pub mod ReportStepLemmas
 pub mod ReportLemmas
 pub mod AfterReportLemmas
+pub mod HexLemmas
+pub mod PolicyBytesLemmas
+pub mod PolicyStepLemmas
+pub mod PolicyLemmas
 pub mod Utf16Lemmas
 pub mod Utf16WritingLemmas
 pub mod Utf8WritingLemmas

@@ -6,6 +6,8 @@ pub mod Stopping
 pub mod Reporting
 pub mod ReportedSteps
 pub mod Writer
+pub mod Policies
+pub mod PolicySteps
 pub mod Utf16
 pub mod Utf16Writing
 pub mod Utf16Writer

@@ -7,6 +7,8 @@ ghost use Rattle.std.specs.Io.KnownBytes.{Keeps};
 ghost use Rattle.std.specs.Str.{IsCharBoundary};
 ghost use Rattle.std.specs.Char.Utf16.{utf16_lossy_chars};
 
+mod policies;
+
 use crate::encoding_calls::{encode_mappable_after, encode_utf8_after, encode_utf16_after};
 use crate::fault::{UnmappableStop, WriteFault};
 use crate::pushing::push_both;
@@ -62,6 +64,7 @@ impl<'a, W: Sink> EncodeWriter<'a, W> {
     ghost use Rattle.enc_writer.specs.EncodedText.{bytes_from_state};
     ghost use Rattle.enc_writer.specs.Reporting.{ReportsText};
     ghost use Rattle.enc_writer.specs.ReportedSteps.{ReportsSteps};
+    ghost use Rattle.enc_writer.specs.Policies.{EndsWith, WritesWith};
     ghost use Rattle.enc_writer.specs.Writer.{writer_of};
 
     /// Returns a writer to `writer`, in the output encoding of `encoding`, through the buffer
@@ -451,6 +454,9 @@ impl<'a, W: Sink> EncodeWriter<'a, W> {
     pub fn push_held(&mut self) -> Result<(), WriteFault>
         ensures ok { OnOk result (WritesText (W.contents self.old.writer.now)
             (W.contents self.new.writer.now) (writer_of self.old) (writer_of self.new) []) }
+        ensures policies { OnOk result ((put : ℕ → List ℕ) → WritesWith put
+            (W.contents self.old.writer.now) (W.contents self.new.writer.now)
+            (writer_of self.old) (writer_of self.new) []) }
         ensures none_held { OnOk result (writer_of self.new
             ≡ record (writer_of self.old) { held = [] }) }
         ensures kept { OnOk result (W.has_failed self.new.writer.now
@@ -505,6 +511,9 @@ impl<'a, W: Sink> EncodeWriter<'a, W> {
     pub fn flush(&mut self) -> Result<(), WriteFault>
         ensures ok { OnOk result (WritesText (W.contents self.old.writer.now)
             (W.contents self.new.writer.now) (writer_of self.old) (writer_of self.new) []) }
+        ensures policies { OnOk result ((put : ℕ → List ℕ) → WritesWith put
+            (W.contents self.old.writer.now) (W.contents self.new.writer.now)
+            (writer_of self.old) (writer_of self.new) []) }
         ensures none_held { OnOk result (writer_of self.new
             ≡ record (writer_of self.old) { held = [] }) }
         ensures kept { OnOk result (W.has_failed self.new.writer.now
@@ -537,6 +546,9 @@ impl<'a, W: Sink> EncodeWriter<'a, W> {
     pub fn end_text(&mut self) -> Result<bool, WriteFault>
         ensures ok { OnOk result (EndsText (W.contents self.old.writer.now)
             (W.contents self.new.writer.now) (writer_of self.old)) }
+        ensures policies { OnOk result ((put : ℕ → List ℕ) → EndsWith put
+            (W.contents self.old.writer.now) (W.contents self.new.writer.now)
+            (writer_of self.old)) }
         ensures flag { IfOk result (λ had. had ≡ self.old.had_unmappables) }
         ensures ended { OnOk result (writer_of self.new ≡ ended_writer (writer_of self.old)) }
         ensures kept { OnOk result (W.has_failed self.new.writer.now
@@ -576,6 +588,9 @@ impl<'a, W: Sink> EncodeWriter<'a, W> {
     pub fn finish(&mut self) -> Result<bool, WriteFault>
         ensures ok { OnOk result (EndsText (W.contents self.old.writer.now)
             (W.contents self.new.writer.now) (writer_of self.old)) }
+        ensures policies { OnOk result ((put : ℕ → List ℕ) → EndsWith put
+            (W.contents self.old.writer.now) (W.contents self.new.writer.now)
+            (writer_of self.old)) }
         ensures flag { IfOk result (λ had. had ≡ self.old.had_unmappables) }
         ensures ended { OnOk result (writer_of self.new ≡ ended_writer (writer_of self.old)) }
         ensures kept { OnOk result (W.has_failed self.new.writer.now

@@ -3,7 +3,7 @@
 
 use enc_stream::Encoding;
 use enc_stream::constants::*;
-use enc_writer::{EncodeWriter, FromWrite, Sink, UnmappableStop, WriteFault};
+use enc_writer::{EncodeWriter, FromWrite, Sink, UnmappablePolicy, UnmappableStop, WriteFault};
 use recode_engine::{BomHandling, FromRead, RecodeFault, Source, labels, run, run_part, status};
 use std::io;
 use std::io::ErrorKind;
@@ -67,6 +67,9 @@ fn values_are_printed(rt: HostRuntime) -> Result<(), Fail> {
     let other = UnmappableStop { taken: 3, ..STOP };
     let text = copied_text(rt.alloc(), STOP, other)?;
     assert!(rt; text.as_str() == "UnmappableStop { character: 'é', taken: 2 }");
+    let (policy, other) = (UnmappablePolicy::HexReference, UnmappablePolicy::Ignore);
+    let text = copied_text(rt.alloc(), policy, other)?;
+    assert!(rt; text.as_str() == "HexReference");
     let mut written = Vec::new(rt.alloc());
     let mut sink = FromWrite::new(&mut written);
     let text = debug_text(rt.alloc(), &sink)?;
@@ -101,8 +104,9 @@ fn a_writer_writes_to_a_sink(rt: HostRuntime) {
         "本",
     );
     assert!(rt; answer == Ok(None));
-    let answers: [Result<(), WriteFault>; 4] = [
+    let answers: [Result<(), WriteFault>; 5] = [
         writer.write_str("日"),
+        writer.write_str_with("é", UnmappablePolicy::QuestionMark),
         writer.write_utf16(&[0xE9]),
         writer.push_held(),
         writer.flush(),
@@ -122,7 +126,7 @@ fn a_writer_writes_to_a_sink(rt: HostRuntime) {
     let has_failed: bool = sink.failed();
     assert!(rt; !has_failed);
     let inner: &mut Vec<u8> = sink.into_inner();
-    assert!(rt; inner.as_slice() == b"a\x96\x7B\x93\xFA&#233;".as_slice());
+    assert!(rt; inner.as_slice() == b"a\x96\x7B\x93\xFA?&#233;".as_slice());
 }
 
 #[test]

@@ -1,7 +1,7 @@
 //! Scripts: calls of an `EncodeWriter`, what each returns, and the bytes that the sink has taken.
 
 use enc_stream::Encoding;
-use enc_writer::{EncodeWriter, FromWrite, Sink, WriteFault};
+use enc_writer::{EncodeWriter, FromWrite, Sink, UnmappablePolicy, WriteFault};
 use std::io::ErrorKind;
 use std::process::Abort;
 use test_devices::StepWriter;
@@ -11,6 +11,8 @@ use test_devices::StepWriter;
 pub(crate) enum Act {
     /// `write_str` of the text.
     Text,
+    /// `write_str_with` of the text.
+    With(UnmappablePolicy),
     /// `write_str_without_replacement` of the text.
     Mappable,
     /// `write_utf16` of a code unit.
@@ -78,6 +80,7 @@ fn had(outcome: Result<bool, WriteFault>) -> Answer {
 fn make_call<S: Sink>(writer: &mut EncodeWriter<'_, S>, act: Act, text: &str) -> Answer {
     match act {
         Act::Text => done(writer.write_str(text)),
+        Act::With(policy) => done(writer.write_str_with(text, policy)),
         Act::Mappable => match writer.write_str_without_replacement(text) {
             Ok(None) => Answer::Done,
             Ok(Some(stop)) => Answer::Stops(stop.character, stop.taken),

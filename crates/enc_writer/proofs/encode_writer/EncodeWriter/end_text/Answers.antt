@@ -7,6 +7,7 @@ use Rattle.enc_writer.proofs.EncodingLemmas.{EncodesText-none}
 use Rattle.enc_writer.proofs.SinkLemmas.{on_err}
 use Rattle.enc_writer.proofs.StoppingLemmas.{HasStopped-none, HasStopped-pushed, StopsText-by, StopsWithin-stopped}
 use Rattle.enc_writer.proofs.WritingLemmas.{EndsText-by, flag_stays, writer_ends}
+use Rattle.enc_writer.proofs.PolicyLemmas.{EndsWith-by}
 use Rattle.enc_writer.proofs.encode_writer.EncodeWriter.end_text.Goals as goal
 
 pub returns-then-self-clause-err : goal.returns-then-self-clause-err
@@ -58,3 +59,10 @@ returns-clause-ended g c =
     writer_ends (rw chars-nil at c.in_ok-encode.ensures.ok) (c.in_ok-encode.ensures.ended refl)
     c.in_ok-push.ensures.ok
     (ap (λ (w : WriterState). w.held) c.in_ok-push.ensures.none_held)
+
+pub returns-clause-policies : goal.returns-clause-policies
+returns-clause-policies g c =
+    EndsWith-by
+    (EndsText-by (rw chars-nil at c.in_ok-encode.ensures.ok) (c.in_ok-encode.ensures.ended refl)
+    c.in_ok-push.ensures.ok
+    (ap (λ (w : WriterState). w.held) c.in_ok-push.ensures.none_held))

@@ -3,6 +3,7 @@ use Rattle.enc_writer.specs.Writing.{owed_bytes}
 use Rattle.enc_writer.specs.Writer.{writer_of}
 use Rattle.enc_writer.proofs.SinkLemmas.{AppendsContents-keeps, on_err}
 use Rattle.enc_writer.proofs.StoppingLemmas.{HasStopped-ended, StopsText-by, StopsWithin-stopped, same_by}
+use Rattle.enc_writer.proofs.PolicyLemmas.{EndsWith-by}
 use Rattle.enc_writer.proofs.encode_writer.EncodeWriter.finish.Goals as goal
 
 pub returns-in_err-flush_sink-clause-err : goal.returns-in_err-flush_sink-clause-err
@@ -24,3 +25,10 @@ returns-clause-ok g c =
     λ k start text first.
     AppendsContents-keeps k _ _ (owed_bytes start text)
     (c.in_ok-had_unmappables.ensures.ok k start text first) c.flush_sink.ensures.contents
+
+pub returns-clause-policies : goal.returns-clause-policies
+returns-clause-policies g c =
+    EndsWith-by
+    (λ k start text first.
+    AppendsContents-keeps k _ _ (owed_bytes start text)
+    (c.in_ok-had_unmappables.ensures.ok k start text first) c.flush_sink.ensures.contents)

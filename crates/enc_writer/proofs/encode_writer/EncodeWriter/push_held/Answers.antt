@@ -5,6 +5,7 @@ use Rattle.enc_writer.specs.Writer.{writer_of}
 use Rattle.enc_writer.proofs.EncodingLemmas.{EncodesText-none}
 use Rattle.enc_writer.proofs.WritingLemmas.{HasEncoded-none, HasEncoded-push, WritesText-by}
 use Rattle.enc_writer.proofs.StoppingLemmas.{HasStopped-none, HasStopped-pushed, StopsText-by, StopsWithin-stopped}
+use Rattle.enc_writer.proofs.PolicyLemmas.{WritesWith-push}
 use Rattle.enc_writer.proofs.encode_writer.EncodeWriter.push_held.Goals as goal
 
 pub returns-then-self-clause-err : goal.returns-then-self-clause-err
@@ -38,3 +39,7 @@ returns-clause-stopped g c =
     (EncodesText-none (text_to_encode writer.encoder []) false) part
     (c.push.ensures.encoder, c.push.ensures.flag)))
     c.push.ensures.err
+
+pub returns-clause-policies : goal.returns-clause-policies
+returns-clause-policies g c =
+    on_ok_weaker c.push.result (λ pushes put. WritesWith-push pushes) c.push.ensures.ok
