@@ -1,5 +1,6 @@
 -- Hexadecimal digits, written from the last to the first.
-use Rattle.std.proofs.Common.{◌≡◌, ℕ, zero, suc, ◌+◌, ◌-◌, ◌/◌, ◌%◌, ◌^◌, ◌<◌, ◌≤◌, ◌==◌, Bool, true, false, List, [], ◌∷◌, ◌++◌}
+use Rattle.std.proofs.Common.{◌≡◌, ℕ, zero, suc, ◌+◌, ◌-◌, ◌/◌, ◌%◌, ◌^◌, ◌<◌, ◌≤◌, ◌==◌, true, false, List}
+use Rattle.std.proofs.Common.{[], ◌∷◌, ◌++◌}
 use Rattle.std.proofs.Common.{length, drop, set, refl, ap, ◌∙◌, sym, arith, length-set, if◌then◌else◌}
 use Rattle.std.specs.Fmt.{digits, digits_onto, digit_glyph}
 use Rattle.std.proofs.lemmas.Bool.Decides.{nat_tests}
@@ -52,7 +53,8 @@ hex_digits_before n t = digits_onto-append 64 n [] t
 pub hex_front : (k : ℕ) (bytes digits_left : List ℕ) (at n : ℕ) → 0 < k → 4 ≤ at
     → at ≤ length bytes → n < 16 → digits_onto k 16 true n (drop at bytes) ≡ digits_left
     → drop (at - 4)
-    (set (set (set (set bytes (at - 1) (digit_glyph true n)) (at - 2) 0x78) (at - 3) 35) (at - 4) 38)
+    (set (set (set (set bytes (at - 1) (digit_glyph true n)) (at - 2) 0x78) (at - 3) 35)
+    (at - 4) 38)
     ≡ 38 ∷ 35 ∷ 0x78 ∷ digits_left
 hex_front k bytes digits_left at n some h within small e =
     let one = set bytes (at - 1) (digit_glyph true n) in

@@ -7,8 +7,8 @@ use Rattle.std.proofs.Math.Seq.{take-append_seam}
 use Rattle.enc_encoder.specs.declared.character_set.CharacterSet.{CharacterSet}
 use Rattle.enc_encoder.specs.EncoderRule.{EncoderRule, RawEncoderState, set_for}
 use Rattle.enc_encoder.specs.ErrorMode.{ends_in_report}
-use Rattle.enc_encoder.specs.Steps.{Step, escape_steps_before, char_step, first_written_char, steps_of, steps_from_state}
-use Rattle.enc_encoder.specs.Steps.{step_bytes, any_reported, set_after_steps}
+use Rattle.enc_encoder.specs.Steps.{Step, escape_steps_before, char_step, first_written_char, steps_of}
+use Rattle.enc_encoder.specs.Steps.{steps_from_state, step_bytes, any_reported, set_after_steps}
 use Rattle.enc_encoder.specs.Steps.{bytes_with_references, reference_for_report}
 use Rattle.enc_encoder.specs.Text.{reference}
 use Rattle.enc_encoder.specs.Writes.{Leaves}

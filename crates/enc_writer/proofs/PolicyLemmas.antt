@@ -31,7 +31,7 @@ use Rattle.enc_writer.proofs.SinkLemmas.{AppendsContents-keeps}
 use Rattle.enc_writer.proofs.WritingLemmas.{HasWrittenText-none, WritesText-alone, or_false, same_rule}
 use Rattle.enc_writer.proofs.StoppingLemmas.{SameState, same_state, StopsText-by}
 use Rattle.enc_writer.proofs.PolicyBytesLemmas.{bytes_with-references, steps_of-append}
-use Rattle.enc_writer.proofs.PolicyStepLemmas.{HasEncodedWith-push, HasEncodedWith-put_turn, put_alone}
+use Rattle.enc_writer.proofs.PolicyStepLemmas.{HasEncodedWith-push, HasEncodedWith-put, HasEncodedWith-then, put_alone}
 use Rattle.enc_writer.proofs.PolicyStepLemmas.{owed_by_steps, all_done, any_is}
 
 -- all of a text is encoded
@@ -127,16 +127,17 @@ HasStoppedWith-held {put} {k₀} {k₁} {k₂} {a} {b} {c} {t} {u} encoded part 
     })
 
 -- a character is reported, and a push of the bytes held before what is put for it fails
-pub HasStoppedWith-put : {put : ℕ → List ℕ} {k₀ k₁ k₂ k₃ k₄ : Option (List ℕ)}
-    {a b m n d : WriterState} {t u v : List ℕ} {r : EncoderResult} (c : ℕ) → r ≡ Unmappable c
-    → HasEncodedWith put k₀ k₁ a b t u → PushesBytes k₁ k₂ b m [] → ReportsSteps k₂ k₃ m n u v r
-    → AppendsPrefix k₃ k₄ n.held → SameState (record n { had_unmappables = true }) d
-    → HasStoppedWith put k₀ k₄ a d t
-HasStoppedWith-put {put} {k₃ = k₃} {n = n} c is encoded pushes steps part same =
-    let before = record n { had_unmappables = true } in
-    HasStoppedWith-held {b = record before { held = n.held ++ put c }}
-    (HasEncodedWith-put_turn c is encoded pushes steps (put_alone k₃ before (put c)))
-    (AppendsPrefix-front (put c) part) same
+module _ {put : ℕ → List ℕ} {k₀ k₁ k₂ k₃ : Option (List ℕ)} {a b n d : WriterState} where
+  pub HasStoppedWith-put : {t u v : List ℕ} {r : EncoderResult} (c : ℕ) → r ≡ Unmappable c
+      → HasEncodedWith put k₀ k₁ a b t u → ReportsSteps k₁ k₂ b n u v r
+      → AppendsPrefix k₂ k₃ n.held → SameState (record n { had_unmappables = true }) d
+      → HasStoppedWith put k₀ k₃ a d t
+  HasStoppedWith-put c is encoded steps part same =
+      let before = record n { had_unmappables = true } in
+      let puts = put_alone k₂ before (put c) in
+      HasStoppedWith-held {b = record before { held = n.held ++ put c }}
+      (HasEncodedWith-then encoded (HasEncodedWith-put steps put c is puts))
+      (AppendsPrefix-front (put c) part) same
 
 -- no call is made
 pub HasStoppedWith-none : (put : ℕ → List ℕ) (k : Option (List ℕ)) (w : WriterState) (t : List ℕ)

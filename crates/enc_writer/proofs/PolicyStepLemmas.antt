@@ -20,8 +20,8 @@ use Rattle.enc_writer.specs.PolicySteps.{HasEncodedWith}
 use Rattle.enc_writer.proofs.SinkLemmas.{AppendsContents-none, AppendsContents-then}
 use Rattle.enc_writer.proofs.WritingLemmas.{or_false}
 use Rattle.enc_writer.proofs.AfterReportLemmas.{any_at_end, or_true}
-use Rattle.enc_writer.proofs.PolicyBytesLemmas.{bytes_with-append, bytes_with-references, bytes_with-none, bytes_with-one}
-use Rattle.enc_writer.proofs.PolicyBytesLemmas.{steps_then}
+use Rattle.enc_writer.proofs.PolicyBytesLemmas.{bytes_with-append, bytes_with-references, bytes_with-none}
+use Rattle.enc_writer.proofs.PolicyBytesLemmas.{bytes_with-one, steps_then}
 
 -- The steps of calls, and their bytes: those that the calls wrote, and those put for the character
 -- reported.
@@ -143,26 +143,12 @@ module _ {put : ℕ → List ℕ} {k₀ k₁ k₂ : Option (List ℕ)} {a b c : 
             ∙ sym (append_assoc first.pushed next.pushed c.held);
       }
 
--- the bytes held may be pushed, and the part that follows is encoded
-pub HasEncodedWith-turn : {put : ℕ → List ℕ} {k₀ k₁ k₂ k₃ : Option (List ℕ)}
-    {a b m n : WriterState} {t u v : List ℕ} {r : EncoderResult} → HasEncodedWith put k₀ k₁ a b t u
-    → PushesBytes k₁ k₂ b m [] → ReportsSteps k₂ k₃ m n u v r → ((c : ℕ) → r ≡ Unmappable c → ⊥)
-    → reference_after r ≡ [] → n.had_unmappables ≡ m.had_unmappables
-    → HasEncodedWith put k₀ k₃ a n t v
-HasEncodedWith-turn {put} {u = u} encoded pushes steps goes_on none had =
-    HasEncodedWith-then encoded
-    (HasEncodedWith-then (HasEncodedWith-push put u pushes)
-    (HasEncodedWith-mappable steps put goes_on none had))
-
--- the same, and then what is put for an unmappable character
-pub HasEncodedWith-put_turn : {put : ℕ → List ℕ} {k₀ k₁ k₂ k₃ k₄ : Option (List ℕ)}
-    {a b m n d : WriterState} {t u v : List ℕ} {r : EncoderResult} (c : ℕ) → r ≡ Unmappable c
-    → HasEncodedWith put k₀ k₁ a b t u → PushesBytes k₁ k₂ b m [] → ReportsSteps k₂ k₃ m n u v r
-    → PushesBytes k₃ k₄ (record n { had_unmappables = true }) d (put c)
-    → HasEncodedWith put k₀ k₄ a d t v
-HasEncodedWith-put_turn {put} {u = u} c is encoded pushes steps puts =
-    HasEncodedWith-then encoded
-    (HasEncodedWith-then (HasEncodedWith-push put u pushes) (HasEncodedWith-put steps put c is puts))
+-- the bytes held may be pushed after that
+pub HasEncodedWith-pushed : {put : ℕ → List ℕ} {k₀ k₁ k₂ : Option (List ℕ)} {a b c : WriterState}
+    {t u : List ℕ} → HasEncodedWith put k₀ k₁ a b t u → PushesBytes k₁ k₂ b c []
+    → HasEncodedWith put k₀ k₂ a c t u
+HasEncodedWith-pushed {put} {u = u} encoded pushes =
+    HasEncodedWith-then encoded (HasEncodedWith-push put u pushes)
 
 -- these bytes alone
 pub put_alone : (k : Option (List ℕ)) (w : WriterState) (bytes : List ℕ)
@@ -244,14 +230,14 @@ room_now filled output within fits same =
     omega (arith, length-take-le filled output within, within, fits, same)
 
 -- the same before bytes are put for an unmappable character
-pub room_before_put : {put : ℕ → List ℕ} {k₀ k₁ k₂ k₃ : Option (List ℕ)} {a b m n : WriterState}
-    {t u v : List ℕ} {r : EncoderResult} {len : ℕ} (c : ℕ) → r ≡ Unmappable c
-    → HasEncodedWith put k₀ k₁ a b t u → PushesBytes k₁ k₂ b m [] → ReportsSteps k₂ k₃ m n u v r
-    → length (owed_with put a false t) + 14 ≤ len → length n.held + 14 ≤ len
-room_before_put {put} {k₃ = k₃} {n = n} c is encoded pushes steps fits =
-    let puts = put_alone k₃ (record n { had_unmappables = true }) (put c) in
-    let room = room_by_steps (HasEncodedWith-put_turn c is encoded pushes steps puts) fits in
-    omega (arith, room, length-append n.held (put c))
+module _ {put : ℕ → List ℕ} {k₀ k₁ k₂ : Option (List ℕ)} {a b n : WriterState} where
+  pub room_before_put : {t u v : List ℕ} {r : EncoderResult} {len : ℕ} (c : ℕ) → r ≡ Unmappable c
+      → HasEncodedWith put k₀ k₁ a b t u → ReportsSteps k₁ k₂ b n u v r
+      → length (owed_with put a false t) + 14 ≤ len → length n.held + 14 ≤ len
+  room_before_put c is encoded steps fits =
+      let puts = put_alone k₂ (record n { had_unmappables = true }) (put c) in
+      let all = HasEncodedWith-then encoded (HasEncodedWith-put steps put c is puts) in
+      omega (arith, room_by_steps all fits, length-append n.held (put c))
 
 -- bytes put after those held
 pub PushesBytes-put : {k₀ k₁ : Option (List ℕ)} {a b : WriterState} {held : List ℕ}

@@ -6,7 +6,8 @@ use Rattle.enc_encoder.specs.Steps.{Step, steps_from_state, set_after_steps}
 use Rattle.enc_encoder.specs.Text.{reference}
 use Rattle.enc_stream.specs.Encoder.{EncoderState, raw_state}
 use Rattle.enc_writer.specs.declared.unmappable_policy.UnmappablePolicy.{UnmappablePolicy}
-use Rattle.enc_writer.specs.declared.unmappable_policy.UnmappablePolicy.TheVariants.{Reference, HexReference, Ignore, QuestionMark}
+use Rattle.enc_writer.specs.declared.unmappable_policy.UnmappablePolicy.TheVariants.{Reference, HexReference}
+use Rattle.enc_writer.specs.declared.unmappable_policy.UnmappablePolicy.TheVariants.{Ignore, QuestionMark}
 use Rattle.enc_writer.specs.Sink.{AppendsContents}
 use Rattle.enc_writer.specs.Writing.{WriterState, flag_after}
 

@@ -29,7 +29,8 @@ type Row = (Encoding, &'static str, [&'static [u8]; 4], bool);
 
 #[rattlefmt::skip]
 const ROWS: &[Row] = &[
-    (WINDOWS_1252, "é€Ж", [b"\xE9\x80&#1046;", b"\xE9\x80&#x416;", b"\xE9\x80", b"\xE9\x80?"], true),
+    (WINDOWS_1252, "é€Ж", [b"\xE9\x80&#1046;", b"\xE9\x80&#x416;", b"\xE9\x80", b"\xE9\x80?"],
+        true),
     (WINDOWS_1252, "Жa", [b"&#1046;a", b"&#x416;a", b"a", b"?a"], true),
     (WINDOWS_1252, "aЖ", [b"a&#1046;", b"a&#x416;", b"a", b"a?"], true),
     (WINDOWS_1252, "ЖЖЖ", [b"&#1046;&#1046;&#1046;", b"&#x416;&#x416;&#x416;", b"", b"???"], true),
@@ -58,8 +59,8 @@ const ROWS: &[Row] = &[
         b"\xC7\xD1?\xB1\xDB"], true),
     (EUC_KR, "é가€", [b"&#233;\xB0\xA1\xA2\xE6", b"&#xE9;\xB0\xA1\xA2\xE6", b"\xB0\xA1\xA2\xE6",
         b"?\xB0\xA1\xA2\xE6"], true),
-    (UTF_8, "日💩é", [b"\xE6\x97\xA5\xF0\x9F\x92\xA9\xC3\xA9", b"\xE6\x97\xA5\xF0\x9F\x92\xA9\xC3\xA9",
-        b"\xE6\x97\xA5\xF0\x9F\x92\xA9\xC3\xA9", b"\xE6\x97\xA5\xF0\x9F\x92\xA9\xC3\xA9"], false),
+    (UTF_8, "💩é", [b"\xF0\x9F\x92\xA9\xC3\xA9", b"\xF0\x9F\x92\xA9\xC3\xA9",
+        b"\xF0\x9F\x92\xA9\xC3\xA9", b"\xF0\x9F\x92\xA9\xC3\xA9"], false),
     // the output encoding of UTF-16 is UTF-8
     (UTF_16LE, "Ж", [b"\xD0\x96", b"\xD0\x96", b"\xD0\x96", b"\xD0\x96"], false),
     (ISO_2022_JP, "日é本", [b"\x1B$BF|\x1B(B&#233;\x1B$BK\\\x1B(B",

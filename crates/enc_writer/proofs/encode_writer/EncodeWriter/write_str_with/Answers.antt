@@ -4,11 +4,12 @@ use Rattle.enc_writer.specs.Policies.{policy_bytes}
 use Rattle.enc_writer.specs.Writer.{writer_of}
 use Rattle.enc_writer.proofs.SinkLemmas.{on_err}
 use Rattle.enc_writer.proofs.WritingLemmas.{PushesBytes-none}
-use Rattle.enc_writer.proofs.PolicyStepLemmas.{HasEncodedWith-push, HasEncodedWith-turn, HasEncodedWith-put_turn}
-use Rattle.enc_writer.proofs.PolicyStepLemmas.{HasEncodedWith-references, room_by_steps, room_now, room_before_put}
-use Rattle.enc_writer.proofs.PolicyLemmas.{HasWrittenWith-by, WritesWith-alone, WritesText-references, WritesText-policy}
+use Rattle.enc_writer.proofs.PolicyStepLemmas.{HasEncodedWith-push, HasEncodedWith-pushed, HasEncodedWith-then}
+use Rattle.enc_writer.proofs.PolicyStepLemmas.{HasEncodedWith-mappable, HasEncodedWith-put, HasEncodedWith-references}
+use Rattle.enc_writer.proofs.PolicyStepLemmas.{room_by_steps, room_now, room_before_put}
+use Rattle.enc_writer.proofs.PolicyLemmas.{HasWrittenWith-by, WritesWith-alone, WritesText-references}
 use Rattle.enc_writer.proofs.PolicyLemmas.{HasStoppedWith-none, HasStoppedWith-held, HasStoppedWith-put, StopsWith-by}
-use Rattle.enc_writer.proofs.PolicyLemmas.{StopsText-policy}
+use Rattle.enc_writer.proofs.PolicyLemmas.{WritesText-policy, StopsText-policy}
 use Rattle.enc_writer.proofs.encode_writer.EncodeWriter.write_str_with.Goals as goal
 
 pub returns-then-self-clause-stopped : goal.returns-then-self-clause-stopped
@@ -56,26 +57,32 @@ returns-in-InputEmpty-clause-ok g c =
     let is : c.encode_mappable-outcome.result.0 ≡ InputEmpty = search rules in
     WritesWith-alone
     (HasWrittenWith-by
-    (HasEncodedWith-turn c.calls.invariant.1.encoded c.in_ok-make_room.ensures.ok
+    (HasEncodedWith-then
+    (HasEncodedWith-pushed c.calls.invariant.1.encoded c.in_ok-make_room.ensures.ok)
+    (HasEncodedWith-mappable
     (rw (c.encode_mappable-outcome.ensures.all is, is) at c.encode_mappable-outcome.ensures.part)
-    (λ x e. cc) refl c.encode_mappable-outcome.ensures.had))
+    (policy_bytes c.args.policy) (λ x e. cc) refl c.encode_mappable-outcome.ensures.had)))
 
 pub returns-in-InputEmpty-clause-references : goal.returns-in-InputEmpty-clause-references
 returns-in-InputEmpty-clause-references g c = λ is_reference.
     let is : c.encode_mappable-outcome.result.0 ≡ InputEmpty = search rules in
     WritesText-policy c.args.policy is_reference
-    (HasEncodedWith-turn c.calls.invariant.1.encoded c.in_ok-make_room.ensures.ok
+    (HasEncodedWith-then
+    (HasEncodedWith-pushed c.calls.invariant.1.encoded c.in_ok-make_room.ensures.ok)
+    (HasEncodedWith-mappable
     (rw (c.encode_mappable-outcome.ensures.all is, is) at c.encode_mappable-outcome.ensures.part)
-    (λ x e. cc) refl c.encode_mappable-outcome.ensures.had)
+    (policy_bytes c.args.policy) (λ x e. cc) refl c.encode_mappable-outcome.ensures.had))
 
 pub returns-in-InputEmpty-clause-mappable : goal.returns-in-InputEmpty-clause-mappable
 returns-in-InputEmpty-clause-mappable g c = λ none.
     let is : c.encode_mappable-outcome.result.0 ≡ InputEmpty = search rules in
     WritesText-references
     (HasEncodedWith-references
-    (HasEncodedWith-turn c.calls.invariant.1.encoded c.in_ok-make_room.ensures.ok
+    (HasEncodedWith-then
+    (HasEncodedWith-pushed c.calls.invariant.1.encoded c.in_ok-make_room.ensures.ok)
+    (HasEncodedWith-mappable
     (rw (c.encode_mappable-outcome.ensures.all is, is) at c.encode_mappable-outcome.ensures.part)
-    (λ x e. cc) refl c.encode_mappable-outcome.ensures.had) none)
+    (policy_bytes c.args.policy) (λ x e. cc) refl c.encode_mappable-outcome.ensures.had)) none)
 
 pub calls-preserved-in-OutputFull : goal.calls-preserved-in-OutputFull
 calls-preserved-in-OutputFull g c =
@@ -86,9 +93,11 @@ calls-preserved-in-OutputFull g c =
       search rules,
       record {
         encoded = rw unread
-            (HasEncodedWith-turn c.calls.invariant.1.encoded c.in_ok-make_room.ensures.ok
-            (rw is at c.encode_mappable-outcome.ensures.part) (λ x e. cc) refl
-            c.encode_mappable-outcome.ensures.had);
+            (HasEncodedWith-then
+            (HasEncodedWith-pushed c.calls.invariant.1.encoded c.in_ok-make_room.ensures.ok)
+            (HasEncodedWith-mappable (rw is at c.encode_mappable-outcome.ensures.part)
+            (policy_bytes c.args.policy) (λ x e. cc) refl
+            c.encode_mappable-outcome.ensures.had));
         no_push = λ fits.
             let now = c.calls.invariant.1.no_push fits in
             let same : c.make_room.new.self ≡ c.calls.self =
@@ -114,9 +123,11 @@ calls-preserved g c =
       search rules,
       record {
         encoded = rw unread
-            (HasEncodedWith-put_turn c.in-Unmappable.c is c.calls.invariant.1.encoded
-            c.in_ok-make_room.ensures.ok c.encode_mappable-outcome.ensures.part
-            c.in_ok-put_unmappable-in-Unmappable.ensures.ok);
+            (HasEncodedWith-then
+            (HasEncodedWith-pushed c.calls.invariant.1.encoded c.in_ok-make_room.ensures.ok)
+            (HasEncodedWith-put c.encode_mappable-outcome.ensures.part
+            (policy_bytes c.args.policy) c.in-Unmappable.c is
+            c.in_ok-put_unmappable-in-Unmappable.ensures.ok));
         no_push = λ fits.
             let now = c.calls.invariant.1.no_push fits in
             let same : c.make_room.new.self ≡ c.calls.self =
@@ -125,8 +136,9 @@ calls-preserved g c =
             let length_is : length before.output.now ≡ length c.args.self.now.output.now =
             cc (same, now.room, c.encode_mappable-outcome.ensures.length) in
             let room = room_now before.filled before.output.now before.within
-            (room_before_put c.in-Unmappable.c is c.calls.invariant.1.encoded
-            c.in_ok-make_room.ensures.ok c.encode_mappable-outcome.ensures.part fits) length_is in
+            (room_before_put c.in-Unmappable.c is
+            (HasEncodedWith-pushed c.calls.invariant.1.encoded c.in_ok-make_room.ensures.ok)
+            c.encode_mappable-outcome.ensures.part fits) length_is in
             record {
               same = cc (
                 same,
@@ -149,9 +161,9 @@ returns-in_err-put_unmappable-in-Unmappable-clause-stopped g c =
     let put = c.in_err-put_unmappable-in-Unmappable.ensures in
     on_err c.from_residual-in_err-put_unmappable-in-Unmappable.result _
     (StopsWith-by
-    (HasStoppedWith-put c.in-Unmappable.c is c.calls.invariant.1.encoded
-    c.in_ok-make_room.ensures.ok c.encode_mappable-outcome.ensures.part put.err
-    (put.encoder, put.flag)))
+    (HasStoppedWith-put c.in-Unmappable.c is
+    (HasEncodedWith-pushed c.calls.invariant.1.encoded c.in_ok-make_room.ensures.ok)
+    c.encode_mappable-outcome.ensures.part put.err (put.encoder, put.flag)))
 
 pub returns-in_err-put_unmappable-in-Unmappable-clause-references_stopped :
     goal.returns-in_err-put_unmappable-in-Unmappable-clause-references_stopped
@@ -160,9 +172,9 @@ returns-in_err-put_unmappable-in-Unmappable-clause-references_stopped g c = λ i
     let put = c.in_err-put_unmappable-in-Unmappable.ensures in
     on_err c.from_residual-in_err-put_unmappable-in-Unmappable.result _
     (StopsText-policy c.args.policy is_reference
-    (HasStoppedWith-put c.in-Unmappable.c is c.calls.invariant.1.encoded
-    c.in_ok-make_room.ensures.ok c.encode_mappable-outcome.ensures.part put.err
-    (put.encoder, put.flag)))
+    (HasStoppedWith-put c.in-Unmappable.c is
+    (HasEncodedWith-pushed c.calls.invariant.1.encoded c.in_ok-make_room.ensures.ok)
+    c.encode_mappable-outcome.ensures.part put.err (put.encoder, put.flag)))
 
 -- where no byte is pushed
 
@@ -202,8 +214,9 @@ returns-in_err-put_unmappable-in-Unmappable-clause-no_push g c = λ fits.
     let length_is : length before.output.now ≡ length c.args.self.now.output.now =
     cc (same, now.room, c.encode_mappable-outcome.ensures.length) in
     let room = room_now before.filled before.output.now before.within
-    (room_before_put c.in-Unmappable.c is c.calls.invariant.1.encoded
-    c.in_ok-make_room.ensures.ok c.encode_mappable-outcome.ensures.part fits) length_is in
+    (room_before_put c.in-Unmappable.c is
+    (HasEncodedWith-pushed c.calls.invariant.1.encoded c.in_ok-make_room.ensures.ok)
+    c.encode_mappable-outcome.ensures.part fits) length_is in
     cc (
       same,
       now.same,
@@ -223,8 +236,9 @@ returns-in_err-put_unmappable-in-Unmappable-clause-no_fault g c = λ fits.
     let length_is : length before.output.now ≡ length c.args.self.now.output.now =
     cc (same, now.room, c.encode_mappable-outcome.ensures.length) in
     let room = room_now before.filled before.output.now before.within
-    (room_before_put c.in-Unmappable.c is c.calls.invariant.1.encoded
-    c.in_ok-make_room.ensures.ok c.encode_mappable-outcome.ensures.part fits) length_is in
+    (room_before_put c.in-Unmappable.c is
+    (HasEncodedWith-pushed c.calls.invariant.1.encoded c.in_ok-make_room.ensures.ok)
+    c.encode_mappable-outcome.ensures.part fits) length_is in
     cc (
       same,
       now.same,
