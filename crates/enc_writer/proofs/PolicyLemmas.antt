@@ -1,5 +1,5 @@
 -- Calls of a writer with a policy, and what they say of the whole text.
-use Rattle.std.proofs.Common.{◌≡◌, ℕ, Bool, true, false, ◌||◌, Option, List, [], ◌++◌, refl, ap, ◌∙◌, sym, subst}
+use Rattle.std.proofs.Common.{◌≡◌, ℕ, true, false, ◌||◌, Option, List, [], ◌++◌, refl, ap, ◌∙◌, sym, subst}
 use Rattle.std.proofs.Common.{append_assoc, append-nil}
 use Rattle.std.proofs.Math.Bool.{or_assoc}
 use Rattle.std.specs.Io.KnownBytes.{Keeps}

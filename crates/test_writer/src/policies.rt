@@ -264,7 +264,7 @@ const FAULTS: &[Script] = &[
 fn a_fault_keeps_the_flag(rt: HostRuntime) {
     for script in FAULTS {
         let device = StepWriter::new(rt.alloc(), &[FAULT]);
-        assert!(rt; play(&rt, *script, device, 14) == (1, 0), "{:?}", script.1);
+        assert!(rt; play(&rt, *script, device, 14) == (1, 0), "{:?}", script.2);
     }
 }
 

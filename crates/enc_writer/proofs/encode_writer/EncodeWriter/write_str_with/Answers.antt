@@ -1,4 +1,4 @@
-use Rattle.std.proofs.Common.{rules, ◌≡◌, ◌+◌, ◌≤◌, refl, ap, chars, drop, length}
+use Rattle.std.proofs.Common.{rules, ◌≡◌, refl, ap, chars, drop, length}
 use Rattle.enc_input.specs.declared.encoder_result.EncoderResult.TheVariants.{InputEmpty, OutputFull, Unmappable}
 use Rattle.enc_writer.specs.Policies.{policy_bytes}
 use Rattle.enc_writer.specs.Writer.{writer_of}
