@@ -279,7 +279,23 @@ fn a_fault_keeps_the_flag(rt: HostRuntime) {
 /// Texts with unmappable characters, in several encodings.
 const TEXTS: &[&str] = &["caf\u{E9} €Ж日", "💩💩", "ﾊ¥‾\u{FFFD}", "Ω한글\u{10FFFF}", ""];
 
-/// `write_str_with` writes what `write_str` does, with decimal references.
+/// Writes a text by `write_str`, and by `write_str_with` with decimal references. Both return the
+/// same, and the bytes are the same.
+fn compare_references(rt: &impl Abort, alloc: Global, encoding: Encoding, text: &str) {
+    let mut first = FromWrite::new(StepWriter::new(alloc, &[]));
+    let mut buffer = [0; 20];
+    let mut writer = EncodeWriter::new(&mut first, encoding, &mut buffer);
+    assert!(rt; writer.write_str(text) == Ok(()));
+    let had = writer.finish();
+    let mut second = FromWrite::new(StepWriter::new(alloc, &[]));
+    let mut buffer = [0; 20];
+    let mut writer = EncodeWriter::new(&mut second, encoding, &mut buffer);
+    assert!(rt; writer.write_str_with(text, UnmappablePolicy::Reference) == Ok(()));
+    assert!(rt; writer.finish() == had);
+    let (first, second) = (first.into_inner(), second.into_inner());
+    assert!(rt; first.taken == second.taken, "{text}");
+}
+
 #[test]
 fn references_are_those_of_write_str(rt: HostRuntime) {
     for text in TEXTS {
@@ -292,26 +308,7 @@ fn references_are_those_of_write_str(rt: HostRuntime) {
             GB18030,
             UTF_8,
         ] {
-            let mut sinks = [
-                FromWrite::new(StepWriter::new(rt.alloc(), &[])),
-                FromWrite::new(StepWriter::new(rt.alloc(), &[])),
-            ];
-            let mut answers = [Ok(false), Ok(false)];
-            for i in 0..2 {
-                let mut buffer = [0; 20];
-                let mut writer = EncodeWriter::new(&mut sinks[i], encoding, &mut buffer);
-                let written = if i == 0 {
-                    writer.write_str(*text)
-                } else {
-                    writer.write_str_with(*text, UnmappablePolicy::Reference)
-                };
-                assert!(rt; written == Ok(()));
-                answers[i] = writer.finish();
-            }
-            let [first, second] = sinks;
-            assert!(rt; answers[0] == answers[1]);
-            let (first, second) = (first.into_inner(), second.into_inner());
-            assert!(rt; first.taken == second.taken, "{text}");
+            compare_references(&rt, rt.alloc(), encoding, *text);
         }
     }
 }
