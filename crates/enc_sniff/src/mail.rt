@@ -96,7 +96,7 @@ fn first_parameter<'a>(body: &'a [u8], name: &[u8]) -> Option<Value<'a>>
 /// and the type is not looked at. The forms of RFC 2231 (`charset*=`) are not read, since no label
 /// needs them.
 ///
-/// `bytes` begins with the first line of the header, whose lines end with CRLF or with LF. The first
+/// `bytes` begins with the first line of the header. Lines end with CRLF or with LF. The first
 /// empty line ends the header, and bytes after it are not read. The body is in the encoding once
 /// its Content-Transfer-Encoding is undone.
 ///
