@@ -18,11 +18,11 @@
 //! prescan of the page, and defaults. [`html_encoding`] is the prescan. So a caller that has such
 //! a label looks for it between `Encoding::for_bom` and [`html_encoding`].
 //!
-//! A mail has no other declaration than its header. [`sniff`] does not read it, since any text may
-//! begin as a header does.
-//!
 //! In XML a byte order mark and the transport go first too, and then the declaration. Without any
 //! of them a document is UTF-8 (XML 1.0, 4.3.3 and appendix F; RFC 7303, 3).
+//!
+//! In a mail the header of a part declares the encoding of its body ([`mail_encoding`]). [`sniff`]
+//! does not look for a header, since any text may begin as one does.
 //!
 //! ```rust
 //! let page = b"<!DOCTYPE html><meta charset=koi8-r>";
