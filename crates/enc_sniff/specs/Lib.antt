@@ -5,6 +5,9 @@ pub mod Xml
 pub mod Content
 pub mod Meta
 pub mod Html
+pub mod HeaderFields
+pub mod HeaderTokens
+pub mod Mail
 pub mod Runs
 pub mod Views
 pub mod Sniff

@@ -5,7 +5,12 @@ use Rattle.enc_sniff.specs.declared.attributes.Attribute.{Attribute as Attribute
 use Rattle.enc_sniff.specs.declared.meta.Meta.{Meta}
 use Rattle.enc_sniff.specs.declared.html.Turn.{Turn as TurnAt}
 use Rattle.enc_sniff.specs.declared.html.Turn.TheVariants.{Return, NextByte}
+use Rattle.enc_sniff.specs.declared.tokens.Token.{Token as TokenAt}
+use Rattle.enc_sniff.specs.declared.tokens.Token.TheVariants.{Word, Quoted, Special}
+use Rattle.enc_sniff.specs.declared.mail.Value.{Value}
+use Rattle.enc_sniff.specs.declared.mail.Value.TheVariants as value
 use Rattle.enc_sniff.specs.Attributes.{Attribute}
+use Rattle.enc_sniff.specs.HeaderTokens.{Token, word, quoted_string, special, unquoted}
 use Rattle.enc_sniff.specs.Html.{Turn, returns, next_byte}
 
 -- two parts
@@ -37,3 +42,18 @@ turn_now (NextByte s) = next_byte s.now
 abbrev pub bytes_after : TurnAt → List ℕ
 bytes_after (Return e) = []
 bytes_after (NextByte s) = s.now
+
+-- a token of a header
+abbrev pub token_now : TokenAt → Token
+token_now (Word s) = word s.now
+token_now (Quoted s) = quoted_string (unquoted s.now)
+token_now (Special b) = special b
+
+-- a token and the position after it
+abbrev pub token_found : TokenAt × Bor (List ℕ) → Token × List ℕ
+token_found found = (token_now found.0, found.1.now)
+
+-- the text of a value
+abbrev pub value_now : Value → List ℕ
+value_now (value.Word s) = s.now
+value_now (value.Quoted s) = unquoted s.now

@@ -14,7 +14,7 @@ ghost use Rattle.enc_sniff.specs.Views.{tag_now, turn_now, bytes_after};
 
 use crate::attributes::get_attribute;
 use crate::meta::Meta;
-use crate::scanning::{Run, begins, byte_at, past, past_first};
+use crate::scanning::{Run, begins, byte_at, past, past_byte, past_first};
 use crate::xml::{declared_encoding, utf_16_head};
 use enc_stream::Encoding;
 
@@ -50,13 +50,6 @@ fn take_attributes(bytes: &[u8]) -> Option<(Meta, &[u8])>
             None => return None,
         }
     }
-}
-
-/// Returns the bytes after the first.
-fn past_byte(bytes: &[u8]) -> &[u8]
-    ensures { result.now ≡ drop 1 bytes.now }
-{
-    bytes.get(1..).unwrap_or(&[])
 }
 
 /// Returns whether some bytes begin with `<meta` and the end of this name.

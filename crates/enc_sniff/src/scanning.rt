@@ -1,12 +1,15 @@
 //! Runs of bytes, and words, at the front of some bytes.
 
-ghost use Rattle.std.specs.Prelude.{◌≡◌, ◌≤◌, ◌<◌, length, slice_index};
+ghost use Rattle.std.specs.Prelude.{◌≡◌, ◌≤◌, ◌<◌, length, drop, slice_index};
 ghost use Rattle.std.specs.Prelude.{option_map, option_copied, IfSome};
 ghost use Rattle.std.specs.List.{prefix_len, take_while};
 ghost use Rattle.enc_sniff.specs.Positions.{past as past_list, up_to, past_word};
 ghost use Rattle.enc_sniff.specs.Positions.{is_same_word, begins_in_either_case};
 ghost use Rattle.enc_sniff.specs.Runs.{is_in};
 ghost use Rattle.enc_sniff.specs.Views.{both_now};
+
+/// The bytes that end a token of a header, beside spaces and control characters (RFC 2045 5.1).
+const TSPECIALS: &[u8] = b"()<>@,;:\\\"/[]?=";
 
 /// Bytes that stand side by side.
 #[derive(Clone, Copy)]
@@ -23,11 +26,15 @@ pub(crate) enum Run {
     UpTo(u8),
     /// Up to ASCII whitespace or a byte.
     Word(u8),
+    /// Spaces and tabs.
+    Wsp,
+    /// A token of RFC 2045.
+    Token,
 }
 
 impl Run {
     /// Returns whether a byte belongs to the run.
-    fn has(self, byte: u8) -> bool
+    pub(crate) fn has(self, byte: u8) -> bool
         ensures { result ≡ is_in self byte }
     {
         let is_space = byte.is_ascii_whitespace();
@@ -38,6 +45,8 @@ impl Run {
             Run::AttributeName => !(is_space || byte == b'/' || byte == b'>' || byte == b'='),
             Run::UpTo(end) => byte != end,
             Run::Word(end) => !(is_space || byte == end),
+            Run::Wsp => byte == b' ' || byte == b'\t',
+            Run::Token => byte.is_ascii_graphic() && !TSPECIALS.contains(&byte),
         }
     }
 
@@ -71,6 +80,13 @@ pub(crate) fn past<'a>(bytes: &'a [u8], run: Run) -> &'a [u8]
     ensures shorter { length result.now ≤ length bytes.now }
 {
     &bytes[run.len_in(bytes)..]
+}
+
+/// Returns the bytes after the first.
+pub(crate) fn past_byte(bytes: &[u8]) -> &[u8]
+    ensures { result.now ≡ drop 1 bytes.now }
+{
+    bytes.get(1..).unwrap_or(&[])
 }
 
 /// Returns the bytes before the first `end`, and those after it, if there is one.

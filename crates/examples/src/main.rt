@@ -13,7 +13,6 @@ mod legacy_writer;
 mod lines;
 mod mail_part;
 mod meta_prescan;
-mod scanner;
 
 use std::io::{BufRead, Error, Read, Write};
 use std::{env, fs, io};

@@ -30,3 +30,10 @@ fn reads_xml_heads(rt: HostRuntime) {
     assert!(rt; xml_encoding(b"<\0?\0x\0m\0l\0") == Some(UTF_16LE));
     assert!(rt; xml_encoding(b"<?xml version='1.0'?><a/>") == None);
 }
+
+#[test]
+fn reads_mail_headers(rt: HostRuntime) {
+    let mail = b"Subject: A\r\nContent-Type: text/plain;\r\n charset=\"koi8-r\"\r\n\r\nB";
+    assert!(rt; mail_encoding(mail) == Some(KOI8_R));
+    assert!(rt; mail_encoding(b"Content-Type: text/plain\n\ncharset=koi8-r") == None);
+}

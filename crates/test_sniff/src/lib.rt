@@ -1,4 +1,4 @@
-//! Tests of `enc_sniff`: pages of HTML, heads of XML documents, and guesses.
+//! Tests of `enc_sniff`: pages of HTML, heads of XML documents, headers of mails, and guesses.
 #![tactic(auto)]
 
 #[cfg(test)]
@@ -7,6 +7,8 @@ mod cases;
 mod doc_examples;
 #[cfg(test)]
 mod guesses;
+#[cfg(test)]
+mod mails;
 #[cfg(test)]
 mod pages;
 #[cfg(test)]
