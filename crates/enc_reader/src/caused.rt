@@ -129,9 +129,9 @@ impl From<LineReaderError> for io::Error {
 
     /// Returns the cause, or the error of the fault.
     fn from(error: LineReaderError) -> io::Error {
-        match error.cause {
-            Some(cause) => cause,
-            None => io::Error::from(error.fault),
+        if let Some(cause) = error.cause {
+            return cause;
         }
+        io::Error::from(error.fault)
     }
 }

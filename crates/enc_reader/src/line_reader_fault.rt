@@ -2,7 +2,6 @@
 
 ghost use Rattle.std.specs.Prelude.{◌≡◌};
 ghost use Rattle.std.specs.IoError.{error_kind};
-ghost use Rattle.enc_reader.specs.declared.line_reader_fault.LineReaderFault.TheVariants as fault;
 
 use crate::decode_reader::ReadFault;
 use crate::line::PlacedSequence;
@@ -46,14 +45,6 @@ impl fmt::Display for LineReaderFault {
 }
 
 impl Error for LineReaderFault {}
-
-impl From<ReadFault> for LineReaderFault {
-    ghost from_gives = { λ read e. e ≡ fault.Read read };
-
-    fn from(fault: ReadFault) -> LineReaderFault {
-        LineReaderFault::Read(fault)
-    }
-}
 
 impl From<LineReaderFault> for io::Error {
     ghost use Rattle.enc_reader.specs.Errors.{line_reader_error_kind};

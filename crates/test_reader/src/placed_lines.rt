@@ -12,7 +12,7 @@ use enc_stream::constants::{GB18030, ISO_2022_JP, SHIFT_JIS, UTF_8, UTF_16LE};
 use std::alloc::Global;
 use std::io::ErrorKind;
 use std::test::Fail;
-use test_devices::{BYTE, FAULT, StepReader, text_of};
+use test_devices::{BYTE, FAULT, StepReader, message_of, text_of};
 
 /// A malformed sequence: its offset, its bytes, its line and its column.
 type Place<'a> = (u64, &'a [u8], u64, u64);
@@ -282,7 +282,13 @@ fn a_fault_keeps_the_start_of_a_line(rt: HostRuntime) -> Result<(), Fail> {
     let mut line = Line::new(rt.alloc());
     let error = lines.read_line(&mut line).err().ok_or("no fault")?;
     assert!(rt; *error.fault() == LineReaderFault::Read(ReadFault::Reader));
-    assert!(rt; error.cause().is_some());
+    // The cause is the error of the source, in words and as an I/O error.
+    let cause = message_of(rt.alloc(), error.cause())?;
+    let text = text_of(rt.alloc(), &error)?;
+    assert!(rt; text.as_str().starts_with("the source of the text failed: "));
+    assert!(rt; text.as_str().ends_with(cause.as_str()));
+    let printed = text_of(rt.alloc(), &std::io::Error::from(error))?;
+    assert!(rt; printed.as_str() == cause.as_str());
     assert!(rt; is_line(&line, &("a\\xff", &[(1, b"\xFF", 1, 2)])));
     let error = lines.read_line(&mut line).err().ok_or("no fault")?;
     assert!(rt; *error.fault() == LineReaderFault::Read(ReadFault::Failed));
