@@ -1,5 +1,5 @@
 -- Lines of a slice: their text and their malformed sequences.
-use Rattle.std.proofs.Common.{◌≡◌, ◌≢◌, ℕ, ◌+◌, ◌-◌, ◌^◌, ◌<◌, ◌∷◌, inl, inr, Bool, false, List, [], ◌++◌, length, map, Some, Option}
+use Rattle.std.proofs.Common.{◌≡◌, ◌≢◌, ℕ, ◌+◌, ◌-◌, ◌^◌, ◌<◌, ◌∷◌, inl, inr, Bool, true, false, List, [], ◌++◌, length, map, Some, Option}
 use Rattle.std.proofs.Common.{refl, ap, ◌∙◌, sym, subst, string_bytes, arith, append_assoc, append-nil, length-append}
 use Rattle.std.specs.Char.{encode_utf8}
 use Rattle.enc_utf8.specs.Text.{units_of_text}
@@ -16,7 +16,7 @@ use Rattle.enc_reader.specs.Policies.{text_by}
 use Rattle.enc_reader.specs.Lines.{LineState, ReadsLine, AppendsItems, AreLinesAtEnd, items_to_take}
 use Rattle.enc_reader.proofs.SourceLemmas.{at_end}
 use Rattle.enc_reader.proofs.PlaceLemmas.{position_after-append}
-use Rattle.enc_reader.proofs.PlacedLineLemmas.{AppendsItems-then}
+use Rattle.enc_reader.proofs.PlacedLineLemmas.{AppendsItems-none, AppendsItems-then, SameLine-self}
 
 -- Of the items of `all` the first are in a line that was empty. The lines still owe the others, and
 -- the source still gives `left`.
@@ -29,6 +29,21 @@ pub record HasLines (e : Encoding) (all left : List ℕ) (policy : MalformedPoli
   pub items : whole_items Sniff e all ≡ taken ++ items_to_take given state left
   pub appends : AppendsItems policy start_of_text empty line taken
   pub position : state.position ≡ position_after start_of_text taken
+
+-- lines of which none is read
+pub HasLines-start : (e : Encoding) (all : List ℕ) (policy : MalformedPolicy) (state : LineState)
+    (empty : Line) → HasGiven state.given state.reader 0 → state.held ≡ []
+    → ((z : List ℕ) → owed_items 0 state.reader z ≡ whole_items Sniff e z)
+    → state.position ≡ start_of_text → HasLines e all all policy state empty empty
+HasLines-start e all policy state empty given none items position = record {
+  given = 0;
+  all_given = refl;
+  counted = given;
+  taken = [];
+  items = sym (items all) ∙ ap (λ h. h ++ owed_items 0 state.reader all) (sym none);
+  appends = AppendsItems-none policy start_of_text (SameLine-self empty);
+  position = position;
+}
 
 pub HasLines-read : {e : Encoding} {all left rest : List ℕ} {policy : MalformedPolicy}
     {old new : LineState} {empty before after : Line} {some : Bool} → length all < 2 ^ 64
