@@ -25,7 +25,8 @@ use Rattle.enc_reader.specs.Source.{IsExhausted}
 use Rattle.std.specs.Io.KnownBytes.{Consumes}
 use Rattle.enc_reader.specs.Reading.{ReaderState, ReadsOwed, HandsOut, fresh_reader, owed_sequences}
 use Rattle.enc_reader.specs.Turn.{IsTurn}
-use Rattle.enc_reader.specs.Counting.{HasGiven, owed_faults, CountsBytes, PullsCounted}
+use Rattle.enc_reader.specs.Items.{items_from, whole_items}
+use Rattle.enc_reader.specs.Counting.{HasGiven, owed_faults, owed_items, CountsBytes, PullsCounted}
 use Rattle.enc_reader.specs.Counting.{Finds, owed_by, Passes}
 use Rattle.enc_reader.specs.Counting.{HandsOutCounted}
 use Rattle.enc_reader.proofs.ReadingLemmas.{ReaderPlace, reader_at, HasRead, HasRead-turn, HasRead-more}
@@ -173,12 +174,20 @@ pub HasGiven-fresh : (handling : BomHandling) (e : Encoding)
     → HasGiven 0 (fresh_reader handling e) 0
 HasGiven-fresh handling e = record { counted = refl; among = omega arith }
 
+-- The first sequence of an input has the offset 0.
+starts_at_0 : (handling : BomHandling) (e : Encoding) (z : List ℕ)
+    → 0 + length z - length (sequence_bytes (owed_sequences (fresh_reader handling e) z)) ≡ 0
+starts_at_0 handling e z = omega (arith, ap length (joined handling e z))
+
 pub fresh_faults : (handling : BomHandling) (e : Encoding) (z : List ℕ)
     → owed_faults 0 (fresh_reader handling e) z ≡ whole_faults handling e z
 fresh_faults handling e z =
-    let start : 0 + length z - length (sequence_bytes (owed_sequences (fresh_reader handling e) z))
-    ≡ 0 = omega (arith, ap length (joined handling e z)) in
-    ap (λ n. faults_from n (owed_sequences (fresh_reader handling e) z)) start
+    ap (λ n. faults_from n (owed_sequences (fresh_reader handling e) z)) (starts_at_0 handling e z)
+
+pub fresh_items : (handling : BomHandling) (e : Encoding) (z : List ℕ)
+    → owed_items 0 (fresh_reader handling e) z ≡ whole_items handling e z
+fresh_items handling e z =
+    ap (λ n. items_from n (owed_sequences (fresh_reader handling e) z)) (starts_at_0 handling e z)
 
 -- a chunk that is pulled, by places in the buffer
 module _ {t₀ t₁ : Option (List ℕ)} {d : DecoderState} {ended : Bool} {xs : List ℕ} {n₀ n₁ : ℕ}

@@ -12,3 +12,6 @@ pub mod FillingLemmas
 pub mod LongTextLemmas
 pub mod HeldTextLemmas
 pub mod LineLemmas
+pub mod PlaceLemmas
+pub mod PlacedLineLemmas
+pub mod PolicyLemmas

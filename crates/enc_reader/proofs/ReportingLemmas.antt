@@ -245,7 +245,7 @@ module _ (before : ReaderState) {new : DecoderState} {room : ℕ} {result : Deco
       is_turn before decodes can_decode waits rest_is hands_out without_text text_or_end
 
 -- Sequences without text, of which none is malformed, have no items.
-no_items : {k₀ k₁ : Option (List ℕ)} {a b : ReaderState} {bytes : List ℕ}
+pub no_items : {k₀ k₁ : Option (List ℕ)} {a b : ReaderState} {bytes : List ℕ}
     (reads : ReadsOwed k₀ k₁ a b bytes [] false) (at : ℕ) → items_from at reads.done ≡ []
 no_items reads at =
     items_text at reads.done (sym reads.flag)

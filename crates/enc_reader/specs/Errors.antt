@@ -1,5 +1,5 @@
 -- What is printed of the faults of a reader, and their kinds as I/O errors.
-use Rattle.std.specs.Prelude.{◌≡◌, ◌≢◌, ℕ, ◌⊎◌, List, Option, Some, None, codes}
+use Rattle.std.specs.Prelude.{◌≡◌, ◌≢◌, ℕ, ◌⊎◌, List, ◌++◌, Option, Some, None, codes}
 use Rattle.std.specs.IoError.{error_kind}
 use Rattle.std.specs.declared.io.Error.{Error}
 use Rattle.std.specs.declared.io.ErrorKind.{ErrorKind}
@@ -9,6 +9,9 @@ use Rattle.enc_reader.specs.declared.decode_reader.ReadFault.TheVariants.{Reader
 use Rattle.enc_reader.specs.declared.caused.Caused.{Caused}
 use Rattle.enc_reader.specs.declared.line_fault.LineFault.{LineFault}
 use Rattle.enc_reader.specs.declared.line_fault.LineFault.TheVariants.{Read, Memory, MidCharacter}
+use Rattle.enc_reader.specs.declared.line_reader_fault.LineReaderFault.{LineReaderFault}
+use Rattle.enc_reader.specs.declared.line_reader_fault.LineReaderFault.TheVariants as stop
+use Rattle.std.specs.Fmt.{decimal}
 
 abbrev pub read_fault_text : ReadFault → List ℕ
 read_fault_text Reader = codes "the source of the text failed"
@@ -23,6 +26,19 @@ abbrev pub line_error_kind : LineFault → ErrorKind
 line_error_kind (Read fault) = Other
 line_error_kind Memory = OutOfMemory
 line_error_kind MidCharacter = InvalidData
+
+-- a fault of a line with its place
+abbrev pub line_reader_fault_text : LineReaderFault → List ℕ
+line_reader_fault_text (stop.Read fault) = read_fault_text fault
+line_reader_fault_text stop.Memory = codes "out of memory"
+line_reader_fault_text (stop.Malformed found) =
+    codes "malformed bytes in line " ++ (decimal found.position.line
+    ++ (codes ", column " ++ decimal found.position.column))
+
+abbrev pub line_reader_error_kind : LineReaderFault → ErrorKind
+line_reader_error_kind (stop.Read fault) = Other
+line_reader_error_kind stop.Memory = OutOfMemory
+line_reader_error_kind (stop.Malformed found) = InvalidData
 
 -- The I/O error of a reader whose source keeps this error: that one, or one of the kind `Other`.
 -- It is never of the kind `Interrupted`, which asks for another call.

@@ -9,3 +9,6 @@ pub mod Reporting
 pub mod Reader
 pub mod HeldText
 pub mod Errors
+pub mod Places
+pub mod Policies
+pub mod Lines

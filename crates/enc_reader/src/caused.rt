@@ -7,6 +7,7 @@ ghost use Rattle.std.specs.declared.io.ErrorKind.TheVariants.{Interrupted};
 
 use crate::decode_reader::ReadFault;
 use crate::line_fault::LineFault;
+use crate::line_reader_fault::LineReaderFault;
 use std::error::Error;
 use std::{fmt, io};
 
@@ -26,6 +27,9 @@ pub type ReadError = Caused<ReadFault>;
 
 /// Why a line can't be read to its end, with its cause.
 pub type LineError = Caused<LineFault>;
+
+/// Why a line of a [`LineReader`](crate::LineReader) stops before its line feed, with its cause.
+pub type LineReaderError = Caused<LineReaderFault>;
 
 impl<F> Caused<F> {
     /// Returns a fault with its cause, which is not of the kind `Interrupted`.
@@ -79,6 +83,8 @@ impl Error for ReadError {}
 
 impl Error for LineError {}
 
+impl Error for LineReaderError {}
+
 impl From<ReadError> for LineError {
     ghost use Rattle.enc_reader.specs.Errors.{IsLineErrorOf};
 
@@ -112,5 +118,20 @@ impl From<LineError> for io::Error {
             Some(cause) => cause,
             None => io::Error::from(error.fault),
         }
+    }
+}
+
+impl From<LineReaderError> for io::Error {
+    ghost use Rattle.enc_reader.specs.Errors.{line_reader_error_kind, IsCauseOrOf as IsCauseOf};
+
+    ghost from_gives = { λ line error.
+        IsCauseOf line.cause (line_reader_error_kind line.fault) error };
+
+    /// Returns the cause, or the error of the fault.
+    fn from(error: LineReaderError) -> io::Error {
+        if let Some(cause) = error.cause {
+            return cause;
+        }
+        io::Error::from(error.fault)
     }
 }

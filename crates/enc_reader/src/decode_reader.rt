@@ -247,7 +247,8 @@ impl<'a, R: Source> DecodeReader<'a, R> {
     ghost use Rattle.enc_reader.specs.Errors.{IsErrorOfReader};
     ghost use Rattle.enc_reader.specs.Turn.{IsOwnText, IsTurn, HasBytesAtHand};
     ghost use Rattle.enc_reader.specs.Lending.{LendsLongText};
-    ghost use Rattle.enc_reader.specs.Counting.{HasGiven, owed_faults, CountsBytes};
+    ghost use Rattle.enc_reader.specs.Items.{whole_items};
+    ghost use Rattle.enc_reader.specs.Counting.{HasGiven, owed_faults, owed_items, CountsBytes};
     ghost use Rattle.enc_reader.specs.Counting.{PullsCounted, FillsCounted, HandsOutCounted};
     ghost use Rattle.enc_reader.specs.Reader.{IsAtHand, handed_text, state_of, written_len};
 
@@ -268,6 +269,8 @@ impl<'a, R: Source> DecodeReader<'a, R> {
         ensures encoding { (z : List ℕ) → owed_encoding (state_of result) z ≡ whole_encoding Sniff
             (unwrap_or encoding UTF_8) z }
         ensures faults { (z : List ℕ) → owed_faults 0 (state_of result) z ≡ whole_faults Sniff
+            (unwrap_or encoding UTF_8) z }
+        ensures items { (z : List ℕ) → owed_items 0 (state_of result) z ≡ whole_items Sniff
             (unwrap_or encoding UTF_8) z }
         ensures failed { result.failed ≡ R.has_failed reader.old }
         ensures no_errors { result.had_errors ≡ false }
@@ -301,6 +304,8 @@ impl<'a, R: Source> DecodeReader<'a, R> {
             ≡ whole_encoding handling encoding z }
         ensures faults { (z : List ℕ) → owed_faults 0 (state_of result) z
             ≡ whole_faults handling encoding z }
+        ensures items { (z : List ℕ) → owed_items 0 (state_of result) z
+            ≡ whole_items handling encoding z }
         ensures failed { result.failed ≡ R.has_failed reader.old }
         ensures no_errors { result.had_errors ≡ false }
         ensures given { HasGiven result.given (state_of result) 0 }

@@ -7,16 +7,26 @@
 mod caused;
 mod decode_reader;
 mod decoded_text;
+mod line;
 mod line_fault;
+mod line_reader;
+mod line_reader_fault;
 mod lines;
+mod malformed_policy;
 mod malformed_sequence;
+mod position;
 mod read_fault;
 mod recent;
 mod source;
 
-pub use caused::{Caused, LineError, ReadError};
+pub use caused::{Caused, LineError, LineReaderError, ReadError};
 pub use decode_reader::{DecodeReader, HandedText, ReadFault, ReadStop, TextPart};
 pub use decoded_text::DecodedText;
+pub use line::{Line, PlacedSequence};
 pub use line_fault::LineFault;
+pub use line_reader::LineReader;
+pub use line_reader_fault::LineReaderFault;
+pub use malformed_policy::MalformedPolicy;
 pub use malformed_sequence::MalformedSequence;
+pub use position::Position;
 pub use source::{FromRead, Source};

@@ -1,3 +1,4 @@
 pub mod WrittenText
 pub mod MalformedCount
 pub mod SliceLemmas
+pub mod PlacedLines

@@ -4,8 +4,8 @@
 //! bytes, the number of malformed sequences, and the length and offset of the first. The text is
 //! decoded into a buffer of the queried length, which is never full. The beginning is decoded in
 //! two chunks into one array. Then it writes the offset and length of each malformed sequence, as a
-//! reader reports them, and the number of bytes of the text in the encoding, after the text was
-//! copied line by line.
+//! reader reports them; the lines with malformed bytes as `\xNN`, and the places of these; and the
+//! number of bytes of the text in the encoding, after the text was copied line by line.
 #![tactic(auto)]
 
 mod streams;
@@ -15,7 +15,8 @@ ghost use Rattle.enc_stream.specs.declared.bom.BomHandling.TheVariants.{Sniff};
 ghost use Rattle.encoding_rs.specs.Decoding.{whole_utf_8, whole_sequences};
 ghost use Rattle.example_callers.specs.Count.{malformed_count};
 
-use crate::streams::{copy_lines, malformed_of, written_bytes};
+use crate::streams::{copy_lines, malformed_of, read_lines, written_bytes};
+use enc_reader::MalformedPolicy;
 use encoding_rs::{CoderResult, DecoderResult, Encoding, laws};
 use std::alloc::{AllocError, Global};
 use std::io::{Error, Read, Write};
@@ -150,6 +151,12 @@ fn main(rt: HostRuntime) -> io::Result<()> {
     }
     for (at, len) in malformed_of(rt.alloc(), encoding, &bytes)? {
         writeln!(out, "malformed: {len} at {at}")?;
+    }
+    let all = read_lines(rt.alloc(), encoding, &bytes, MalformedPolicy::Escape)?;
+    out.write_all(all.text().as_bytes())?;
+    for found in all.malformed() {
+        let place = found.position();
+        writeln!(out, "line {}, column {}", place.line(), place.column())?;
     }
     let copy = copy_lines(rt.alloc(), encoding, &bytes)?;
     let written = written_bytes(rt.alloc(), copy.as_str(), encoding)?;

@@ -2,13 +2,18 @@
 //! what it reports are its malformed sequences. What a writer pushes into a `Vec` is the bytes of
 //! the text.
 
-ghost use Rattle.std.specs.Prelude.{◌≡◌, [], chars, IfOk, string_bytes};
+ghost use Rattle.std.specs.Prelude.{◌≡◌, ◌≢◌, [], chars, map, IfOk, string_bytes};
+ghost use Rattle.std.specs.Char.{encode_utf8};
+ghost use Rattle.enc_utf8.specs.Text.{units_of_text};
 ghost use Rattle.enc_stream.specs.declared.bom.BomHandling.TheVariants.{Sniff};
 ghost use Rattle.encoding_rs.specs.Decoding.{whole_utf_8};
 ghost use Rattle.enc_stream.specs.Encoder.{whole_bytes};
 ghost use Rattle.enc_stream.specs.Faults.{whole_faults};
+ghost use Rattle.enc_reader.specs.Items.{whole_items};
+ghost use Rattle.enc_reader.specs.Places.{placed, placed_of, start_of_text};
+ghost use Rattle.enc_reader.specs.Policies.{text_by};
 
-use enc_reader::{DecodeReader, DecodedText, FromRead};
+use enc_reader::{DecodeReader, DecodedText, FromRead, Line, LineReader, MalformedPolicy};
 use enc_writer::{EncodeWriter, FromWrite};
 use encoding_rs::Encoding;
 use std::alloc::Global;
@@ -61,6 +66,34 @@ pub(crate) fn copy_lines(alloc: Global, encoding: Encoding, bytes: &[u8]) -> io:
             return Ok(copy);
         }
         copy.push_str(line.as_str())?;
+    }
+    Err(Error::other("no end"))
+}
+
+/// Reads all lines of a whole input into one, which is not cleared between them: its text, and its
+/// malformed sequences with their lines and columns.
+pub(crate) fn read_lines(
+    alloc: Global,
+    encoding: Encoding,
+    bytes: &[u8],
+    policy: MalformedPolicy,
+) -> io::Result<Line>
+    requires none_reported { policy ≢ MalformedPolicy.Report }
+    ensures text { IfOk result (λ line. string_bytes line.text ≡ units_of_text encode_utf8
+        (text_by policy (whole_items Sniff encoding bytes.now))) }
+    ensures malformed { IfOk result (λ line. map placed_of line.malformed.items
+        ≡ placed start_of_text (whole_items Sniff encoding bytes.now)) }
+{
+    let mut source = FromRead::new(bytes);
+    let mut input = [0; LENGTH];
+    let mut room = [0; LENGTH];
+    let reader = DecodeReader::new(&mut source, Some(encoding), &mut input);
+    let mut lines = LineReader::new(reader, &mut room, policy);
+    let mut line = Line::new(alloc);
+    for _ in 0..u64::MAX {
+        if !lines.read_line(&mut line)? {
+            return Ok(line);
+        }
     }
     Err(Error::other("no end"))
 }

@@ -11,6 +11,7 @@ mod faults;
 mod form_data;
 mod legacy_writer;
 mod lines;
+mod log_filter;
 mod mail_part;
 mod meta_prescan;
 
@@ -32,6 +33,7 @@ const INPUTS: &[(&str, &str, &str)] = &[
     ("faults", "gb18030", "diary.txt"),
     ("form-data", "shift_jis", "form.txt"),
     ("lines", "koi8-r", "poem.txt"),
+    ("log-filter", "shift_jis", "server.log"),
     ("mail-part", "", "mail.txt"),
     ("meta-prescan", "", "cyrillic.html"),
     ("meta-prescan", "", "late.html"),
@@ -55,9 +57,10 @@ const PARTED: &[(&str, &str)] = &[
 fn run<R: Read>(rt: &HostRuntime, name: &str, label: &str, input: &mut R) -> io::Result<()> {
     let mut out = rt.stdout();
     match name {
-        "faults" => faults::run(label, input, &mut out),
+        "faults" => faults::run(rt.alloc(), label, input, &mut out),
         "form-data" => form_data::run(rt.alloc(), label, input, &mut out),
         "lines" => lines::run(rt.alloc(), label, input, &mut out),
+        "log-filter" => log_filter::run(rt.alloc(), label, input, &mut out),
         "mail-part" => mail_part::run(rt.alloc(), input, &mut out),
         "meta-prescan" => meta_prescan::run(rt.alloc(), input, &mut out),
         "legacy-writer" => legacy_writer::run(rt.alloc(), label, input, &mut out),

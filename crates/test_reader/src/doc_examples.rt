@@ -1,6 +1,6 @@
 //! The examples that doc comments show, word for word. `scripts/documents --check` compares them.
 
-use enc_reader::{DecodeReader, FromRead};
+use enc_reader::{DecodeReader, FromRead, Line, LineReader, MalformedPolicy};
 use enc_stream::constants::{UTF_8, WINDOWS_1252};
 use std::io::Error;
 use std::test::Fail;
@@ -37,5 +37,24 @@ fn returns_malformed_sequences(rt: HostRuntime) -> Result<(), Fail> {
     assert!(rt; part.text == "caf");
     let malformed = part.malformed.ok_or(Error::other("a byte is malformed"))?;
     assert!(rt; (malformed.offset(), malformed.bytes()) == (3, b"\xE9".as_slice()));
+    Ok(())
+}
+
+#[test]
+fn reads_lines_with_their_malformed_sequences(rt: HostRuntime) -> Result<(), Fail> {
+    let mut source = FromRead::new(b"caf\xE9\nna\xEFve\n".as_slice());
+    let mut buffer = [0; 64];
+    let reader = DecodeReader::new(&mut source, Some(UTF_8), &mut buffer);
+    let mut room = [0; 64];
+    let mut lines = LineReader::new(reader, &mut room, MalformedPolicy::Escape);
+    let mut line = Line::new(rt.alloc());
+    while lines.read_line(&mut line)? {
+        for found in line.malformed() {
+            let place = found.position();
+            assert!(rt; (place.line(), place.column()) == (1, 4) || place.line() == 2);
+        }
+        assert!(rt; line.text() == "caf\\xe9\n" || line.text() == "na\\xefve\n");
+        line.clear();
+    }
     Ok(())
 }

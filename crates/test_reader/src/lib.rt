@@ -18,6 +18,8 @@ mod lines;
 #[cfg(test)]
 mod pauses;
 #[cfg(test)]
+mod placed_lines;
+#[cfg(test)]
 mod reads;
 #[cfg(test)]
 mod surface;

@@ -44,10 +44,10 @@ pub struct TextPart<'b> {
 
 /// The text that a read has written, and the malformed sequence that follows it.
 #[derive(Clone, Copy)]
-struct ReportedText {
+pub(crate) struct ReportedText {
     /// The number of bytes of text written.
-    written: usize,
-    malformed: Option<MalformedSequence>,
+    pub(crate) written: usize,
+    pub(crate) malformed: Option<MalformedSequence>,
 }
 
 /// The lengths that the decoder reports of a malformed sequence.
@@ -218,14 +218,25 @@ impl<'a, R: Source> DecodeReader<'a, R> {
         }
     }
 
+    /// Returns the number of bytes of the input that are decoded, up to 2^64 - 1.
+    ///
+    /// The text of all of them has been handed out, except that up to three at their end may begin
+    /// a character or an escape sequence. It is exact while the source has given fewer than 2^64
+    /// bytes, and may be asked between any two reads.
+    pub fn bytes_decoded(&self) -> u64
+        ensures given { result ≡ self.now.given - length (state_of self.now).unread }
+        ensures places { result ≡ self.now.given - (self.now.filled - self.now.at) }
+    {
+        self.given.saturating_sub((self.filled - self.at) as u64)
+    }
+
     /// Returns the offset of a malformed sequence that the decoder has reported, in the whole
     /// input: its bytes are those before the last ones decoded.
     fn offset_of(&self, lens: MalformedLens) -> u64
         ensures { result ≡ self.now.given - (self.now.filled - self.now.at) - lens.after
             - lens.len }
     {
-        self.given
-            .saturating_sub((self.filled - self.at) as u64)
+        self.bytes_decoded()
             .saturating_sub(lens.after as u64)
             .saturating_sub(lens.len as u64)
     }
@@ -246,7 +257,7 @@ impl<'a, R: Source> DecodeReader<'a, R> {
     }
 
     /// Reads up to a malformed sequence, as [`DecodeReader::read_text_without_replacement`] does.
-    fn read_reporting(&mut self, dst: &mut [u8]) -> Result<ReportedText, ReadFault>
+    pub(crate) fn read_reporting(&mut self, dst: &mut [u8]) -> Result<ReportedText, ReadFault>
         requires room { 4 ≤ length dst.old }
         ensures ok { IfOk result (λ reported. ReportsItems (R.remaining self.old.reader.now)
             (R.remaining self.new.reader.now) (state_of self.old) (state_of self.new)

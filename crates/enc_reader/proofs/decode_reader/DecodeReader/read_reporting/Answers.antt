@@ -1,5 +1,5 @@
 use Rattle.std.proofs.Common.{rules, ◌≡◌, ◌-◌, length, take, drop, [], ◌∷◌, None, refl, ap, sym, subst, ◌∙◌, arith}
-use Rattle.std.proofs.Common.{inl, inr, ◌+◌, ◌++◌}
+use Rattle.std.proofs.Common.{inl, inr, ◌++◌}
 use Rattle.enc_reader.specs.Reader.{state_of}
 use Rattle.enc_reader.specs.Reading.{FillsRoom}
 use Rattle.enc_reader.proofs.ReadingLemmas.{FailsToRead-waiting, FailsToRead-kept}
