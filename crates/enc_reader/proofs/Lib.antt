@@ -13,5 +13,6 @@ pub mod LongTextLemmas
 pub mod HeldTextLemmas
 pub mod LineLemmas
 pub mod PlaceLemmas
+pub mod TakenItemLemmas
 pub mod PlacedLineLemmas
 pub mod PolicyLemmas

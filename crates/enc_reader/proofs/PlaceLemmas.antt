@@ -1,7 +1,8 @@
 -- Places, texts and malformed sequences of items.
 use Rattle.std.proofs.Common.{◌≡◌, ◌≢◌, ℕ, ◌+◌, ◌<◌, nat_eq, false, List, [], ◌∷◌, ◌++◌, length}
 use Rattle.std.proofs.Common.{take, map, chars, All, None, refl, ap, ◌∙◌, sym, subst, arith}
-use Rattle.std.proofs.Common.{append_assoc, get_or, get_or-append-add, length-append, take-append-drop, drop, zero, suc, eqb-true, inl, inr}
+use Rattle.std.proofs.Common.{append_assoc, get_or, get_or-append-add, length-append, take-append-drop, drop}
+use Rattle.std.proofs.Common.{zero, suc, eqb-true, inl, inr}
 use Rattle.std.proofs.lemmas.Str.Ascii.{IsAscii-cons, IsAscii-nil}
 use Rattle.enc_decoder.proofs.FirstSequenceLemmas.{true_or_false}
 use Rattle.std.proofs.lemmas.List.{map-append}

@@ -1,19 +1,19 @@
 -- Lines that grow by items that are taken.
 use Rattle.std.proofs.Common.{◌≡◌, ◌≢◌, ℕ, ◌+◌, ◌-◌, ◌<◌, ◌≤◌, inl, inr, Bool, true, false, List, [], ◌∷◌, ◌++◌}
-use Rattle.std.proofs.Common.{length, take, drop, map, chars, All, Option, None, Some, refl, ap, ◌∙◌, sym, subst, arith}
-use Rattle.std.proofs.Common.{append_assoc, append-nil, length-append, string_bytes, get_or, nat_eq, eqb-true, eq-eqb, take_all}
+use Rattle.std.proofs.Common.{length, take, map, chars, All, Option, None, Some, refl, ap, ◌∙◌, sym}
+use Rattle.std.proofs.Common.{subst, arith}
+use Rattle.std.proofs.Common.{append_assoc, append-nil, length-append, string_bytes, get_or, nat_eq, eqb-true}
+use Rattle.std.proofs.Common.{eq-eqb, take_all}
 use Rattle.std.proofs.Common.{if◌then◌else◌}
 use Rattle.std.proofs.lemmas.Bool.{cases_lt}
 use Rattle.std.proofs.lemmas.Bool.{false≢true}
-use Rattle.std.proofs.lemmas.List.{map-append, length-take, drop-take, drop-drop}
-use Rattle.std.proofs.Math.ListN.{length-drop}
+use Rattle.std.proofs.lemmas.List.{map-append}
 use Rattle.std.proofs.lemmas.List.Elements.{All-nil, All-cons, All-append, All-more}
-use Rattle.std.proofs.lemmas.Str.{chars-append, chars-nil, IsCharBoundary-after_ascii, IsCharBoundary-end}
+use Rattle.std.proofs.lemmas.Str.{IsCharBoundary-after_ascii, IsCharBoundary-end}
 use Rattle.enc_decoder.proofs.FirstSequenceLemmas.{true_or_false}
-use Rattle.std.proofs.KnownBytes.{Consumes-trans, Consumes-nil}
 use Rattle.std.specs.Char.{encode_utf8}
 use Rattle.std.specs.declared.result.Result.{Result}
-use Rattle.std.specs.Prelude.{Ok, Err, IfErr, IsErrOf}
+use Rattle.std.specs.Prelude.{Ok, Err, IfErr}
 use Rattle.std.specs.Str.{IsUtf8, IsCharBoundary}
 use Rattle.enc_utf8.specs.Text.{units_of_text}
 use Rattle.enc_decoder.proofs.SequenceLemmas.{units_of_text-append}
@@ -26,180 +26,21 @@ use Rattle.enc_reader.specs.declared.line.Line.{Line}
 use Rattle.enc_reader.specs.declared.line_reader_fault.LineReaderFault.{LineReaderFault}
 use Rattle.enc_reader.specs.declared.line_reader_fault.LineReaderFault.TheVariants.{Read, Memory, Malformed}
 use Rattle.enc_reader.specs.declared.decode_reader.ReadFault.{ReadFault}
-use Rattle.enc_reader.specs.declared.decode_reader.ReadFault.TheVariants.{Reader, Failed}
-use Rattle.enc_reader.specs.Items.{Item, character_item, malformed_item, items_from}
-use Rattle.enc_reader.specs.Reading.{ReaderState, FailsToRead}
-use Rattle.enc_reader.specs.Counting.{HasGiven, owed_items}
-use Rattle.enc_reader.specs.Reporting.{ReportsItems, part_items, items_if, malformed_bytes}
+use Rattle.enc_reader.specs.declared.decode_reader.ReadFault.TheVariants.{Reader}
+use Rattle.enc_reader.specs.Items.{Item, character_item, malformed_item}
+use Rattle.enc_reader.specs.Reading.{ReaderState}
+use Rattle.enc_reader.specs.Reporting.{part_items, items_if, malformed_bytes}
 use Rattle.enc_reader.specs.Places.{position_after, start_of_next_line, after_character, placed, placed_of}
 use Rattle.enc_reader.specs.Policies.{text_by, text_of_malformed}
 use Rattle.enc_reader.specs.Lines.{LineState, TakesItems, AppendsItems, SameLine, IsNoFeed, TakesPart}
-use Rattle.enc_reader.specs.Lines.{ReadsLine, StopsLine, FailsToFill, items_to_take}
+use Rattle.enc_reader.specs.Lines.{ReadsLine, StopsLine, FailsToFill}
 use Rattle.enc_reader.specs.Lines.{item_of_fault, AreLinesAtEnd}
-use Rattle.enc_reader.proofs.CountingLemmas.{passes_none}
-use Rattle.enc_reader.proofs.ItemLemmas.{items-append}
-use Rattle.enc_reader.proofs.ReportingLemmas.{no_items}
 use Rattle.enc_reader.proofs.HeldTextLemmas.{subst_both}
 use Rattle.enc_reader.proofs.PlaceLemmas.{position_after-append, placed-append, text_by-append}
 use Rattle.enc_reader.proofs.PlaceLemmas.{placed-text, text_by-text, none-text, units-chars}
 use Rattle.enc_reader.proofs.PlaceLemmas.{no_feed-text, IsLine-text, position-line}
-
--- the items of a text in parts
-pub part_items-append : (front rest : List ℕ) (m : Option MalformedSequence) → IsUtf8 front
-    → part_items (front ++ rest) m ≡ map character_item (chars front) ++ part_items rest m
-part_items-append front rest m utf_8 =
-    ap (λ cs. map character_item cs ++ items_if m) (chars-append front rest utf_8)
-    ∙ ap (λ l. l ++ items_if m) (map-append character_item (chars front) (chars rest))
-    ∙ append_assoc (map character_item (chars front)) (map character_item (chars rest)) (items_if m)
-
--- Items are taken in steps.
-
-abbrev pub lines_at : ReaderState → ℕ → List Item → Position → LineState
-lines_at reader given held position =
-    record { reader = reader; given = given; held = held; position = position }
-
--- the first items that are held
-pub TakesItems-held : (source : Option (List ℕ)) (reader : ReaderState) (count : ℕ)
-    (p : Position) (taken rest : List Item)
-    → TakesItems source source (lines_at reader count (taken ++ rest) p)
-    (lines_at reader count rest (position_after p taken)) taken false
-TakesItems-held source reader count p taken rest = record {
-  bytes = [];
-  given = Consumes-nil source;
-  none_after = λ ended. (refl, ended);
-  counts = λ _ given has. let same : given ≡ given + 0 = omega arith in subst (HasGiven count reader) same has;
-  passed = λ given has small z ends.
-      let same : given ≡ given + 0 = omega arith in
-      append_assoc taken rest (owed_items given reader z)
-      ∙ ap (λ n. taken ++ (rest ++ owed_items n reader z)) same;
-  position = refl;
-}
-
-pub TakesItems-none : (source : Option (List ℕ)) (s : LineState)
-    → TakesItems source source s s [] false
-TakesItems-none source s = TakesItems-held source s.reader s.given s.position [] s.held
-
-module _ {t₀ t₁ t₂ : Option (List ℕ)} {a b c : LineState} where
-  pub TakesItems-then : {v w : List Item} {lost : Bool} → TakesItems t₀ t₁ a b v false
-      → TakesItems t₁ t₂ b c w lost → TakesItems t₀ t₂ a c (v ++ w) lost
-  TakesItems-then {v = v} {w = w} first others = record {
-    bytes = first.bytes ++ others.bytes;
-    given = Consumes-trans t₀ t₁ t₂ first.bytes others.bytes first.given others.given;
-    none_after = λ ended.
-        let one = first.none_after ended in
-        let two = others.none_after one.1 in
-        (ap (λ l. l ++ others.bytes) one.0 ∙ two.0, two.1);
-    counts = λ going given has.
-        let sum = count given in
-        subst (HasGiven c.given c.reader) sum
-        (others.counts going (given + length first.bytes) (first.counts refl given has));
-    passed = λ given has small z ends.
-        let sum = count given in
-        let before_end : b.reader.ended ≡ true → others.bytes ++ z ≡ [] = λ ended.
-        let two = others.none_after ended in
-        ap (λ l. l ++ z) two.0 ∙ ends two.1 in
-        ap (items_to_take given a) (append_assoc first.bytes others.bytes z)
-        ∙ first.passed given has (omega (arith, small, length-append first.bytes others.bytes))
-        (others.bytes ++ z) before_end
-        ∙ ap (λ l. v ++ l) (others.passed (given + length first.bytes)
-        (first.counts refl given has)
-        (omega (arith, small, length-append first.bytes others.bytes)) z ends)
-        ∙ sym (append_assoc v w (items_to_take (given + length first.bytes + length others.bytes) c z))
-        ∙ ap (λ n. (v ++ w) ++ items_to_take n c z) sum;
-    position = others.position ∙ ap (λ p. position_after p w) first.position
-        ∙ sym (position_after-append a.position v w);
-  }
-    where
-      count : (given : ℕ) → given + length first.bytes + length others.bytes
-          ≡ given + length (first.bytes ++ others.bytes)
-      count given = omega (arith, length-append first.bytes others.bytes)
-
--- Once the source is lost, nothing is counted.
-pub TakesItems-lost : {t₀ t₁ : Option (List ℕ)} {a b : LineState} {v : List Item}
-    → TakesItems t₀ t₁ a b v false → TakesItems t₀ t₁ a b v true
-TakesItems-lost takes = record {
-  bytes = takes.bytes;
-  given = takes.given;
-  none_after = takes.none_after;
-  counts = λ no. absurd (false≢true (sym no));
-  passed = takes.passed;
-  position = takes.position;
-}
-
--- Nothing is held, and a read hands out a text and the malformed sequence after it.
-pub TakesItems-reported : {t₀ t₁ : Option (List ℕ)} {old new : ReaderState} {n₀ n₁ : ℕ}
-    {text : List ℕ} {m : Option MalformedSequence} {had_before had_after : Bool}
-    (p : Position) (held now : List Item) → held ≡ [] → now ≡ part_items text m
-    → ReportsItems t₀ t₁ old new n₀ n₁ text m had_before had_after
-    → TakesItems t₀ t₁ (lines_at old n₀ held p) (lines_at new n₁ now p) [] false
-TakesItems-reported {old = old} {new = new} p held now none is_now reported = record {
-  bytes = reported.hands_out.bytes;
-  given = reported.hands_out.reads.given;
-  none_after = reported.hands_out.reads.none_after;
-  counts = λ _. reported.counts;
-  passed = λ given has small z ends.
-      ap (λ h. h ++ owed_items given old (reported.hands_out.bytes ++ z)) none
-      ∙ reported.passed given has small z ends
-      ∙ ap (λ h. h ++ owed_items (given + length reported.hands_out.bytes) new z) (sym is_now);
-  position = refl;
-}
-
--- Nothing is held, and a read fails.
-pub FailsToFill-reader : {t₀ t₁ : Option (List ℕ)} {old new : ReaderState} {n₀ n₁ : ℕ}
-    {failed_before failed_after : Bool} {fault : ReadFault} (p : Position) (held now : List Item)
-    → held ≡ [] → now ≡ [] → FailsToRead t₀ t₁ failed_before failed_after old new
-    → FailsToFill t₀ t₁ (lines_at old n₀ held p) (lines_at new n₁ now p) failed_before failed_after
-    fault
-FailsToFill-reader {old = old} {new = new} p held now none none_now fails = record {
-  takes = record {
-    bytes = fails.bytes;
-    given = fails.reads.given;
-    none_after = fails.reads.none_after;
-    counts = λ no. absurd (false≢true (sym no));
-    passed = λ given has small z ends.
-        ap (λ h. h ++ owed_items given old (fails.bytes ++ z)) none
-        ∙ passes_none items_from items-append fails.reads (no_items fails.reads) given has.among z ends
-        ∙ ap (λ h. h ++ owed_items (given + length fails.bytes) new z) (sym none_now);
-    position = refl;
-  };
-  loses = λ _. record {
-    none_held = none_now;
-    none_determined = fails.none_determined;
-    not_before = fails.not_before;
-    why = fails.why;
-  };
-}
-
--- Nothing is held, and the reader has failed before.
-pub FailsToFill-before : (t : Option (List ℕ)) (s : ReaderState) (n : ℕ) (failed : Bool)
-    (p : Position) (held now : List Item) → held ≡ [] → now ≡ []
-    → FailsToFill t t (lines_at s n held p) (lines_at s n now p) failed failed Failed
-FailsToFill-before t s n failed p held now none none_now = record {
-  takes = subst_both (λ h k. TakesItems t t (lines_at s n h p) (lines_at s n k p) [] true)
-      (sym none) (sym none_now) (TakesItems-lost (TakesItems-none t (lines_at s n [] p)));
-  loses = λ is_reader. cc;
-}
-
--- a fault of a reader is one of two
-pub by_read_fault : {T : Type 0} (P : ReadFault → Type 0) (r : Result T ReadFault)
-    (e : ReadFault) → r ≡ Err e → (IsErrOf r Reader → P Reader) → (IsErrOf r Failed → P Failed)
-    → P e
-by_read_fault P r Reader is reader failed = reader is
-by_read_fault P r Failed is reader failed = failed is
-
--- the same items (field by field, so that the bytes given are those before)
-pub TakesItems-same : {t₀ t₁ : Option (List ℕ)} {a b : LineState} {v w : List Item} {lost : Bool}
-    → v ≡ w → TakesItems t₀ t₁ a b v lost → TakesItems t₀ t₁ a b w lost
-TakesItems-same {a = a} {b = b} same takes = record {
-  bytes = takes.bytes;
-  given = takes.given;
-  none_after = takes.none_after;
-  counts = takes.counts;
-  passed = λ given has small z ends.
-      takes.passed given has small z ends
-      ∙ ap (λ l. l ++ items_to_take (given + length takes.bytes) b z) same;
-  position = takes.position ∙ ap (position_after a.position) same;
-}
+use Rattle.enc_reader.proofs.TakenItemLemmas.{part_items-append, lines_at, TakesItems-held, TakesItems-none}
+use Rattle.enc_reader.proofs.TakenItemLemmas.{TakesItems-then, TakesItems-same}
 
 -- Lines grow in steps.
 
@@ -273,126 +114,98 @@ not_nil-append [] w some = some
 not_nil-append (x ∷ v) w some = λ none. absurd (omega (arith, ap length none))
 
 -- what is appended stands where the line so far ends
-moved : {policy : MalformedPolicy} {t₀ t₁ : Option (List ℕ)} {a b : LineState} {l₀ l₁ l₂ : Line}
-    {some : Bool} {w : List Item} (so_far : HasTakenPart policy t₀ t₁ a b l₀ l₁ some)
-    → AppendsItems policy b.position l₁ l₂ w
-    → AppendsItems policy (position_after a.position so_far.taken) l₁ l₂ w
-moved {policy = policy} {l₁ = l₁} {l₂ = l₂} {w = w} so_far appends =
-    subst (λ p. AppendsItems policy p l₁ l₂ w) so_far.takes.position appends
+module _ {policy : MalformedPolicy} {t₀ t₁ : Option (List ℕ)} {a b : LineState} {l₀ l₁ : Line}
+    {some : Bool} (so_far : HasTakenPart policy t₀ t₁ a b l₀ l₁ some) where
+  moved : {l₂ : Line} {w : List Item} → AppendsItems policy b.position l₁ l₂ w
+      → AppendsItems policy (position_after a.position so_far.taken) l₁ l₂ w
+  moved {l₂ = l₂} {w = w} appends =
+      subst (λ p. AppendsItems policy p l₁ l₂ w) so_far.takes.position appends
 
-module _ {policy : MalformedPolicy} {t₀ t₁ t₂ : Option (List ℕ)} {a b c : LineState}
-    {l₀ l₁ l₂ : Line} {some : Bool} where
-  pub HasTakenPart-then : HasTakenPart policy t₀ t₁ a b l₀ l₁ some
-      → TakesPart policy t₁ t₂ b c l₁ l₂ false → HasTakenPart policy t₀ t₂ a c l₀ l₂ true
-  HasTakenPart-then so_far part = record {
-    taken = so_far.taken ++ part.taken;
-    takes = TakesItems-then so_far.takes part.takes;
-    appends = AppendsItems-then so_far.appends (moved so_far part.appends);
-    no_feed = All-append IsNoFeed so_far.taken part.taken so_far.no_feed (part.part refl);
-    any = λ _. not_nil-append so_far.taken part.taken part.some;
-    none = λ no. absurd (false≢true (sym no));
-  }
+module _ {policy : MalformedPolicy} {t₀ t₁ t₂ : Option (List ℕ)} {a b c : LineState} where
+  module _ {l₀ l₁ l₂ : Line} {some : Bool} where
+    pub HasTakenPart-then : HasTakenPart policy t₀ t₁ a b l₀ l₁ some
+        → TakesPart policy t₁ t₂ b c l₁ l₂ false → HasTakenPart policy t₀ t₂ a c l₀ l₂ true
+    HasTakenPart-then so_far part = record {
+      taken = so_far.taken ++ part.taken;
+      takes = TakesItems-then so_far.takes part.takes;
+      appends = AppendsItems-then so_far.appends (moved so_far part.appends);
+      no_feed = All-append IsNoFeed so_far.taken part.taken so_far.no_feed (part.part refl);
+      any = λ _. not_nil-append so_far.taken part.taken part.some;
+      none = λ no. absurd (false≢true (sym no));
+    }
 
-  pub ReadsLine-line : HasTakenPart policy t₀ t₁ a b l₀ l₁ some
-      → TakesPart policy t₁ t₂ b c l₁ l₂ true → ReadsLine policy t₀ t₂ a c l₀ l₂ true
-  ReadsLine-line so_far part =
-      let line = part.line refl in
-      record {
-        taken = so_far.taken ++ part.taken;
-        takes = TakesItems-then so_far.takes part.takes;
-        appends = AppendsItems-then so_far.appends (moved so_far part.appends);
-        whole = inl (record {
-          before = so_far.taken ++ line.before;
-          feed = line.feed;
-          parts = ap (λ l. so_far.taken ++ l) line.parts
-              ∙ sym (append_assoc so_far.taken line.before (line.feed ∷ []));
-          no_feed = All-append IsNoFeed so_far.taken line.before so_far.no_feed line.no_feed;
-          is_feed = line.is_feed;
-        });
-        any = λ _. not_nil-append so_far.taken part.taken part.some;
-        none = λ no. absurd (false≢true (sym no));
-      }
+    pub ReadsLine-line : HasTakenPart policy t₀ t₁ a b l₀ l₁ some
+        → TakesPart policy t₁ t₂ b c l₁ l₂ true → ReadsLine policy t₀ t₂ a c l₀ l₂ true
+    ReadsLine-line so_far part =
+        let line = part.line refl in
+        record {
+          taken = so_far.taken ++ part.taken;
+          takes = TakesItems-then so_far.takes part.takes;
+          appends = AppendsItems-then so_far.appends (moved so_far part.appends);
+          whole = inl (record {
+            before = so_far.taken ++ line.before;
+            feed = line.feed;
+            parts = ap (λ l. so_far.taken ++ l) line.parts
+                ∙ sym (append_assoc so_far.taken line.before (line.feed ∷ []));
+            no_feed = All-append IsNoFeed so_far.taken line.before so_far.no_feed line.no_feed;
+            is_feed = line.is_feed;
+          });
+          any = λ _. not_nil-append so_far.taken part.taken part.some;
+          none = λ no. absurd (false≢true (sym no));
+        }
 
-  pub ReadsLine-end : HasTakenPart policy t₀ t₁ a b l₀ l₁ some
-      → TakesItems t₁ t₂ b c [] false → AreLinesAtEnd t₂ c → l₂ ≡ l₁
-      → ReadsLine policy t₀ t₂ a c l₀ l₂ some
-  ReadsLine-end so_far nothing at_end same_line =
-      let same : so_far.taken ++ [] ≡ so_far.taken = append-nil so_far.taken in
-      let takes = TakesItems-then so_far.takes nothing in
-      record {
-        taken = so_far.taken;
-        takes = TakesItems-same same takes;
-        appends = subst (λ l. AppendsItems policy a.position l₀ l so_far.taken) (sym same_line)
-            so_far.appends;
-        whole = inr (so_far.no_feed, at_end);
-        any = so_far.any;
-        none = so_far.none;
-      }
+    pub ReadsLine-end : HasTakenPart policy t₀ t₁ a b l₀ l₁ some
+        → TakesItems t₁ t₂ b c [] false → AreLinesAtEnd t₂ c → l₂ ≡ l₁
+        → ReadsLine policy t₀ t₂ a c l₀ l₂ some
+    ReadsLine-end so_far nothing at_end same_line =
+        let same : so_far.taken ++ [] ≡ so_far.taken = append-nil so_far.taken in
+        let takes = TakesItems-then so_far.takes nothing in
+        record {
+          taken = so_far.taken;
+          takes = TakesItems-same same takes;
+          appends = subst (λ l. AppendsItems policy a.position l₀ l so_far.taken) (sym same_line)
+              so_far.appends;
+          whole = inr (so_far.no_feed, at_end);
+          any = so_far.any;
+          none = so_far.none;
+        }
 
-  pub StopsLine-then : {failed failed_before failed_after : Bool} {fault : LineReaderFault}
-      → HasTakenPart policy t₀ t₁ a b l₀ l₁ some → failed ≡ failed_before
-      → StopsLine policy t₁ t₂ b c l₁ l₂ failed failed_after fault
-      → StopsLine policy t₀ t₂ a c l₀ l₂ failed_before failed_after fault
-  unfolding TakesItems-same TakesItems-then
-  StopsLine-then {failed_after = failed_after} {fault = fault} so_far same stops =
-      let all = append_assoc so_far.taken stops.taken (item_of_fault fault) in
-      let takes = TakesItems-then so_far.takes stops.takes in
-      record {
-        taken = so_far.taken ++ stops.taken;
-        takes = TakesItems-same (sym all) takes;
-        appends = AppendsItems-then so_far.appends (moved so_far stops.appends);
-        no_feed = All-append IsNoFeed so_far.taken stops.taken so_far.no_feed stops.no_feed;
-        place = stops.place
-            ∙ ap (λ p. placed (position_after p stops.taken) (item_of_fault fault))
-            so_far.takes.position
-            ∙ ap (λ p. placed p (item_of_fault fault))
-            (sym (position_after-append a.position so_far.taken stops.taken));
-        loses = λ is_read.
-            let lost = stops.loses is_read in
-            record {
-              none_held = lost.none_held;
-              none_determined = lost.none_determined;
-              not_before = sym same ∙ lost.not_before;
-              why = elim lost.why [
-                | inl failed_now ↦ inl failed_now
-                | inr many ↦ inr (omega (
-                  arith,
-                  many,
-                  length-append so_far.takes.bytes stops.takes.bytes,
-                ))
-              ];
-            };
-      }
+    pub StopsLine-then : {failed failed_before failed_after : Bool} {fault : LineReaderFault}
+        → HasTakenPart policy t₀ t₁ a b l₀ l₁ some → failed ≡ failed_before
+        → StopsLine policy t₁ t₂ b c l₁ l₂ failed failed_after fault
+        → StopsLine policy t₀ t₂ a c l₀ l₂ failed_before failed_after fault
+    unfolding TakesItems-same TakesItems-then
+    StopsLine-then {failed_after = failed_after} {fault = fault} so_far same stops =
+        let all = append_assoc so_far.taken stops.taken (item_of_fault fault) in
+        let takes = TakesItems-then so_far.takes stops.takes in
+        record {
+          taken = so_far.taken ++ stops.taken;
+          takes = TakesItems-same (sym all) takes;
+          appends = AppendsItems-then so_far.appends (moved so_far stops.appends);
+          no_feed = All-append IsNoFeed so_far.taken stops.taken so_far.no_feed stops.no_feed;
+          place = stops.place
+              ∙ ap (λ p. placed (position_after p stops.taken) (item_of_fault fault))
+              so_far.takes.position
+              ∙ ap (λ p. placed p (item_of_fault fault))
+              (sym (position_after-append a.position so_far.taken stops.taken));
+          loses = λ is_read.
+              let lost = stops.loses is_read in
+              record {
+                none_held = lost.none_held;
+                none_determined = lost.none_determined;
+                not_before = sym same ∙ lost.not_before;
+                why = elim lost.why [
+                  | inl failed_now ↦ inl failed_now
+                  | inr many ↦ inr (omega (
+                    arith,
+                    many,
+                    length-append so_far.takes.bytes stops.takes.bytes,
+                  ))
+                ];
+              };
+        }
 
 -- The parts of a line.
-
--- nothing is held
-pub none_held : (text : List ℕ) (n : ℕ) (m : Option MalformedSequence) → n ≡ 0 → m ≡ None
-    → part_items (take n text) m ≡ []
-none_held text n m none unreported =
-    rw (none, unreported) (ap (λ cs. map character_item cs ++ []) chars-nil)
-
--- a malformed sequence alone is held
-pub malformed_held : (text : List ℕ) (n : ℕ) (m : MalformedSequence) → n ≡ 0
-    → part_items (take n text) (Some m) ≡ items_if (Some m)
-malformed_held text n m none =
-    rw none (ap (λ cs. map character_item cs ++ items_if (Some m)) chars-nil)
-
--- text that is held, as it is taken
-
-pub held_len : (text : List ℕ) (at filled : ℕ) → filled ≤ length text
-    → length (take (filled - at) (drop at text)) ≡ filled - at
-held_len text at filled within =
-    omega (arith, within, length-take (filled - at) (drop at text), length-drop at text)
-
-pub rest_held : (text : List ℕ) (at filled len : ℕ) → at + len ≤ filled
-    → drop len (take (filled - at) (drop at text))
-    ≡ take (filled - (at + len)) (drop (at + len) text)
-rest_held text at filled len within =
-    let left = filled - (at + len) in
-    let long : filled - at ≡ len + left = omega (arith, within) in
-    ap (λ n. drop len (take n (drop at text))) long
-    ∙ drop-take len left (drop at text) ∙ ap (take left) (drop-drop len at text)
 
 -- A line ends between two characters.
 pub line_boundary : (held : List ℕ) (len : ℕ) → IsUtf8 held → 0 < len → len ≤ length held
@@ -435,55 +248,45 @@ module _ (front : List ℕ) (utf_8 : IsUtf8 front) (some : 0 < length front)
       before)
 
 -- text that is held, up to and with its first line feed, or all
-pub TakesPart-text : (policy : MalformedPolicy) (t : Option (List ℕ)) (reader : ReaderState)
-    (count : ℕ) (p q : Position) {before after : Line} (held front rest : List ℕ)
-    (m : Option MalformedSequence) (is_line : Bool) → held ≡ front ++ rest → IsUtf8 front
-    → 0 < length front → All (λ b. b ≢ 10) (take (length front - 1) front)
-    → is_line ≡ nat_eq (get_or front (length front - 1) 0) 10
-    → string_bytes after.text ≡ string_bytes before.text ++ front
-    → after.malformed ≡ before.malformed
-    → q ≡ (if is_line then start_of_next_line p else position_after p
-    (map character_item (chars front)))
-    → TakesPart policy t t (lines_at reader count (part_items held m) p)
-    (lines_at reader count (part_items rest m) q) before after is_line
-TakesPart-text policy t reader count p q held front rest m is_line parts utf_8 some none is grown
-    same place =
-    let items = map character_item (chars front) in
-    let last = length front - 1 in
-    let after_items : q ≡ position_after p items = elim (true_or_false is_line) [
-      | inl line ↦ place ∙ (rw line refl)
-          ∙ sym (position-line front last utf_8 (long front utf_8 some none)
-          (eqb-true _ _ (sym is ∙ line)) none p)
-      | inr part ↦ place ∙ (rw part refl)
-    ] in
-    record {
-      taken = items;
-      takes = subst_both
-          (λ h k. TakesItems t t (lines_at reader count h p)
-          (lines_at reader count (part_items rest m) k) items false)
-          (sym (ap (λ l. part_items l m) parts ∙ part_items-append front rest m utf_8))
-          (sym after_items) (TakesItems-held t reader count p items (part_items rest m));
-      appends = AppendsItems-text policy p front utf_8 grown same;
-      some = some_items front utf_8 some none;
-      line = λ line. IsLine-text front last utf_8 (long front utf_8 some none)
-          (eqb-true _ _ (sym is ∙ line)) none;
-      part = λ part. part_of front utf_8 some none
-          (λ feed. false≢true (sym part ∙ is ∙ eq-eqb _ _ feed));
-    }
+module _ (policy : MalformedPolicy) (t : Option (List ℕ)) (reader : ReaderState) (count : ℕ)
+    (p : Position) (held front rest : List ℕ) (parts : held ≡ front ++ rest) where
+  pub TakesPart-text : (q : Position) {before after : Line} (m : Option MalformedSequence)
+      (is_line : Bool) → IsUtf8 front → 0 < length front
+      → All (λ b. b ≢ 10) (take (length front - 1) front)
+      → is_line ≡ nat_eq (get_or front (length front - 1) 0) 10
+      → string_bytes after.text ≡ string_bytes before.text ++ front
+      → after.malformed ≡ before.malformed
+      → q ≡ (if is_line then start_of_next_line p else position_after p
+      (map character_item (chars front)))
+      → TakesPart policy t t (lines_at reader count (part_items held m) p)
+      (lines_at reader count (part_items rest m) q) before after is_line
+  TakesPart-text q m is_line utf_8 some none is grown same place =
+      let items = map character_item (chars front) in
+      let last = length front - 1 in
+      let after_items : q ≡ position_after p items = elim (true_or_false is_line) [
+        | inl line ↦ place ∙ (rw line refl)
+            ∙ sym (position-line front last utf_8 (long front utf_8 some none)
+            (eqb-true _ _ (sym is ∙ line)) none p)
+        | inr part ↦ place ∙ (rw part refl)
+      ] in
+      record {
+        taken = items;
+        takes = subst_both
+            (λ h k. TakesItems t t (lines_at reader count h p)
+            (lines_at reader count (part_items rest m) k) items false)
+            (sym (ap (λ l. part_items l m) parts ∙ part_items-append front rest m utf_8))
+            (sym after_items) (TakesItems-held t reader count p items (part_items rest m));
+        appends = AppendsItems-text policy p front utf_8 grown same;
+        some = some_items front utf_8 some none;
+        line = λ line. IsLine-text front last utf_8 (long front utf_8 some none)
+            (eqb-true _ _ (sym is ∙ line)) none;
+        part = λ part. part_of front utf_8 some none
+            (λ feed. false≢true (sym part ∙ is ∙ eq-eqb _ _ feed));
+      }
 
 -- a malformed sequence that is held, where no text is held before it
 module _ (policy : MalformedPolicy) (t : Option (List ℕ)) (reader : ReaderState) (count : ℕ)
-    (p : Position) (found : PlacedSequence) (held now : List Item)
-    (is_held : held ≡ items_if (Some found.sequence)) (none_now : now ≡ [])
-    (place : found.position ≡ p) where
-  passes : TakesItems t t (lines_at reader count held p)
-      (lines_at reader count now (after_character p 0xFFFD)) (items_if (Some found.sequence)) false
-  passes = subst_both
-      (λ h k. TakesItems t t (lines_at reader count h p)
-      (lines_at reader count k (after_character p 0xFFFD)) (items_if (Some found.sequence)) false)
-      (sym is_held) (sym none_now)
-      (TakesItems-held t reader count p (items_if (Some found.sequence)) [])
-
+    (p : Position) (found : PlacedSequence) (place : found.position ≡ p) where
   placed_there : placed_of found ∷ [] ≡ placed p (items_if (Some found.sequence))
   placed_there = ap (λ q. record {
     offset = found.sequence.offset;
@@ -491,41 +294,51 @@ module _ (policy : MalformedPolicy) (t : Option (List ℕ)) (reader : ReaderStat
     position = q;
   } ∷ []) place
 
-  pub StopsLine-reported : (line : Line) (failed : Bool)
-      → StopsLine policy t t (lines_at reader count held p)
-      (lines_at reader count now (after_character p 0xFFFD)) line line failed failed
-      (Malformed found)
-  StopsLine-reported line failed = record {
-    taken = [];
-    takes = passes;
-    appends = AppendsItems-none policy p (SameLine-self line);
-    no_feed = All-nil IsNoFeed;
-    place = placed_there;
-    loses = λ is_read. cc;
-  }
+  module _ (held now : List Item) (is_held : held ≡ items_if (Some found.sequence))
+      (none_now : now ≡ []) where
+    passes : TakesItems t t (lines_at reader count held p)
+        (lines_at reader count now (after_character p 0xFFFD)) (items_if (Some found.sequence)) false
+    passes = subst_both
+        (λ h k. TakesItems t t (lines_at reader count h p)
+        (lines_at reader count k (after_character p 0xFFFD)) (items_if (Some found.sequence)) false)
+        (sym is_held) (sym none_now)
+        (TakesItems-held t reader count p (items_if (Some found.sequence)) [])
 
-  pub TakesPart-malformed : {before after : Line} → string_bytes after.text
-      ≡ string_bytes before.text
-      ++ units_of_text encode_utf8 (text_of_malformed policy (malformed_bytes found.sequence))
-      → after.malformed.items ≡ before.malformed.items ++ found ∷ [] → policy ≢ Report
-      → TakesPart policy t t (lines_at reader count held p)
-      (lines_at reader count now (after_character p 0xFFFD)) before after false
-  TakesPart-malformed {before = before} grown pushed not_reported = record {
-    taken = items_if (Some found.sequence);
-    takes = passes;
-    appends = record {
-      text = grown ∙ ap (λ l. string_bytes before.text ++ units_of_text encode_utf8 l)
-          (sym (append-nil (text_of_malformed policy (malformed_bytes found.sequence))));
-      malformed = ap (map placed_of) pushed
-          ∙ map-append placed_of before.malformed.items (found ∷ [])
-          ∙ ap (λ l. map placed_of before.malformed.items ++ l) placed_there;
-      none_passed = λ reports. absurd (not_reported reports);
-    };
-    some = λ none. absurd (omega (arith, ap length none));
-    line = λ no. absurd (false≢true no);
-    part = λ _. All-cons IsNoFeed (malformed_item found.sequence.offset (malformed_bytes
-        found.sequence)) [] (λ feed. absurd (omega (arith, feed))) (All-nil IsNoFeed);
-  }
+    pub StopsLine-reported : (line : Line) (failed : Bool)
+        → StopsLine policy t t (lines_at reader count held p)
+        (lines_at reader count now (after_character p 0xFFFD)) line line failed failed
+        (Malformed found)
+    StopsLine-reported line failed = record {
+      taken = [];
+      takes = passes;
+      appends = AppendsItems-none policy p (SameLine-self line);
+      no_feed = All-nil IsNoFeed;
+      place = placed_there;
+      loses = λ is_read. cc;
+    }
+
+    pub TakesPart-malformed : {before after : Line} → string_bytes after.text
+        ≡ string_bytes before.text
+        ++ units_of_text encode_utf8 (text_of_malformed policy (malformed_bytes found.sequence))
+        → after.malformed.items ≡ before.malformed.items ++ found ∷ [] → policy ≢ Report
+        → TakesPart policy t t (lines_at reader count held p)
+        (lines_at reader count now (after_character p 0xFFFD)) before after false
+    TakesPart-malformed {before = before} grown pushed not_reported = record {
+      taken = items_if (Some found.sequence);
+      takes = passes;
+      appends = record {
+        text = grown ∙ ap (λ l. string_bytes before.text ++ units_of_text encode_utf8 l)
+            (sym (append-nil (text_of_malformed policy (malformed_bytes found.sequence))));
+        malformed = ap (map placed_of) pushed
+            ∙ map-append placed_of before.malformed.items (found ∷ [])
+            ∙ ap (λ l. map placed_of before.malformed.items ++ l) placed_there;
+        none_passed = λ reports. absurd (not_reported reports);
+      };
+      some = λ none. absurd (omega (arith, ap length none));
+      line = λ no. absurd (false≢true no);
+      part = λ _. All-cons IsNoFeed (malformed_item found.sequence.offset (malformed_bytes
+          found.sequence)) [] (λ feed. absurd (omega (arith, feed))) (All-nil IsNoFeed);
+    }
 
 -- The next part of a line, after a read.
 module _ {policy : MalformedPolicy} {t₀ t₁ : Option (List ℕ)} {a b : LineState}

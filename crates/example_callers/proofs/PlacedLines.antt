@@ -1,5 +1,6 @@
 -- Lines of a slice: their text and their malformed sequences.
-use Rattle.std.proofs.Common.{◌≡◌, ◌≢◌, ℕ, ◌+◌, ◌-◌, ◌^◌, ◌<◌, ◌∷◌, inl, inr, Bool, true, false, List, [], ◌++◌, length, map, Some, Option}
+use Rattle.std.proofs.Common.{◌≡◌, ◌≢◌, ℕ, ◌+◌, ◌-◌, ◌^◌, ◌<◌, ◌∷◌, inl, inr, Bool, true, false, List, []}
+use Rattle.std.proofs.Common.{◌++◌, length, map, Some, Option}
 use Rattle.std.proofs.Common.{refl, ap, ◌∙◌, sym, subst, string_bytes, arith, append_assoc, append-nil, length-append}
 use Rattle.std.specs.Char.{encode_utf8}
 use Rattle.enc_utf8.specs.Text.{units_of_text}
@@ -37,7 +38,7 @@ pub HasLines-start : (e : Encoding) (all : List ℕ) (policy : MalformedPolicy) 
     → state.position ≡ start_of_text → HasLines e all all policy state empty empty
 HasLines-start e all policy state empty given none items position = record {
   given = 0;
-  all_given = refl;
+  all_given = omega arith;
   counted = given;
   taken = [];
   items = sym (items all) ∙ ap (λ h. h ++ owed_items 0 state.reader all) (sym none);
@@ -45,36 +46,35 @@ HasLines-start e all policy state empty given none items position = record {
   position = position;
 }
 
-pub HasLines-read : {e : Encoding} {all left rest : List ℕ} {policy : MalformedPolicy}
-    {old new : LineState} {empty before after : Line} {some : Bool} → length all < 2 ^ 64
-    → HasLines e all left policy old empty before
-    → ReadsLine policy (Some left) (Some rest) old new before after some
-    → (new.reader.ended ≡ true → IsExhausted (Some rest))
-    → HasLines e all rest policy new empty after
-HasLines-read {left = left} {rest = rest} {policy = policy} {old = old} {new = new} {before = before}
-    {after = after} small so_far reads exhausted =
-    let takes = reads.takes in
-    let consumed : left ≡ takes.bytes ++ rest = takes.given in
-    let sum : so_far.given + length takes.bytes + length rest ≡ so_far.given + length left =
-    omega (arith, ap length consumed, length-append takes.bytes rest) in
-    record {
-      given = so_far.given + length takes.bytes;
-      all_given = sum ∙ so_far.all_given;
-      counted = takes.counts refl so_far.given so_far.counted;
-      taken = so_far.taken ++ reads.taken;
-      items = so_far.items
-          ∙ ap (λ l. so_far.taken ++ items_to_take so_far.given old l) consumed
-          ∙ ap (λ l. so_far.taken ++ l) (takes.passed so_far.given so_far.counted
-          (omega (arith, small, sum, so_far.all_given)) rest
-          (λ ended. at_end (Some rest) (exhausted ended)))
-          ∙ sym (append_assoc so_far.taken reads.taken
-          (items_to_take (so_far.given + length takes.bytes) new rest));
-      appends = AppendsItems-then so_far.appends
-          (subst (λ p. AppendsItems policy p before after reads.taken) so_far.position
-          reads.appends);
-      position = takes.position ∙ ap (λ p. position_after p reads.taken) so_far.position
-          ∙ sym (position_after-append start_of_text so_far.taken reads.taken);
-    }
+module _ {e : Encoding} {all left rest : List ℕ} {policy : MalformedPolicy} {old new : LineState} where
+  pub HasLines-read : {empty before after : Line} {some : Bool} → length all < 2 ^ 64
+      → HasLines e all left policy old empty before
+      → ReadsLine policy (Some left) (Some rest) old new before after some
+      → (new.reader.ended ≡ true → IsExhausted (Some rest))
+      → HasLines e all rest policy new empty after
+  HasLines-read {before = before} {after = after} small so_far reads exhausted =
+      let takes = reads.takes in
+      let consumed : left ≡ takes.bytes ++ rest = takes.given in
+      let sum : so_far.given + length takes.bytes + length rest ≡ so_far.given + length left =
+      omega (arith, ap length consumed, length-append takes.bytes rest) in
+      record {
+        given = so_far.given + length takes.bytes;
+        all_given = sum ∙ so_far.all_given;
+        counted = takes.counts refl so_far.given so_far.counted;
+        taken = so_far.taken ++ reads.taken;
+        items = so_far.items
+            ∙ ap (λ l. so_far.taken ++ items_to_take so_far.given old l) consumed
+            ∙ ap (λ l. so_far.taken ++ l) (takes.passed so_far.given so_far.counted
+            (omega (arith, small, sum, so_far.all_given)) rest
+            (λ ended. at_end (Some rest) (exhausted ended)))
+            ∙ sym (append_assoc so_far.taken reads.taken
+            (items_to_take (so_far.given + length takes.bytes) new rest));
+        appends = AppendsItems-then so_far.appends
+            (subst (λ p. AppendsItems policy p before after reads.taken) so_far.position
+            reads.appends);
+        position = takes.position ∙ ap (λ p. position_after p reads.taken) so_far.position
+            ∙ sym (position_after-append start_of_text so_far.taken reads.taken);
+      }
 
 -- At the end all are taken.
 pub HasLines-all : {e : Encoding} {all rest : List ℕ} {policy : MalformedPolicy}

@@ -61,7 +61,8 @@ fn expect_lines<R: Source>(
     Ok(())
 }
 
-/// Reads lines through small buffers and large ones, from a source that gives a byte a read, or all.
+/// Reads lines through small buffers and large ones, from a source that gives a byte a read or all
+/// bytes.
 fn check_lines(
     alloc: Global,
     encoding: Encoding,

@@ -3,9 +3,9 @@ use Rattle.enc_reader.specs.declared.decode_reader.ReadFault.TheVariants.{Failed
 use Rattle.enc_reader.specs.Reader.{state_of}
 use Rattle.enc_reader.specs.Reporting.{part_items}
 use Rattle.enc_reader.specs.Lines.{line_state_of, FailsToFill}
-use Rattle.enc_reader.proofs.PlacedLineLemmas.{lines_at, TakesItems-none, TakesItems-reported}
-use Rattle.enc_reader.proofs.PlacedLineLemmas.{none_held, FailsToFill-reader, FailsToFill-before}
-use Rattle.enc_reader.proofs.PlacedLineLemmas.{by_read_fault}
+use Rattle.enc_reader.proofs.TakenItemLemmas.{lines_at, TakesItems-none, TakesItems-reported}
+use Rattle.enc_reader.proofs.TakenItemLemmas.{none_held, FailsToFill-reader, FailsToFill-before}
+use Rattle.enc_reader.proofs.TakenItemLemmas.{by_read_fault}
 use Rattle.enc_reader.proofs.line_reader.LineReader.fill.Goals as goal
 
 pub returns-then-self-clause-takes : goal.returns-then-self-clause-takes
@@ -27,7 +27,7 @@ returns-in-Err-clause-err g c =
     (g.R.Source.has_failed lines.reader.reader.now)
     (g.R.Source.has_failed c.read_reporting.new.self.reader.now) fault)
     c.read_reporting.result c.in-Err.fault c.in-Err.is
-    (λ reader. FailsToFill-reader lines.position _ _ none none_now
+    (λ reader. FailsToFill-reader _ _ none lines.position none_now
     (c.read_reporting.ensures.reader_fault reader))
     (λ failed. subst
     (λ r. FailsToFill (g.R.Source.remaining lines.reader.reader.now)
@@ -46,7 +46,7 @@ returns-in-Ok-clause-takes g c =
     let none = none_held (drop lines.at lines.text.now) (lines.filled - lines.at) lines.malformed
     (omega (arith, c.if-self.false)) unreported in
     let all : written - 0 ≡ written = omega arith in
-    TakesItems-reported lines.position _ _ none
+    TakesItems-reported _ _ none lines.position
     (ap (λ n. part_items (take n dst) c.in-Ok.reported.malformed) all) c.in-Ok.ensures.ok
 
 pub returns-in-Ok-clause-end : goal.returns-in-Ok-clause-end

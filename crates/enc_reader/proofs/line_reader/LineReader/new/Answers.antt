@@ -1,5 +1,5 @@
 use Rattle.std.proofs.Common.{refl, None}
-use Rattle.enc_reader.proofs.PlacedLineLemmas.{none_held}
+use Rattle.enc_reader.proofs.TakenItemLemmas.{none_held}
 use Rattle.enc_reader.proofs.line_reader.LineReader.new.Goals as goal
 
 pub returns-clause-none_held : goal.returns-clause-none_held

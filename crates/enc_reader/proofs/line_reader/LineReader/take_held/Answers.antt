@@ -1,7 +1,8 @@
 use Rattle.std.proofs.Common.{subst, sym}
 use Rattle.enc_reader.specs.declared.line_reader_fault.LineReaderFault.TheVariants.{Memory}
 use Rattle.enc_reader.specs.Lines.{line_state_of, StopsLine}
-use Rattle.enc_reader.proofs.PlacedLineLemmas.{TakesItems-none, StopsLine-memory}
+use Rattle.enc_reader.proofs.PlacedLineLemmas.{StopsLine-memory}
+use Rattle.enc_reader.proofs.TakenItemLemmas.{TakesItems-none}
 use Rattle.enc_reader.proofs.line_reader.LineReader.take_held.Goals as goal
 
 pub returns-in-Err-clause-err : goal.returns-in-Err-clause-err

@@ -4,7 +4,8 @@ use Rattle.std.specs.Io.{StopsAt}
 use Rattle.std.proofs.Transfers.{StopsAt-take}
 use Rattle.std.specs.Str.{IsUtf8}
 use Rattle.std.proofs.lemmas.Str.{IsUtf8-take, IsUtf8-drop}
-use Rattle.enc_reader.proofs.PlacedLineLemmas.{held_len, rest_held, line_boundary, TakesPart-text}
+use Rattle.enc_reader.proofs.TakenItemLemmas.{held_len, rest_held}
+use Rattle.enc_reader.proofs.PlacedLineLemmas.{line_boundary, TakesPart-text}
 use Rattle.enc_reader.proofs.line_reader.LineReader.take_text.Goals as goal
 
 pub split_at-requires : goal.split_at-requires
@@ -26,7 +27,13 @@ invariant_of-self-clause-order g c =
     let lines = c.args.self.now in
     let long = ap length c.held-held.ensures
     ∙ held_len lines.text.now lines.at lines.filled lines.within in
-    omega (arith, c.line_len-len.ensures.within, ap length c.as_bytes.ensures.value, long, lines.order)
+    omega (
+      arith,
+      c.line_len-len.ensures.within,
+      ap length c.as_bytes.ensures.value,
+      long,
+      lines.order,
+    )
 
 pub invariant_of-self-clause-utf_8 : goal.invariant_of-self-clause-utf_8
 invariant_of-self-clause-utf_8 g c =
@@ -65,11 +72,12 @@ returns-clause-ok g c =
     ∙ line.ends (omega (arith, more, ap length bytes))) in
     let before = subst (λ l. All (λ b. b ≢ 10) (take (len - 1) l)) bytes line.before in
     let is_front = c.split_at.ensures.front in
-    TakesPart-text lines.policy _ _ _ lines.position _ _ front _ lines.malformed _
+    TakesPart-text lines.policy _ _ _ lines.position _ front _
     (sym value ∙ sym (take-append-drop len held)
     ∙ ap (λ l. l ++ drop len held) (sym is_front)
     ∙ ap (λ l. front ++ l) (ap (drop len) value ∙ rest_held lines.text.now lines.at lines.filled
     len (omega (arith, within, long, lines.order))))
+    _ lines.malformed _
     (subst IsUtf8 (sym is_front) (IsUtf8-take held len c.held-held.utf8 boundary))
     (omega (arith, some, c.split_at.ensures.front_len))
     (subst (λ l. StopsAt l 10) (sym is_front) (StopsAt-take held 10 len within before))
