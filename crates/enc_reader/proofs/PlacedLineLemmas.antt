@@ -217,8 +217,9 @@ line_boundary held len utf_8 some within ends = elim (cases_lt len (length held)
       subst (IsCharBoundary held) place
       (IsCharBoundary-after_ascii held (len - 1) utf_8 (omega (arith, some, within))
       (omega (arith, feed))))
-  | inr all ↦ subst (IsCharBoundary held) (let same : length held ≡ len = omega (arith, all, within) in same)
-      (IsCharBoundary-end held)
+  | inr all ↦ (
+      let same : length held ≡ len = omega (arith, all, within) in
+      subst (IsCharBoundary held) same (IsCharBoundary-end held))
 ]
 
 no_items_no_chars : (cs : List ℕ) → map character_item cs ≡ [] → cs ≡ []
@@ -297,7 +298,8 @@ module _ (policy : MalformedPolicy) (t : Option (List ℕ)) (reader : ReaderStat
   module _ (held now : List Item) (is_held : held ≡ items_if (Some found.sequence))
       (none_now : now ≡ []) where
     passes : TakesItems t t (lines_at reader count held p)
-        (lines_at reader count now (after_character p 0xFFFD)) (items_if (Some found.sequence)) false
+        (lines_at reader count now (after_character p 0xFFFD)) (items_if (Some found.sequence))
+        false
     passes = subst_both
         (λ h k. TakesItems t t (lines_at reader count h p)
         (lines_at reader count k (after_character p 0xFFFD)) (items_if (Some found.sequence)) false)

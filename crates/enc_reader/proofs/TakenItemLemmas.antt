@@ -51,7 +51,9 @@ TakesItems-held source reader count p taken rest = record {
   bytes = [];
   given = Consumes-nil source;
   none_after = λ ended. (refl, ended);
-  counts = λ _ given has. let same : given ≡ given + 0 = omega arith in subst (HasGiven count reader) same has;
+  counts = λ _ given has.
+      let same : given ≡ given + 0 = omega arith in
+      subst (HasGiven count reader) same has;
   passed = λ given has small z ends.
       let same : given ≡ given + 0 = omega arith in
       append_assoc taken rest (owed_items given reader z)
@@ -88,7 +90,8 @@ module _ {t₀ t₁ t₂ : Option (List ℕ)} {a b c : LineState} where
         ∙ ap (λ l. v ++ l) (others.passed (given + length first.bytes)
         (first.counts refl given has)
         (omega (arith, small, length-append first.bytes others.bytes)) z ends)
-        ∙ sym (append_assoc v w (items_to_take (given + length first.bytes + length others.bytes) c z))
+        ∙ sym (append_assoc v w
+        (items_to_take (given + length first.bytes + length others.bytes) c z))
         ∙ ap (λ n. (v ++ w) ++ items_to_take n c z) sum;
     position = others.position ∙ ap (λ p. position_after p w) first.position
         ∙ sym (position_after-append a.position v w);
@@ -174,7 +177,8 @@ by_read_fault P r Reader is reader failed = reader is
 by_read_fault P r Failed is reader failed = failed is
 
 -- the same items (field by field, so that the bytes given are those before)
-unfoldable pub TakesItems-same : {t₀ t₁ : Option (List ℕ)} {a b : LineState} {v w : List Item} {lost : Bool}
+unfoldable pub TakesItems-same : {t₀ t₁ : Option (List ℕ)} {a b : LineState} {v w : List Item}
+    {lost : Bool}
     → v ≡ w → TakesItems t₀ t₁ a b v lost → TakesItems t₀ t₁ a b w lost
 TakesItems-same {a = a} {b = b} same takes = record {
   bytes = takes.bytes;

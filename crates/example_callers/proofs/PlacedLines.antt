@@ -46,7 +46,8 @@ HasLines-start e all policy state empty given none items position = record {
   position = position;
 }
 
-module _ {e : Encoding} {all left rest : List ℕ} {policy : MalformedPolicy} {old new : LineState} where
+module _ {e : Encoding} {all left rest : List ℕ} {policy : MalformedPolicy}
+    {old new : LineState} where
   pub HasLines-read : {empty before after : Line} {some : Bool} → length all < 2 ^ 64
       → HasLines e all left policy old empty before
       → ReadsLine policy (Some left) (Some rest) old new before after some
@@ -93,7 +94,8 @@ module _ {e : Encoding} {all rest : List ℕ} {policy : MalformedPolicy} {state 
     {empty line : Line} (so_far : HasLines e all rest policy state empty line)
     (end : AreLinesAtEnd (Some rest) state) where
   pub text_of_all : string_bytes empty.text ≡ []
-      → string_bytes line.text ≡ units_of_text encode_utf8 (text_by policy (whole_items Sniff e all))
+      → string_bytes line.text
+      ≡ units_of_text encode_utf8 (text_by policy (whole_items Sniff e all))
   text_of_all none =
       so_far.appends.text
       ∙ ap (λ l. l ++ units_of_text encode_utf8 (text_by policy so_far.taken)) none

@@ -45,6 +45,7 @@ returns-clause-ok g c = elim c.if-ne.branch [
       (omega (arith, c.requires.none_before)) refl in
       rw (c.after-self.ensures, w.line-is)
       (TakesPart-malformed lines.policy _ _ _ lines.position c.new-found.result
-      c.new-found.ensures.position _ _ is_held none_now (search rules) (search rules) (search rules)))
+      c.new-found.ensures.position _ _ is_held none_now (search rules) (search rules)
+      (search rules)))
   | else-ne w ↦ absurd (search rules)
 ]
