@@ -1,7 +1,7 @@
 //! Reading text: a [`DecodeReader`] reads bytes from a [`Source`] and hands them out as UTF-8.
 //!
 //! It reads a buffer at a time. [`FromRead`] makes a source of any reader. `read_line` of a
-//! [`DecodedText`] takes memory for its line, and no other call takes any.
+//! [`DecodedText`] or of a [`LineReader`] takes memory for its line, and no other call takes any.
 #![tactic(auto)]
 
 mod caused;

@@ -10,17 +10,17 @@ ghost use Rattle.enc_reader.specs.Policies.{text_of_malformed};
 /// The greatest length of an escaped malformed sequence in bytes.
 pub(crate) const MOST_ESCAPED: usize = 16;
 
-/// What a [`LineReader`](crate::LineReader) does at a malformed sequence. It tells its place in
-/// each case.
+/// What a [`LineReader`](crate::LineReader) does at a malformed sequence, as the error handlers of
+/// Python's `decode` do. It tells its place in each case.
 #[derive(Clone, Copy, PartialEq, Eq, Debug)]
 pub enum MalformedPolicy {
-    /// U+FFFD stands for it.
+    /// U+FFFD stands for it, as with `replace`.
     Replace,
-    /// Nothing stands for it.
+    /// Nothing stands for it, as with `ignore`.
     Ignore,
-    /// Each of its bytes is written as `\xNN`, with two hexadecimal digits in lower case.
+    /// Each of its bytes is written as `\xNN`, in lower case, as with `backslashreplace`.
     Escape,
-    /// The line stops before it, with an error. The next read goes on after it.
+    /// The line stops before it, with an error, as with `strict`. The next read goes on after it.
     Report,
 }
 
