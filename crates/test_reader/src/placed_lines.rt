@@ -87,38 +87,43 @@ fn check_lines(
 
 const UTF_8_BYTES: &[u8] = b"caf\xE9\n\xF0\x9F\x98\x80\xFF\xE3\x81x\n\n\xC3";
 
+const REPLACED: &[Want<'static>] = &[
+    ("caf\u{FFFD}\n", &[(3, b"\xE9", 1, 4)]),
+    (
+        "\u{1F600}\u{FFFD}\u{FFFD}x\n",
+        &[(9, b"\xFF", 2, 2), (10, b"\xE3\x81", 2, 3)],
+    ),
+    ("\n", &[]),
+    ("\u{FFFD}", &[(15, b"\xC3", 4, 1)]),
+];
+
+/// 93 FA is U+65E5, and 96 7B is U+672C.
+const REPLACED_JAPANESE: &[Want<'static>] = &[
+    ("\u{65E5}\u{FFFD}\n", &[(2, b"\x81", 1, 2)]),
+    (
+        "\u{672C}\u{FFFD}z\u{FFFD}",
+        &[(6, b"\xFF", 2, 2), (8, b"\x82", 2, 4)],
+    ),
+];
+
 #[test]
 fn a_replaced_sequence_is_one_column(rt: HostRuntime) -> Result<(), Fail> {
-    check_lines(
-        rt.alloc(),
-        UTF_8,
-        UTF_8_BYTES,
-        MalformedPolicy::Replace,
-        &[
-            ("caf\u{FFFD}\n", &[(3, b"\xE9", 1, 4)]),
-            (
-                "\u{1F600}\u{FFFD}\u{FFFD}x\n",
-                &[(9, b"\xFF", 2, 2), (10, b"\xE3\x81", 2, 3)],
-            ),
-            ("\n", &[]),
-            ("\u{FFFD}", &[(15, b"\xC3", 4, 1)]),
-        ],
-    )?;
-    // 93 FA is U+65E5, 96 7B is U+672C
-    check_lines(
-        rt.alloc(),
-        SHIFT_JIS,
-        b"\x93\xFA\x81\n\x96\x7B\xFFz\x82",
-        MalformedPolicy::Replace,
-        &[
-            ("\u{65E5}\u{FFFD}\n", &[(2, b"\x81", 1, 2)]),
-            (
-                "\u{672C}\u{FFFD}z\u{FFFD}",
-                &[(6, b"\xFF", 2, 2), (8, b"\x82", 2, 4)],
-            ),
-        ],
-    )
+    let policy = MalformedPolicy::Replace;
+    check_lines(rt.alloc(), UTF_8, UTF_8_BYTES, policy, REPLACED)?;
+    let bytes = b"\x93\xFA\x81\n\x96\x7B\xFFz\x82";
+    check_lines(rt.alloc(), SHIFT_JIS, bytes, policy, REPLACED_JAPANESE)
 }
+
+/// The last line has no text.
+const IGNORED: &[Want<'static>] = &[
+    ("caf\n", &[(3, b"\xE9", 1, 4)]),
+    (
+        "\u{1F600}x\n",
+        &[(9, b"\xFF", 2, 2), (10, b"\xE3\x81", 2, 3)],
+    ),
+    ("\n", &[]),
+    ("", &[(15, b"\xC3", 4, 1)]),
+];
 
 #[test]
 fn an_ignored_sequence_keeps_its_column(rt: HostRuntime) -> Result<(), Fail> {
@@ -127,69 +132,59 @@ fn an_ignored_sequence_keeps_its_column(rt: HostRuntime) -> Result<(), Fail> {
         UTF_8,
         UTF_8_BYTES,
         MalformedPolicy::Ignore,
-        &[
-            ("caf\n", &[(3, b"\xE9", 1, 4)]),
-            (
-                "\u{1F600}x\n",
-                &[(9, b"\xFF", 2, 2), (10, b"\xE3\x81", 2, 3)],
-            ),
-            ("\n", &[]),
-            // a line without text
-            ("", &[(15, b"\xC3", 4, 1)]),
-        ],
+        IGNORED,
     )
 }
+
+const ESCAPED: &[Want<'static>] = &[
+    ("caf\\xe9\n", &[(3, b"\xE9", 1, 4)]),
+    (
+        "\u{1F600}\\xff\\xe3\\x81x\n",
+        &[(9, b"\xFF", 2, 2), (10, b"\xE3\x81", 2, 3)],
+    ),
+    ("\n", &[]),
+    ("\\xc3", &[(15, b"\xC3", 4, 1)]),
+];
+
+/// The first byte is malformed, and the digits and the text after it are read anew.
+const ESCAPED_CHINESE: &[Want<'static>] = &[
+    ("a\\x8109z\n", &[(1, b"\x81", 1, 2)]),
+    ("\u{4E2D}", &[]),
+];
 
 #[test]
 fn an_escaped_sequence_shows_each_byte(rt: HostRuntime) -> Result<(), Fail> {
-    check_lines(
-        rt.alloc(),
-        UTF_8,
-        UTF_8_BYTES,
-        MalformedPolicy::Escape,
-        &[
-            ("caf\\xe9\n", &[(3, b"\xE9", 1, 4)]),
-            (
-                "\u{1F600}\\xff\\xe3\\x81x\n",
-                &[(9, b"\xFF", 2, 2), (10, b"\xE3\x81", 2, 3)],
-            ),
-            ("\n", &[]),
-            ("\\xc3", &[(15, b"\xC3", 4, 1)]),
-        ],
-    )?;
-    // The first byte is malformed, and the digits and the text after it are read anew.
-    check_lines(
-        rt.alloc(),
-        GB18030,
-        b"a\x8109z\n\xD6\xD0",
-        MalformedPolicy::Escape,
-        &[("a\\x8109z\n", &[(1, b"\x81", 1, 2)]), ("\u{4E2D}", &[])],
-    )
+    let policy = MalformedPolicy::Escape;
+    check_lines(rt.alloc(), UTF_8, UTF_8_BYTES, policy, ESCAPED)?;
+    let bytes = b"a\x8109z\n\xD6\xD0";
+    check_lines(rt.alloc(), GB18030, bytes, policy, ESCAPED_CHINESE)
 }
+
+/// U+0A0A has two bytes 0A.
+const ESCAPED_UTF_16: &[Want<'static>] = &[
+    ("\u{A0A}\n", &[]),
+    ("b\\x00\\xd8\n", &[(6, b"\0\xD8", 2, 2)]),
+];
+
+/// Escape sequences are no columns.
+const REPLACED_AFTER_ESCAPES: &[Want<'static>] = &[
+    ("\u{8A9E}\n", &[]),
+    ("\u{8A9E}\u{FFFD}y", &[(14, b"x", 2, 2)]),
+];
 
 #[test]
 fn line_feeds_of_other_shapes_end_lines(rt: HostRuntime) -> Result<(), Fail> {
-    // U+0A0A has two bytes 0A
-    check_lines(
-        rt.alloc(),
-        UTF_16LE,
-        b"\x0A\x0A\x0A\0b\0\0\xD8\x0A\0",
-        MalformedPolicy::Escape,
-        &[
-            ("\u{A0A}\n", &[]),
-            ("b\\x00\\xd8\n", &[(6, b"\0\xD8", 2, 2)]),
-        ],
-    )?;
-    // Escape sequences are no columns.
+    let bytes = b"\x0A\x0A\x0A\0b\0\0\xD8\x0A\0";
+    let policy = MalformedPolicy::Escape;
+    check_lines(rt.alloc(), UTF_16LE, bytes, policy, ESCAPED_UTF_16)?;
+    let bytes = b"\x1B$B8l\x1B(B\n\x1B$B8lx\x1B(By";
+    let policy = MalformedPolicy::Replace;
     check_lines(
         rt.alloc(),
         ISO_2022_JP,
-        b"\x1B$B8l\x1B(B\n\x1B$B8lx\x1B(By",
-        MalformedPolicy::Replace,
-        &[
-            ("\u{8A9E}\n", &[]),
-            ("\u{8A9E}\u{FFFD}y", &[(14, b"x", 2, 2)]),
-        ],
+        bytes,
+        policy,
+        REPLACED_AFTER_ESCAPES,
     )
 }
 
