@@ -3,6 +3,8 @@
 //! Texts by policy are those of Python's error handlers `replace`, `ignore` and `backslashreplace`.
 //! Offsets, lines and columns are counted by hand.
 
+ghost use Rattle.std.specs.Prelude.{◌≤◌, length};
+
 use enc_reader::{
     DecodeReader, FromRead, Line, LineReader, LineReaderFault, MalformedPolicy, PlacedSequence,
     ReadFault, Source,
@@ -61,131 +63,152 @@ fn expect_lines<R: Source>(
     Ok(())
 }
 
-/// Reads lines through small buffers and large ones, from a source that gives a byte a read or all
-/// bytes.
-fn check_lines(
-    alloc: Global,
+/// An input, and the lines that are wanted of it.
+struct Case {
     encoding: Encoding,
-    bytes: &[u8],
+    bytes: &'static [u8],
     policy: MalformedPolicy,
-    want: &[Want<'_>],
-) -> Result<(), Fail> {
-    for len in [4, 5, 7, 64] {
-        let mut input = [0; 64];
-        let mut room = [0; 64];
-        let mut source = FromRead::new(bytes);
-        let reader = DecodeReader::new(&mut source, Some(encoding), &mut input[..len]);
-        let mut lines = LineReader::new(reader, &mut room[..len], policy);
-        expect_lines(alloc, &mut lines, want)?;
-        let mut source = FromRead::new(StepReader::new(bytes, &[BYTE]));
-        let reader = DecodeReader::new(&mut source, Some(encoding), &mut input[..1]);
-        let mut lines = LineReader::new(reader, &mut room[..len], policy);
-        expect_lines(alloc, &mut lines, want)?;
-    }
-    Ok(())
+    lines: &'static [Want<'static>],
+}
+
+/// Reads the lines of a case through a buffer for its text, from a source that gives all bytes and
+/// from one that gives a byte a read.
+fn check_through(alloc: Global, case: &Case, room: &mut [u8]) -> Result<(), Fail>
+    requires room { 4 ≤ length room.old }
+{
+    let mut input = [0; 16];
+    let mut source = FromRead::new(case.bytes);
+    let reader = DecodeReader::new(&mut source, Some(case.encoding), &mut input);
+    let mut lines = LineReader::new(reader, &mut *room, case.policy);
+    expect_lines(alloc, &mut lines, case.lines)?;
+    let mut byte = [0; 1];
+    let mut source = FromRead::new(StepReader::new(case.bytes, &[BYTE]));
+    let reader = DecodeReader::new(&mut source, Some(case.encoding), &mut byte);
+    let mut lines = LineReader::new(reader, room, case.policy);
+    expect_lines(alloc, &mut lines, case.lines)
+}
+
+/// Reads the lines of a case through small buffers and a large one.
+fn check_lines(alloc: Global, case: &Case) -> Result<(), Fail> {
+    check_through(alloc, case, &mut [0; 4])?;
+    check_through(alloc, case, &mut [0; 5])?;
+    check_through(alloc, case, &mut [0; 7])?;
+    check_through(alloc, case, &mut [0; 64])
 }
 
 const UTF_8_BYTES: &[u8] = b"caf\xE9\n\xF0\x9F\x98\x80\xFF\xE3\x81x\n\n\xC3";
 
-const REPLACED: &[Want<'static>] = &[
-    ("caf\u{FFFD}\n", &[(3, b"\xE9", 1, 4)]),
-    (
-        "\u{1F600}\u{FFFD}\u{FFFD}x\n",
-        &[(9, b"\xFF", 2, 2), (10, b"\xE3\x81", 2, 3)],
-    ),
-    ("\n", &[]),
-    ("\u{FFFD}", &[(15, b"\xC3", 4, 1)]),
-];
+const REPLACED_UTF_8: Case = Case {
+    encoding: UTF_8,
+    bytes: UTF_8_BYTES,
+    policy: MalformedPolicy::Replace,
+    lines: &[
+        ("caf\u{FFFD}\n", &[(3, b"\xE9", 1, 4)]),
+        (
+            "\u{1F600}\u{FFFD}\u{FFFD}x\n",
+            &[(9, b"\xFF", 2, 2), (10, b"\xE3\x81", 2, 3)],
+        ),
+        ("\n", &[]),
+        ("\u{FFFD}", &[(15, b"\xC3", 4, 1)]),
+    ],
+};
 
 /// 93 FA is U+65E5, and 96 7B is U+672C.
-const REPLACED_JAPANESE: &[Want<'static>] = &[
-    ("\u{65E5}\u{FFFD}\n", &[(2, b"\x81", 1, 2)]),
-    (
-        "\u{672C}\u{FFFD}z\u{FFFD}",
-        &[(6, b"\xFF", 2, 2), (8, b"\x82", 2, 4)],
-    ),
-];
+const REPLACED_SHIFT_JIS: Case = Case {
+    encoding: SHIFT_JIS,
+    bytes: b"\x93\xFA\x81\n\x96\x7B\xFFz\x82",
+    policy: MalformedPolicy::Replace,
+    lines: &[
+        ("\u{65E5}\u{FFFD}\n", &[(2, b"\x81", 1, 2)]),
+        (
+            "\u{672C}\u{FFFD}z\u{FFFD}",
+            &[(6, b"\xFF", 2, 2), (8, b"\x82", 2, 4)],
+        ),
+    ],
+};
 
 #[test]
 fn a_replaced_sequence_is_one_column(rt: HostRuntime) -> Result<(), Fail> {
-    let policy = MalformedPolicy::Replace;
-    check_lines(rt.alloc(), UTF_8, UTF_8_BYTES, policy, REPLACED)?;
-    let bytes = b"\x93\xFA\x81\n\x96\x7B\xFFz\x82";
-    check_lines(rt.alloc(), SHIFT_JIS, bytes, policy, REPLACED_JAPANESE)
+    check_lines(rt.alloc(), &REPLACED_UTF_8)?;
+    check_lines(rt.alloc(), &REPLACED_SHIFT_JIS)
 }
 
 /// The last line has no text.
-const IGNORED: &[Want<'static>] = &[
-    ("caf\n", &[(3, b"\xE9", 1, 4)]),
-    (
-        "\u{1F600}x\n",
-        &[(9, b"\xFF", 2, 2), (10, b"\xE3\x81", 2, 3)],
-    ),
-    ("\n", &[]),
-    ("", &[(15, b"\xC3", 4, 1)]),
-];
+const IGNORED_UTF_8: Case = Case {
+    encoding: UTF_8,
+    bytes: UTF_8_BYTES,
+    policy: MalformedPolicy::Ignore,
+    lines: &[
+        ("caf\n", &[(3, b"\xE9", 1, 4)]),
+        (
+            "\u{1F600}x\n",
+            &[(9, b"\xFF", 2, 2), (10, b"\xE3\x81", 2, 3)],
+        ),
+        ("\n", &[]),
+        ("", &[(15, b"\xC3", 4, 1)]),
+    ],
+};
 
 #[test]
 fn an_ignored_sequence_keeps_its_column(rt: HostRuntime) -> Result<(), Fail> {
-    check_lines(
-        rt.alloc(),
-        UTF_8,
-        UTF_8_BYTES,
-        MalformedPolicy::Ignore,
-        IGNORED,
-    )
+    check_lines(rt.alloc(), &IGNORED_UTF_8)
 }
 
-const ESCAPED: &[Want<'static>] = &[
-    ("caf\\xe9\n", &[(3, b"\xE9", 1, 4)]),
-    (
-        "\u{1F600}\\xff\\xe3\\x81x\n",
-        &[(9, b"\xFF", 2, 2), (10, b"\xE3\x81", 2, 3)],
-    ),
-    ("\n", &[]),
-    ("\\xc3", &[(15, b"\xC3", 4, 1)]),
-];
+const ESCAPED_UTF_8: Case = Case {
+    encoding: UTF_8,
+    bytes: UTF_8_BYTES,
+    policy: MalformedPolicy::Escape,
+    lines: &[
+        ("caf\\xe9\n", &[(3, b"\xE9", 1, 4)]),
+        (
+            "\u{1F600}\\xff\\xe3\\x81x\n",
+            &[(9, b"\xFF", 2, 2), (10, b"\xE3\x81", 2, 3)],
+        ),
+        ("\n", &[]),
+        ("\\xc3", &[(15, b"\xC3", 4, 1)]),
+    ],
+};
 
 /// The first byte is malformed, and the digits and the text after it are read anew.
-const ESCAPED_CHINESE: &[Want<'static>] = &[
-    ("a\\x8109z\n", &[(1, b"\x81", 1, 2)]),
-    ("\u{4E2D}", &[]),
-];
+const ESCAPED_GB18030: Case = Case {
+    encoding: GB18030,
+    bytes: b"a\x8109z\n\xD6\xD0",
+    policy: MalformedPolicy::Escape,
+    lines: &[("a\\x8109z\n", &[(1, b"\x81", 1, 2)]), ("\u{4E2D}", &[])],
+};
 
 #[test]
 fn an_escaped_sequence_shows_each_byte(rt: HostRuntime) -> Result<(), Fail> {
-    let policy = MalformedPolicy::Escape;
-    check_lines(rt.alloc(), UTF_8, UTF_8_BYTES, policy, ESCAPED)?;
-    let bytes = b"a\x8109z\n\xD6\xD0";
-    check_lines(rt.alloc(), GB18030, bytes, policy, ESCAPED_CHINESE)
+    check_lines(rt.alloc(), &ESCAPED_UTF_8)?;
+    check_lines(rt.alloc(), &ESCAPED_GB18030)
 }
 
 /// U+0A0A has two bytes 0A.
-const ESCAPED_UTF_16: &[Want<'static>] = &[
-    ("\u{A0A}\n", &[]),
-    ("b\\x00\\xd8\n", &[(6, b"\0\xD8", 2, 2)]),
-];
+const ESCAPED_UTF_16LE: Case = Case {
+    encoding: UTF_16LE,
+    bytes: b"\x0A\x0A\x0A\0b\0\0\xD8\x0A\0",
+    policy: MalformedPolicy::Escape,
+    lines: &[
+        ("\u{A0A}\n", &[]),
+        ("b\\x00\\xd8\n", &[(6, b"\0\xD8", 2, 2)]),
+    ],
+};
 
 /// Escape sequences are no columns.
-const REPLACED_AFTER_ESCAPES: &[Want<'static>] = &[
-    ("\u{8A9E}\n", &[]),
-    ("\u{8A9E}\u{FFFD}y", &[(14, b"x", 2, 2)]),
-];
+const REPLACED_ISO_2022_JP: Case = Case {
+    encoding: ISO_2022_JP,
+    bytes: b"\x1B$B8l\x1B(B\n\x1B$B8lx\x1B(By",
+    policy: MalformedPolicy::Replace,
+    lines: &[
+        ("\u{8A9E}\n", &[]),
+        ("\u{8A9E}\u{FFFD}y", &[(14, b"x", 2, 2)]),
+    ],
+};
 
 #[test]
 fn line_feeds_of_other_shapes_end_lines(rt: HostRuntime) -> Result<(), Fail> {
-    let bytes = b"\x0A\x0A\x0A\0b\0\0\xD8\x0A\0";
-    let policy = MalformedPolicy::Escape;
-    check_lines(rt.alloc(), UTF_16LE, bytes, policy, ESCAPED_UTF_16)?;
-    let bytes = b"\x1B$B8l\x1B(B\n\x1B$B8lx\x1B(By";
-    let policy = MalformedPolicy::Replace;
-    check_lines(
-        rt.alloc(),
-        ISO_2022_JP,
-        bytes,
-        policy,
-        REPLACED_AFTER_ESCAPES,
-    )
+    check_lines(rt.alloc(), &ESCAPED_UTF_16LE)?;
+    check_lines(rt.alloc(), &REPLACED_ISO_2022_JP)
 }
 
 /// Reads a line up to a malformed sequence that is reported.

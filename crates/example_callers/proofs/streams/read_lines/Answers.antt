@@ -8,11 +8,16 @@ use Rattle.example_callers.proofs.streams.read_lines.Goals as goal
 pub loop-init : goal.loop-init
 loop-init c =
     let reader = c.new-reader.ensures in
+    let start = HasLines-start c.args.encoding c.args.bytes.now c.args.policy
+    (line_state_of c.new-lines.result) c.new-line.result
+    (rw c.new-lines.ensures.reader reader.given) c.new-lines.ensures.none_held
+    (rw c.new-lines.ensures.reader reader.items) c.new-lines.ensures.position in
+    let same : c.new-lines.result.reader.reader.now.inner.now ≡ c.args.bytes.now =
+    search rules in
     record {
-      so_far = HasLines-start c.args.encoding c.args.bytes.now c.args.policy
-          (line_state_of c.new-lines.result) c.new-line.result
-          (rw c.new-lines.ensures.reader reader.given) c.new-lines.ensures.none_held
-          (rw c.new-lines.ensures.reader reader.items) c.new-lines.ensures.position;
+      so_far = subst (λ left. HasLines c.args.encoding c.args.bytes.now left c.args.policy
+          (line_state_of c.new-lines.result) c.new-line.result c.new-line.result)
+          (sym same) start;
       no_text = c.new-line.ensures.text;
       none_malformed = c.new-line.ensures.malformed;
       policy = c.new-lines.ensures.policy;
