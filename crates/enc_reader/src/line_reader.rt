@@ -15,7 +15,7 @@ use crate::position::Position;
 use crate::source::Source;
 use std::alloc::AllocError;
 
-/// What a part of a line is.
+/// A part of a line that is taken.
 #[derive(Clone, Copy, PartialEq, Eq, Debug)]
 enum Taken {
     /// Text up to and with a line feed.
@@ -28,7 +28,7 @@ enum Taken {
 
 /// The text of a [`DecodeReader`] line by line, with the malformed sequences in each line.
 ///
-/// A [`MalformedPolicy`] says what stands for a malformed sequence. Each is told with its offset in
+/// A [`MalformedPolicy`] says what stands for a malformed sequence. Each comes with its offset in
 /// the input, its bytes, its line and its column.
 ///
 /// It borrows a buffer for text, and takes memory for lines alone. A
@@ -115,7 +115,7 @@ impl<'a, R: Source> LineReader<'a, R> {
         self.position
     }
 
-    /// Returns what stands for malformed sequences.
+    /// Returns the policy for malformed sequences.
     pub fn policy(&self) -> MalformedPolicy
         ensures { result ≡ self.now.policy }
     {

@@ -10,8 +10,8 @@ ghost use Rattle.enc_reader.specs.Policies.{text_of_malformed};
 /// The greatest length of an escaped malformed sequence in bytes.
 pub(crate) const MOST_ESCAPED: usize = 16;
 
-/// What a [`LineReader`](crate::LineReader) does at a malformed sequence, as the error handlers of
-/// Python's `decode` do. It tells its place in each case.
+/// The way in which a [`LineReader`](crate::LineReader) treats a malformed sequence, as the error
+/// handlers of Python's `decode` do. Its place is known in each case.
 #[derive(Clone, Copy, PartialEq, Eq, Debug)]
 pub enum MalformedPolicy {
     /// U+FFFD stands for it, as with `replace`.

@@ -1,4 +1,4 @@
-//! What is written for an unmappable character.
+//! The text for an unmappable character.
 
 ghost use Rattle.std.specs.Prelude.{◌≡◌, ◌+◌, ◌<◌, ◌≤◌, ◌++◌, length, take, drop, true};
 ghost use Rattle.std.specs.Fmt.{digit_glyph};
@@ -9,7 +9,7 @@ use enc_encoder::put_reference;
 /// The length in bytes of the longest hexadecimal reference: that of U+10FFFF, `&#x10FFFF;`.
 const LONGEST_HEX_REFERENCE: usize = 10;
 
-/// What is written for an unmappable character, as the error handlers of Python's `encode` do.
+/// The text for an unmappable character, as the error handlers of Python's `encode` do.
 ///
 /// All of it is ASCII: its bytes are the same in each encoding that has unmappable characters, and
 /// in both character sets of ISO-2022-JP in which one is reported.
